@@ -1,0 +1,10 @@
+-- definitions
+pub mod Frame
+pub mod Pointers
+pub mod Tags
+-- laws
+pub mod FrameLaws
+pub mod PointerLaws
+pub mod TagLaws
+-- worked examples
+pub mod Examples
