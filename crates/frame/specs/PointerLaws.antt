@@ -74,15 +74,31 @@ good-large s p f g =
     let e : ltb s (p .tag) && leb (p .tag) 31 ≡ true = rw f at g in
     (ltb-true _ _ (and-left _ (leb (p .tag) 31) e), leb-true _ _ (and-right (ltb s (p .tag)) _ e))
 
+pub reach-small : (s : ℕ) (p : Pointer) → p .flag ≡ true → reach s p ≡ s
+unfolding reach
+reach-small s p f = rw f
+
+pub reach-large : (s : ℕ) (p : Pointer) → p .flag ≡ false → reach s p ≡ p .tag
+unfolding reach
+reach-large s p f = rw f
+
+pub reach-bad : (s : ℕ) (p : Pointer) → reachOf s p ≡ BadTag → goodTag s p ≡ false
+unfolding reachOf
+reach-bad s p h = go (goodTag s p) refl h
+  where
+    go : (b : Bool) → goodTag s p ≡ b → cond b (Within (reach s p)) BadTag ≡ BadTag → goodTag s p ≡ false
+    go true g e = let z : _≡_ {A = ℕ} 0 1 = cc in absurd (omega arith)
+    go false g e = g
+
 -- the slot or frame that a pointer may move in
 pub record Reaches (s : ℕ) (p : Pointer) (n : ℕ) : Type 0 where
   pub good : goodTag s p ≡ true
   pub exponent : n ≡ reach s p
   pub small : s ≤ 31 → n ≤ 31
 
-reach-small : (s : ℕ) (p : Pointer) → goodTag s p ≡ true → s ≤ 31 → reach s p ≤ 31
+pub reach-bound : (s : ℕ) (p : Pointer) → goodTag s p ≡ true → s ≤ 31 → reach s p ≤ 31
 unfolding reach
-reach-small s p g l = go (p .flag) refl
+reach-bound s p g l = go (p .flag) refl
   where
     go : (b : Bool) → p .flag ≡ b → cond b s (p .tag) ≤ 31
     go true f = l
@@ -93,7 +109,7 @@ unfolding reachOf
 reach-within s p n h = go (goodTag s p) refl h
   where
     go : (b : Bool) → goodTag s p ≡ b → cond b (Within (reach s p)) BadTag ≡ Within n → Reaches s p n
-    go true g e = let q : n ≡ reach s p = cc in record { good = g; exponent = q; small = λ l. rw q (reach-small s p g l) }
+    go true g e = let q : n ≡ reach s p = cc in record { good = g; exponent = q; small = λ l. rw q (reach-bound s p g l) }
     go false g e = let z : _≡_ {A = ℕ} 0 1 = cc in absurd (omega arith)
 
 -- A move that is accepted keeps flag and tag number, and stays in its frame.

@@ -13,8 +13,9 @@ use Rattle.frame.specs.Frame.{frameNumber, frameStart, sameFrame}
 use Rattle.frame.specs.FrameLaws.{number-iff, number-least, between, frames-apart}
 use Rattle.frame.specs.Pointers.{InRange, goodTag, reach}
 use Rattle.frame.specs.PointerLaws.{good-large}
-use Rattle.frame.specs.Tags.{firstHeld, lastHeld, wrapper, isSmall, tagNumber, pointerTo, tagMatches, usedEntries, entryAt, entryOf}
+use Rattle.frame.specs.Tags.{firstHeld, lastHeld, wrapper, isSmall, tagNumber, pointerTo, tagMatches, usedEntries, entryAt, entryOf, tagged}
 use Rattle.frame.specs.declared.parts.Pointer.{Pointer}
+use Rattle.frame.specs.declared.tag.Tagged.the-variants.{Small, Large}
 
 -- The wrapper frame.
 
@@ -98,9 +99,9 @@ entries-apart s h₁ size₁ h₂ size₂ behind u k₁ k₂ e =
     wrappers-apart h₁ size₁ h₂ size₂ behind (r .1) (eq-of-mul-eq-mul-right (2 ^ N) (pow-pos N) (h₁ / 2 ^ N) (h₂ / 2 ^ N) starts)
 
 -- the entry of a frame that starts in the image is a used one
-pub entry-used : (s n L a : ℕ) → s < n → n ≤ 31 → frameStart n a < L → entryAt s n a < usedEntries s L
+pub entry-used : (s n L a : ℕ) → n ≤ 31 → frameStart n a < L → entryAt s n a < usedEntries s L
 unfolding entryAt usedEntries
-entry-used s n L a l u k =
+entry-used s n L a u k =
     let q = shr-mono {a = frameStart n a} {b = L - 1} (s + 1) (omega arith) in
     omega arith
 
@@ -215,3 +216,33 @@ pointer-matches s h size = go (isSmall s h size)
     go : (b : Bool) → cond b b (not b) && eqb (tagNumber s h size) (tagNumber s h size) ≡ true
     go true = eq-eqb (tagNumber s h size) (tagNumber s h size) refl
     go false = eq-eqb (tagNumber s h size) (tagNumber s h size) refl
+
+-- and with its entry
+
+pub tagged-small : (s h size : ℕ) → wrapper h size ≤ s → tagged s h size ≡ Small (pointerTo s h size)
+unfolding tagged
+tagged-small s h size l = rw (le-leb (wrapper h size) s l)
+
+pub tagged-large : (s h size : ℕ) → s < wrapper h size → tagged s h size ≡ Large (pointerTo s h size) (entryOf s h size)
+unfolding tagged
+tagged-large s h size l = rw (lt-leb (wrapper h size) s l)
+
+-- and what a tag says
+
+pub tagged-is-small : (s h size : ℕ) (p : Pointer) → tagged s h size ≡ Small p → (wrapper h size ≤ s) × (p ≡ pointerTo s h size)
+tagged-is-small s h size p e =
+    by-frame s h size
+    (λ l. let x : tagged s h size ≡ Small (pointerTo s h size) = tagged-small s h size l in (l, (cc)))
+    (λ l.
+    let x : tagged s h size ≡ Large (pointerTo s h size) (entryOf s h size) = tagged-large s h size l in
+    let z : _≡_ {A = ℕ} 0 1 = cc in
+    absurd (omega arith))
+
+pub tagged-is-large : (s h size : ℕ) (p : Pointer) (i : ℕ) → tagged s h size ≡ Large p i → (s < wrapper h size) × (p ≡ pointerTo s h size) × (i ≡ entryOf s h size)
+tagged-is-large s h size p i e =
+    by-frame s h size
+    (λ l.
+    let x : tagged s h size ≡ Small (pointerTo s h size) = tagged-small s h size l in
+    let z : _≡_ {A = ℕ} 0 1 = cc in
+    absurd (omega arith))
+    (λ l. let x : tagged s h size ≡ Large (pointerTo s h size) (entryOf s h size) = tagged-large s h size l in (l, (cc), (cc)))

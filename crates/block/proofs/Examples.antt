@@ -1,0 +1,38 @@
+-- Worked examples on an image of 1,024 bytes, computed. Assumes nothing.
+use mathlib.Core.Path.{_≡_, refl}
+use mathlib.Core.List.{List, _++_}
+use Prim.Native.Nat.{ℕ}
+use lib.ListN.{replicate}
+use Rattle.block.specs.Bytes.{encode, decode, field, put}
+use Rattle.block.specs.Layout.{superblock, superblockGood, opened, header, freeHeader, liveHeader, headerAt, wellFormed, sound}
+use Rattle.block.specs.Walk.{walkIn, walkFrom, walk, fitOf, firstFit, metOf, walkTo, countOf, countBlocks}
+use Rattle.block.specs.declared.superblock.Opened.the-variants as opening
+use Rattle.block.specs.declared.walk.Fit.the-variants as fit
+use Rattle.block.specs.declared.walk.Met.the-variants as met
+use Rattle.block.specs.declared.walk.Counted.the-variants as counted
+
+-- live blocks at 16 and 42 of sizes 10 and 20, and a free one from 78 to the end
+image : List ℕ
+image =
+    superblock 6 1024
+    ++ (liveHeader 26 1 10 ++ (replicate 10 7 ++ (liveHeader 36 2 20 ++ (replicate 20 8 ++ (freeHeader 946 ++ replicate 930 0)))))
+
+-- the same with an extent at 42 that is too short
+damaged : List ℕ
+damaged = put image 42 (encode 4 15)
+
+opens : opened image ≡ opening.Exponent 6
+unfolding image superblock header encode decode field superblockGood opened
+opens = refl
+
+fits : (firstFit image 946 ≡ fit.At 78) × (firstFit image 947 ≡ fit.End) × (firstFit damaged 16 ≡ fit.Unsound 42)
+unfolding image damaged superblock header encode decode field put headerAt wellFormed sound walkIn walkFrom walk fitOf firstFit
+fits = (refl, refl, refl)
+
+meets : (walkTo image 16 ≡ met.After 0) × (walkTo image 78 ≡ met.After 42) × (walkTo image 58 ≡ met.Lost) × (walkTo damaged 78 ≡ met.Lost)
+unfolding image damaged superblock header encode decode field put headerAt wellFormed sound walkIn walkFrom walk metOf walkTo
+meets = (refl, refl, refl, refl)
+
+counts : (countBlocks image ≡ counted.Counts 2 30) × (countBlocks damaged ≡ counted.Unsound)
+unfolding image damaged superblock header encode decode field put headerAt wellFormed sound walkIn walkFrom walk countOf countBlocks
+counts = (refl, refl)

@@ -1,0 +1,249 @@
+-- Laws of fields and of replaced bytes. Assumes nothing.
+use mathlib.Core.Path.{_≡_, refl, sym, ap, _∙_}
+use mathlib.Core.List.{List, [], _∷_, _++_, append-assoc}
+use mathlib.Core.Logic.{_⊎_, ⊎-elim}
+use Prim.Native.Nat.{ℕ, zero, suc, _+_, _-_, _*_, _/_, _^_, _≤_, _<_}
+use native.Mathlib.Nat.{pow-suc, add-suc, add-zero}
+use native.Mathlib.Numerals.{add-one}
+use native.Mathlib.Omega.{arith}
+use lib.ListN.{length, getD, set, take, drop, length-append, length-take, length-drop, length-set, take-append-drop, List·getD-append}
+use lib.Seq.{sets, sets-eq, take-at, drop-at, drop-drop, drop-append-add, take-take, take-nil, length-take-le, getD-append-add, getD-take, getD-drop, take-suc-set, take-set-lt, set-append-left}
+use lib.Dec.{ltb}
+use borrow.Author.Tests.{ltb-true, ltb-false}
+use Rattle.block.specs.Tests.{byBool}
+use Rattle.block.specs.Bytes.{encode, decode, field, put, Bytes}
+
+-- encoding
+
+-- as many bytes as the width says
+pub length-encode : (w v : ℕ) → length (encode w v) ≡ w
+unfolding encode
+length-encode zero v = refl
+length-encode (suc w) v = ap suc (length-encode w (v / 256))
+
+-- a number that fits is read back
+pub decode-encode : (w v : ℕ) → v < 256 ^ w → decode (encode w v) ≡ v
+unfolding encode decode
+decode-encode zero v h = omega arith
+decode-encode (suc w) v h =
+    let p : v / 256 < 256 ^ w = omega (arith, rw pow-suc at h) in
+    rw (decode-encode w (v / 256) p) (omega arith)
+
+-- bytes of that many are below that power of 256
+pub decode-bound : (bs : List ℕ) → Bytes bs → decode bs < 256 ^ length bs
+unfolding decode
+decode-bound [] h = omega arith
+decode-bound (b ∷ bs) h = omega (arith, pow-suc 256 (length bs), decode-bound bs (λ k. h (suc k)), h 0)
+
+-- fields
+
+-- a field of no bytes
+pub field-zero : (image : List ℕ) (at : ℕ) → field image at 0 ≡ 0
+unfolding field decode
+field-zero image at = refl
+
+-- a field is its first byte and the field behind that
+pub field-step : (image : List ℕ) (at w : ℕ) → field image at (suc w) ≡ getD image at 0 + 256 * field image (suc at) w
+unfolding field decode
+field-step [] zero w = rw (take-nil w)
+field-step [] (suc at) w = rw (take-nil w)
+field-step (b ∷ bs) zero w = refl
+field-step (b ∷ bs) (suc at) w = field-step bs at w
+
+-- the same with the code's sums
+pub field-first : (image : List ℕ) (at w : ℕ) → field image at (suc w) ≡ getD image at 0 + 256 * field image (at + 1) w
+field-first image at w = rw (add-one at) (field-step image at w)
+
+-- the same, `i` bytes further on
+pub field-next : (image : List ℕ) (at i w : ℕ) → field image (at + i) (suc w) ≡ getD image (at + i) 0 + 256 * field image (at + suc i) w
+field-next image at i w = rw (add-suc at i) (field-step image (at + i) w)
+
+-- a field of bytes is below that power of 256
+pub field-bound : (image : List ℕ) → Bytes image → (w at : ℕ) → field image at w < 256 ^ w
+field-bound image h zero at = rw (field-zero image at) (omega arith)
+field-bound image h (suc w) at = omega (arith, pow-suc 256 w, field-step image at w, field-bound image h w (suc at), h at)
+
+-- equal bytes give equal fields
+pub field-ext : (a b : List ℕ) (w at : ℕ) → ((k : ℕ) → at ≤ k → k < at + w → getD a k 0 ≡ getD b k 0) → field a at w ≡ field b at w
+field-ext a b zero at h = field-zero a at ∙ sym (field-zero b at)
+field-ext a b (suc w) at h =
+    omega (arith, field-step a at w, field-step b at w, h at (omega arith) (omega arith), field-ext a b w (suc at) (λ k l m. h k (omega arith) (omega arith)))
+
+-- a field of what stands from h on
+pub field-drop : (image : List ℕ) (h i w : ℕ) → field image (h + i) w ≡ field (drop h image) i w
+unfolding field
+field-drop image h i w = rw (drop-drop i h image)
+
+-- a field that is the first of a list of bytes
+pub field-front : (bs q : List ℕ) (w : ℕ) → length bs ≡ w → field (bs ++ q) 0 w ≡ decode bs
+unfolding field
+field-front bs q w e = ap decode (take-at bs q w e)
+
+-- replaced bytes
+
+module _ (image : List ℕ) (at : ℕ) (bs : List ℕ) (fits : at + length bs ≤ length image) where
+  -- the length stays
+  pub length-put : length (put image at bs) ≡ length image
+  unfolding put
+  length-put = simp (length-append, length-take, length-drop) (omega arith)
+
+  -- a run is its bytes stored one by one
+  pub put-sets : put image at bs ≡ sets image at bs
+  unfolding put
+  put-sets = sym (append-assoc (take at image) bs (drop (at + length bs) image)) ∙ sym (sets-eq bs image at fits)
+
+  -- from the run on: the run, and what stood behind it
+  pub drop-put : drop at (put image at bs) ≡ bs ++ drop (at + length bs) image
+  unfolding put
+  drop-put = drop-at (take at image) _ at (length-take-le at image (omega arith))
+
+  -- before the run: what stood there
+  pub take-put : take at (put image at bs) ≡ take at image
+  unfolding put
+  take-put = take-at (take at image) _ at (length-take-le at image (omega arith))
+
+  -- a byte below the run
+  pub getD-put-below : (k : ℕ) → k < at → getD (put image at bs) k 0 ≡ getD image k 0
+  getD-put-below k l = sym (getD-take at (put image at bs) k 0 l) ∙ rw take-put (getD-take at image k 0 l)
+
+  -- an element at or above the replaced bytes' first
+  getD-put-from : (i : ℕ) → getD (put image at bs) (at + i) 0 ≡ getD (bs ++ drop (at + length bs) image) i 0
+  getD-put-from i = sym (getD-drop at (put image at bs) i 0) ∙ rw drop-put refl
+
+  -- a byte of the run
+  pub getD-put-in : (i : ℕ) → i < length bs → getD (put image at bs) (at + i) 0 ≡ getD bs i 0
+  getD-put-in i l = getD-put-from i ∙ List·getD-append bs (drop (at + length bs) image) 0 i l
+
+  -- a byte above the run
+  pub getD-put-above : (k : ℕ) → at + length bs ≤ k → getD (put image at bs) k 0 ≡ getD image k 0
+  getD-put-above k l =
+      let j : ℕ = k - (at + length bs) in
+      let e : k ≡ at + (length bs + j) = omega arith in
+      let f : k ≡ at + length bs + j = omega arith in
+      ap (λ (n : ℕ). getD (put image at bs) n 0) e
+      ∙ getD-put-from (length bs + j)
+      ∙ getD-append-add bs (drop (at + length bs) image) j 0
+      ∙ getD-drop (at + length bs) image j 0
+      ∙ ap (λ (n : ℕ). getD image n 0) (sym f)
+
+  -- the bytes up to a place below the run
+  pub take-put-below : (k : ℕ) → k ≤ at → take k (put image at bs) ≡ take k image
+  take-put-below k l = sym (take-take k at (put image at bs) l) ∙ ap (take k) take-put ∙ take-take k at image l
+
+  -- the bytes from a place above the run on
+  pub drop-put-above : (k : ℕ) → at + length bs ≤ k → drop k (put image at bs) ≡ drop k image
+  drop-put-above k l =
+      let j : ℕ = k - (at + length bs) in
+      let e : k ≡ at + (length bs + j) = omega arith in
+      let f : at + length bs + j ≡ k = omega arith in
+      ap (λ (n : ℕ). drop n (put image at bs)) e
+      ∙ sym (drop-drop (length bs + j) at (put image at bs))
+      ∙ ap (drop (length bs + j)) drop-put
+      ∙ drop-append-add bs (drop (at + length bs) image) j
+      ∙ drop-drop j (at + length bs) image
+      ∙ ap (λ (n : ℕ). drop n image) f
+
+  -- bytes stay bytes
+  pub Bytes-put : Bytes image → Bytes bs → Bytes (put image at bs)
+  Bytes-put a b k =
+      byBool (ltb k at)
+      (λ e. let l : k < at = ltb-true _ _ e in rw (getD-put-below k l) (a k))
+      (λ e. let l : at ≤ k = ltb-false _ _ e in
+      let f : k ≡ at + (k - at) = omega arith in
+      byBool (ltb k (at + length bs))
+      (λ t. let m : k < at + length bs = ltb-true _ _ t in
+      omega (arith, ap (λ (n : ℕ). getD (put image at bs) n 0) f, getD-put-in (k - at) (omega arith), b (k - at)))
+      (λ t. rw (getD-put-above k (ltb-false _ _ t)) (a k)))
+
+  -- a field elsewhere is as it was
+  pub field-put-other : (at′ w : ℕ) → (at′ + w ≤ at) ⊎ (at + length bs ≤ at′) → field (put image at bs) at′ w ≡ field image at′ w
+  field-put-other at′ w d =
+      ⊎-elim
+      (λ (l : at′ + w ≤ at). field-ext (put image at bs) image w at′ (λ k p q. getD-put-below k (omega arith)))
+      (λ (l : at + length bs ≤ at′). field-ext (put image at bs) image w at′ (λ k p q. getD-put-above k (omega arith)))
+      d
+
+-- a number that fits is read back
+pub field-put : (image : List ℕ) (at w v : ℕ) → at + w ≤ length image → v < 256 ^ w → field (put image at (encode w v)) at w ≡ v
+field-put image at w v l h =
+    let n : length (encode w v) ≡ w = length-encode w v in
+    ap (λ (k : ℕ). field (put image at (encode w v)) k w) (sym (add-zero at))
+    ∙ field-drop (put image at (encode w v)) at 0 w
+    ∙ ap (λ (q : List ℕ). field q 0 w) (drop-put image at (encode w v) (omega arith))
+    ∙ field-front (encode w v) _ w n
+    ∙ decode-encode w v h
+
+-- two runs, one behind the other, are one
+pub put-append : (image : List ℕ) (at : ℕ) (a b : List ℕ) (n : ℕ) → at + length a ≡ n → n + length b ≤ length image → put (put image at a) n b ≡ put image at (a ++ b)
+unfolding put
+put-append image at a b n e fits =
+    let p : List ℕ = take at image in
+    let r : List ℕ = drop (at + length a) image in
+    let long : length (p ++ a) ≡ n = simp (length-append, length-take) (omega arith) in
+    let front : take n (p ++ (a ++ r)) ≡ p ++ a = rw (← append-assoc p a r) (take-at (p ++ a) r n long) in
+    let back : drop n (p ++ (a ++ r)) ≡ r = rw (← append-assoc p a r) (drop-at (p ++ a) r n long) in
+    let sum : at + length a + length b ≡ at + length (a ++ b) = simp length-append (omega arith) in
+    let ends : drop (n + length b) (p ++ (a ++ r)) ≡ drop (at + length (a ++ b)) image =
+    sym (drop-drop (length b) n (p ++ (a ++ r))) ∙ ap (drop (length b)) back ∙ drop-drop (length b) (at + length a) image
+    ∙ ap (λ (k : ℕ). drop k image) sum
+    in
+    rw (front, ends) (simp append-assoc)
+
+-- the same bytes, where the image is in parts
+pub put-at : (p old q b : List ℕ) (at : ℕ) → length p ≡ at → length old ≡ length b → put (p ++ (old ++ q)) at b ≡ p ++ (b ++ q)
+unfolding put
+put-at p old q b at e f =
+    let front : take at (p ++ (old ++ q)) ≡ p = take-at p (old ++ q) at e in
+    let back : drop (at + length b) (p ++ (old ++ q)) ≡ q =
+    sym (drop-drop (length b) at (p ++ (old ++ q))) ∙ ap (drop (length b)) (drop-at p (old ++ q) at e) ∙ drop-at old q (length b) f
+    in
+    rw (front, back) refl
+
+-- one byte more in front of the run: stored first, stored last
+pub put-cons : (image : List ℕ) (at b : ℕ) (bs : List ℕ) → at + suc (length bs) ≤ length image → put (set image at b) (suc at) bs ≡ put image at (b ∷ bs)
+put-cons image at b bs fits = put-sets (set image at b) (suc at) bs (simp length-set (omega arith)) ∙ sym (put-sets image at (b ∷ bs) fits)
+
+pub set-put-front : (image : List ℕ) (at b : ℕ) (bs : List ℕ) → at + suc (length bs) ≤ length image → set (put image (suc at) bs) at b ≡ put image at (b ∷ bs)
+unfolding put
+set-put-front image at b bs fits =
+    let r : List ℕ = bs ++ drop (suc at + length bs) image in
+    let k : suc at + length bs ≡ at + suc (length bs) = omega arith in
+    set-append-left (take (suc at) image) r at b (simp length-take (omega arith))
+    ∙ ap (λ (x : List ℕ). x ++ r) (sym (take-set-lt (suc at) image at b (omega arith)) ∙ take-suc-set image at b (omega arith))
+    ∙ append-assoc (take at image) (b ∷ []) r
+    ∙ rw k refl
+
+-- one byte more at the run's end
+pub set-put-end : (image : List ℕ) (at b n : ℕ) (bs : List ℕ) → at + length bs ≡ n → n < length image → set (put image at bs) n b ≡ put image at (bs ++ (b ∷ []))
+set-put-end image at b n bs e fits =
+    let long : length (put image at bs) ≡ length image = length-put image at bs (omega arith) in
+    sym (put-sets (put image at bs) n (b ∷ []) (omega arith)) ∙ put-append image at bs (b ∷ []) n e (omega arith)
+
+-- nothing replaced
+pub put-nil : (image : List ℕ) (at : ℕ) → put image at [] ≡ image
+unfolding put
+put-nil image at = rw (add-zero at) (take-append-drop at image)
+
+-- encoded numbers are bytes
+pub Bytes-encode : (w v : ℕ) → Bytes (encode w v)
+unfolding encode
+Bytes-encode zero v k = omega arith
+Bytes-encode (suc w) v zero = omega arith
+Bytes-encode (suc w) v (suc k) = Bytes-encode w (v / 256) k
+
+-- an image with a run in it, in parts
+put-parts : (image : List ℕ) (at : ℕ) (bs : List ℕ) → at + length bs ≤ length image → put image at bs ≡ take at image ++ (bs ++ drop (at + length bs) image)
+put-parts image at bs fits = sym (take-append-drop at (put image at bs)) ∙ rw (take-put image at bs fits, drop-put image at bs fits) refl
+
+-- a run put over the front of a longer one
+pub put-over : (image : List ℕ) (at : ℕ) (a b r : List ℕ) → length a ≡ length b → at + length (a ++ r) ≤ length image → put (put image at (a ++ r)) at b ≡ put image at (b ++ r)
+put-over image at a b r e fits =
+    let n : length (a ++ r) ≡ length (b ++ r) = simp (length-append, e) in
+    let l : at + length (b ++ r) ≤ length image = rw n at fits in
+    let q : List ℕ = drop (at + length (a ++ r)) image in
+    let p : length (take at image) ≡ at = simp length-take (omega arith) in
+    ap (λ (x : List ℕ). put x at b) (put-parts image at (a ++ r) fits ∙ ap (λ (x : List ℕ). take at image ++ x) (append-assoc a r q))
+    ∙ put-at (take at image) a (r ++ q) b at p e
+    ∙ ap (λ (x : List ℕ). take at image ++ x) (sym (append-assoc b r q))
+    ∙ ap (λ (k : ℕ). take at image ++ ((b ++ r) ++ drop (at + k) image)) n
+    ∙ sym (put-parts image at (b ++ r) l)

@@ -1,0 +1,126 @@
+// Block headers: reading, testing and writing them.
+use super::bytes::read2;
+use super::bytes::read4;
+use super::bytes::write2;
+use super::bytes::write4;
+ghost use mathlib.Core.Path.{_≡_};
+ghost use Prim.Native.Nat.{_+_, _≤_, _<_, _^_};
+ghost use lib.ListN.{length};
+ghost use Rattle.block.specs.Bytes.{put};
+ghost use Rattle.block.specs.Layout.{header, freeHeader, liveHeader, headerAt, wellFormed, examined};
+
+// A block header's fields. `last` is the four bytes that must be zero.
+pub struct Header {
+    pub extent: u64,
+    pub kind: u64,
+    pub ty: u64,
+    pub size: u64,
+    pub last: u64,
+}
+
+// What stands at a place: a sound header, or none.
+pub enum Examined {
+    Sound(Header),
+    Unsound,
+}
+
+// The fields of the header at h.
+pub fn read_header(image: &[u8], h: usize) -> Header
+    requires { ⌜ h + 16 ≤ length (now image) ⌝ }
+    ensures { λ r. ⌜ r ≡ headerAt (now (image .entry)) h ⌝ }
+{
+    let extent = read4(image, h);
+    let kind = read2(image, h + 4);
+    let ty = read2(image, h + 6);
+    let size = read4(image, h + 8);
+    let last = read4(image, h + 12);
+    Header {
+        extent,
+        kind,
+        ty,
+        size,
+        last,
+    }
+}
+
+// Whether the header d, read at h in an image of len bytes, is as it must be.
+fn well_formed(len: u64, h: u64, d: Header) -> bool
+    requires { ⌜ (h ≤ len) × (d .size < 2 ^ 32) ⌝ }
+    ensures { λ r. ⌜ r ≡ wellFormed len h d ⌝ }
+{
+    if d.extent < 16 {
+        return false;
+    }
+    if len - h < d.extent {
+        return false;
+    }
+    if d.last != 0 {
+        return false;
+    }
+    if d.kind == 1 {
+        if d.ty != 0 {
+            return false;
+        }
+        return d.size == 0;
+    }
+    if d.kind != 2 {
+        return false;
+    }
+    if d.size == 0 {
+        return false;
+    }
+    if d.extent < 16 + d.size {
+        return false;
+    }
+    d.extent <= 31 + d.size
+}
+
+// The header at h where it is sound. h may be any number, so it is compared with the length less 16.
+pub fn examine(image: &[u8], h: u64) -> Examined
+    ensures { λ r. ⌜ r ≡ examined (now (image .entry)) h ⌝ }
+{
+    let len = image.len() as u64;
+    if h < 16 {
+        return Examined::Unsound;
+    }
+    if len < 16 {
+        return Examined::Unsound;
+    }
+    if len - 16 < h {
+        return Examined::Unsound;
+    }
+    let d = read_header(image, h as usize);
+    if well_formed(len, h, d) {
+        Examined::Sound(d)
+    } else {
+        Examined::Unsound
+    }
+}
+
+// Writes a header at h.
+fn write_header(image: &mut [u8], h: usize, extent: u64, kind: u64, ty: u64, size: u64)
+    requires { ⌜ h + 16 ≤ length (now image) ⌝ }
+    ensures { λ _. ⌜ now (image .exit) ≡ put (now (image .entry)) h (header extent kind ty size) ⌝ }
+{
+    write4(image, h, extent);
+    write2(image, h + 4, kind);
+    write2(image, h + 6, ty);
+    write4(image, h + 8, size);
+    write4(image, h + 12, 0);
+}
+
+// Writes the header of a free block at h.
+pub fn write_free(image: &mut [u8], h: usize, extent: u64)
+    requires { ⌜ h + 16 ≤ length (now image) ⌝ }
+    ensures { λ _. ⌜ now (image .exit) ≡ put (now (image .entry)) h (freeHeader extent) ⌝ }
+{
+    write_header(image, h, extent, 1, 0, 0);
+}
+
+// Writes the header of a live block at h.
+pub fn write_live(image: &mut [u8], h: usize, extent: u64, ty: u64, size: u64)
+    requires { ⌜ h + 16 ≤ length (now image) ⌝ }
+    ensures { λ _. ⌜ now (image .exit) ≡ put (now (image .entry)) h (liveHeader extent ty size) ⌝ }
+{
+    write_header(image, h, extent, 2, ty, size);
+}

@@ -1,0 +1,31 @@
+// The image of the object store, block by block: little-endian fields, the superblock, block headers, and the walks over the blocks.
+pub mod bytes;
+pub mod header;
+pub mod superblock;
+pub mod walk;
+
+pub use bytes::copy_within;
+pub use bytes::fill;
+pub use bytes::read1;
+pub use bytes::read2;
+pub use bytes::read4;
+pub use bytes::read8;
+pub use bytes::write1;
+pub use bytes::write2;
+pub use bytes::write4;
+pub use bytes::write8;
+pub use header::Examined;
+pub use header::Header;
+pub use header::examine;
+pub use header::read_header;
+pub use header::write_free;
+pub use header::write_live;
+pub use superblock::Opened;
+pub use superblock::open;
+pub use superblock::write_superblock;
+pub use walk::Counted;
+pub use walk::Fit;
+pub use walk::Met;
+pub use walk::count_blocks;
+pub use walk::first_fit;
+pub use walk::walk_to;

@@ -1,0 +1,26 @@
+-- `store::release::merge` meets its contract. Assumes nothing.
+use native.Mathlib.Omega.{arith}
+use Rattle.store.proofs.Merging.{merged-over}
+use borrow.Author.Needs.{needs}
+use Rattle.store.proofs.release.merge.Statement.{statement}
+use Rattle.store.proofs.release.merge.Tie as tie
+
+sub-extent : tie.Need-sub-extent
+sub-extent c = search needs
+
+fill-requires : tie.Need-fill-requires
+fill-requires c κs = search needs
+
+write-free-requires : tie.Need-write-free-requires
+write-free-requires c κs = search needs
+
+same-length : tie.Need-same-length
+same-length c = search needs
+
+returns : tie.Need-returns
+returns c =
+    let a = c .before .before .before .before .before .before .before .before .before .args in
+    cc (merged-over (a .image .now) (a .from) (a .to) (omega arith) (omega arith))
+
+pub merge-spec : {M : Type 1} → statement M
+merge-spec = tie.close (tie.spec sub-extent fill-requires write-free-requires same-length returns)

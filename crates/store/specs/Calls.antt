@@ -1,0 +1,227 @@
+-- What each call answers and leaves: document 01, "Calls" and "Why a call was declined". The order of the rows is the order of the tests.
+-- Assumes nothing.
+use Prim.Native.Nat.{ℕ, zero, suc, _+_, _-_, _*_, _/_, _%_, _^_}
+use mathlib.Core.Bool.{Bool, true, false, cond, _&&_, _||_}
+use mathlib.Core.List.{List, _++_}
+use lib.ListN.{length, take, drop, getD, set, replicate}
+use lib.Dec.{leb, ltb, eqb}
+use lib.IntN.{ℤ}
+use Rattle.frame.specs.Frame.{frameStart, sameFrame}
+use Rattle.frame.specs.Pointers.{unpack, pack, goodTag, reach, moved}
+use Rattle.frame.specs.Tags.{isSmall, pointerTo, tagMatches, usedEntries, entryAt, entryOf}
+use Rattle.frame.specs.declared.parts.Pointer.{Pointer}
+use Rattle.frame.specs.declared.parts.Moved.{Moved}
+use Rattle.frame.specs.declared.parts.Moved.the-variants.{To, Outside}
+use Rattle.block.specs.Bytes.{encode, field, put}
+use Rattle.block.specs.Layout.{superblock, superblockGood, slotExponent, goodExponent, goodLength, freeHeader, liveHeader, sound, isFree, isLive, extentAt, sizeAt}
+use Rattle.block.specs.Walk.{firstFit, walkTo, countBlocks}
+use Rattle.block.specs.declared.walk.Fit.{Fit}
+use Rattle.block.specs.declared.walk.Fit.the-variants as fit
+use Rattle.block.specs.declared.walk.Met.{Met}
+use Rattle.block.specs.declared.walk.Met.the-variants as met
+use Rattle.block.specs.declared.walk.Counted.{Counted}
+use Rattle.block.specs.declared.walk.Counted.the-variants as counted
+use Rattle.store.specs.State.{State, state, Outcome, outcome, demand, andThen, conclude}
+use Rattle.store.specs.declared.answer.Refusal.the-variants.{BadExponent, BadLength, TooFewEntries, BadSuperblock, ShortTable, Empty, Unsound, NoSpace, EntryTaken, BadTag, Dangling, Leaves, OutOfBounds, BadWidth, NotBase, TooLarge}
+use Rattle.store.specs.declared.answer.Answer.{Answer}
+use Rattle.store.specs.declared.answer.Answer.the-variants.{Accepted, Refused}
+use Rattle.store.specs.declared.release.Release.{Release}
+use Rattle.store.specs.declared.release.Release.the-variants as release
+use Rattle.store.specs.declared.counting.Usage.{Usage}
+use Rattle.store.specs.declared.counting.Usage.the-variants as usage
+
+-- Set-up: 1, 2, 3.
+
+unfoldable pub setUpAnswer : ℕ → State → Answer
+setUpAnswer s x =
+    demand (goodExponent s) BadExponent
+    (demand (goodLength (length (x .image))) BadLength
+    (demand (leb (usedEntries s (length (x .image))) (length (x .table))) TooFewEntries (Accepted 0)))
+
+-- a fresh image: the superblock, and one free block of zeros
+unfoldable pub fresh : ℕ → ℕ → List ℕ
+fresh s L = superblock s L ++ (freeHeader (L - 16) ++ replicate (L - 32) 0)
+
+unfoldable pub setUp : ℕ → State → Outcome
+setUp s x =
+    conclude x (setUpAnswer s x) λ v.
+    outcome (Accepted 0) (fresh s (length (x .image)))
+    (replicate (usedEntries s (length (x .image))) 0 ++ drop (usedEntries s (length (x .image))) (x .table))
+
+-- Every other call begins with 4, 5; the number is the slot exponent.
+unfoldable pub opening : State → Answer
+opening x =
+    demand (superblockGood (x .image)) BadSuperblock
+    (demand (leb (usedEntries (slotExponent (x .image)) (length (x .image))) (length (x .table))) ShortTable
+    (Accepted (slotExponent (x .image))))
+
+-- Allocate: 6, 7 or 8 as the walk ends, 9; the number is the place of the block that is taken.
+
+-- 9: a large-framed object's table entry is not zero
+unfoldable pub entryFree : ℕ → ℕ → ℕ → List ℕ → Bool
+entryFree s h size table = isSmall s h size || eqb (getD table (entryOf s h size) 0) 0
+
+unfoldable pub fitAnswer : Fit → (ℕ → Answer) → Answer
+fitAnswer (fit.At h) next = next h
+fitAnswer (fit.Unsound h) next = Refused Unsound
+fitAnswer fit.End next = Refused NoSpace
+
+unfoldable pub allocateAnswer : ℕ → State → Answer
+allocateAnswer size x =
+    andThen (opening x) λ s.
+    demand (ltb 0 size) Empty
+    (fitAnswer (firstFit (x .image) (16 + size)) λ h. demand (entryFree s h size (x .table)) EntryTaken (Accepted h))
+
+-- the image with a live block in the free one at h; a rest of 16 bytes or more becomes a free block
+unfoldable pub carved : List ℕ → ℕ → ℕ → ℕ → List ℕ
+carved image h size type =
+    let need : ℕ = 16 + size in
+    let extent : ℕ = extentAt image h in
+    cond (ltb (extent - need) 16) (put image h (liveHeader extent type size))
+    (put (put image h (liveHeader need type size)) (h + need) (freeHeader (extent - need)))
+
+-- the table with an entry for the object at h, where it is large-framed
+unfoldable pub noted : ℕ → ℕ → ℕ → ℕ → List ℕ → List ℕ
+noted s h size entry table = cond (isSmall s h size) table (set table (entryOf s h size) entry)
+
+unfoldable pub allocate : ℕ → ℕ → State → Outcome
+allocate size type x =
+    let s : ℕ = slotExponent (x .image) in
+    conclude x (allocateAnswer size x) λ h.
+    outcome (Accepted (pack (pointerTo s h size))) (carved (x .image) h size type) (noted s h size h (x .table))
+
+-- Reading a tag: 10, 11; the number is the header's place.
+
+-- the place that the tag leads to, before it is looked at
+unfoldable pub headerPlace : ℕ → Pointer → List ℕ → ℕ
+headerPlace s p table =
+    cond (p .flag) (frameStart s (p .address) + p .tag) (getD table (entryAt s (p .tag) (p .address)) 0)
+
+-- a sound and live header stands there, with that very flag and tag number, in the address's slot or frame; none does where an entry is zero
+unfoldable pub verified : ℕ → Pointer → List ℕ → ℕ → Bool
+verified s p image h =
+    sound image h && (isLive image h && (tagMatches s h (sizeAt image h) p && sameFrame (reach s p) h (p .address)))
+
+unfoldable pub leadsBack : ℕ → Pointer → State → Bool
+leadsBack s p x =
+    ltb (frameStart (reach s p) (p .address)) (length (x .image)) && verified s p (x .image) (headerPlace s p (x .table))
+
+unfoldable pub located : ℕ → Pointer → State → Answer
+located s p x =
+    demand (goodTag s p) BadTag (demand (leadsBack s p x) Dangling (Accepted (headerPlace s p (x .table))))
+
+-- 13: n bytes from the pointer's address on lie in the body of the object at h
+unfoldable pub inBody : List ℕ → ℕ → Pointer → ℕ → Bool
+inBody image h p n = leb (h + 16) (p .address) && leb (p .address + n) (h + 16 + sizeAt image h)
+
+-- n bytes through a pointer: 10, 11, 13; the number is the address
+unfoldable pub accessed : ℕ → Pointer → ℕ → State → Answer
+accessed s p n x = andThen (located s p x) λ h. demand (inBody (x .image) h p n) OutOfBounds (Accepted (p .address))
+
+-- Move: 10, 12.
+
+unfoldable pub movedAnswer : Moved → Answer
+movedAnswer (To q) = Accepted (pack q)
+movedAnswer Outside = Refused Leaves
+
+unfoldable pub moveAnswer : ℕ → ℤ → State → Answer
+moveAnswer word d x =
+    andThen (opening x) λ s.
+    demand (goodTag s (unpack word)) BadTag (movedAnswer (moved (unpack word) (reach s (unpack word)) d))
+
+unfoldable pub move : ℕ → ℤ → State → Outcome
+move word d x = record { answer = moveAnswer word d x; after = x }
+
+-- Load: 14, 10, 11, 13.
+
+abbrev pub goodWidth : ℕ → Bool
+goodWidth w = eqb w 1 || (eqb w 2 || (eqb w 4 || eqb w 8))
+
+unfoldable pub loadAnswer : ℕ → ℕ → State → Answer
+loadAnswer word width x =
+    andThen (opening x) λ s.
+    demand (goodWidth width) BadWidth
+    (andThen (accessed s (unpack word) width x) λ a. Accepted (field (x .image) a width))
+
+unfoldable pub load : ℕ → ℕ → State → Outcome
+load word width x = record { answer = loadAnswer word width x; after = x }
+
+-- Store: 14, 16, 10, 11, 13; the number is the address.
+
+unfoldable pub storeAnswer : ℕ → ℕ → ℕ → State → Answer
+storeAnswer word width v x =
+    andThen (opening x) λ s.
+    demand (goodWidth width) BadWidth (demand (ltb v (256 ^ width)) TooLarge (accessed s (unpack word) width x))
+
+unfoldable pub store : ℕ → ℕ → ℕ → State → Outcome
+store word width v x =
+    conclude x (storeAnswer word width v x) λ a. outcome (Accepted 0) (put (x .image) a (encode width v)) (x .table)
+
+-- Fill: 6, 10, 11, 13; the number is the address.
+
+unfoldable pub fillAnswer : ℕ → ℕ → State → Answer
+fillAnswer word n x = andThen (opening x) λ s. demand (ltb 0 n) Empty (accessed s (unpack word) n x)
+
+unfoldable pub fill : ℕ → ℕ → ℕ → State → Outcome
+fill word n byte x =
+    conclude x (fillAnswer word n x) λ a. outcome (Accepted 0) (put (x .image) a (replicate n byte)) (x .table)
+
+-- Copy: 6, the target's 10, 11, 13, the source's; the number is the source's address.
+
+unfoldable pub copyAnswer : ℕ → ℕ → ℕ → State → Answer
+copyAnswer target source n x =
+    andThen (opening x) λ s.
+    demand (ltb 0 n) Empty (andThen (accessed s (unpack target) n x) λ a. accessed s (unpack source) n x)
+
+unfoldable pub copy : ℕ → ℕ → ℕ → State → Outcome
+copy target source n x =
+    conclude x (copyAnswer target source n x) λ a.
+    outcome (Accepted 0) (put (x .image) (unpack target .address) (take n (drop a (x .image)))) (x .table)
+
+-- Free: 10, 11, 15, 7. What is merged: the object's header place, and from where to where the free block then reaches.
+
+-- the place before which the blocks to merge end; none where the next header is unsound
+unfoldable pub mergeEnd : List ℕ → ℕ → ℕ
+mergeEnd image next = cond (ltb next (length image) && isFree image next) (next + extentAt image next) next
+
+unfoldable pub mergeStart : List ℕ → ℕ → ℕ → ℕ
+mergeStart image before h = cond (ltb 0 before && isFree image before) before h
+
+unfoldable pub released : List ℕ → ℕ → Met → Release
+released image h (met.After before) =
+    let next : ℕ = h + extentAt image h in
+    cond (leb (length image) next || sound image next) (release.Merges h (mergeStart image before h) (mergeEnd image next)) (release.Refused Unsound)
+released image h met.Lost = release.Refused Unsound
+
+unfoldable pub releaseFound : Answer → Pointer → State → Release
+releaseFound (Refused r) p x = release.Refused r
+releaseFound (Accepted h) p x =
+    cond (eqb (p .address) (h + 16)) (released (x .image) h (walkTo (x .image) h)) (release.Refused NotBase)
+
+unfoldable pub freeRelease : ℕ → State → Release
+freeRelease word x = releaseFound (andThen (opening x) λ s. located s (unpack word) x) (unpack word) x
+
+-- the image with one free block from `from` to `to`, all else in it zero
+unfoldable pub merged : List ℕ → ℕ → ℕ → List ℕ
+merged image from to = put image from (freeHeader (to - from) ++ replicate (to - from - 16) 0)
+
+unfoldable pub freed : Release → State → Outcome
+freed (release.Refused r) x = record { answer = Refused r; after = x }
+freed (release.Merges h from to) x =
+    outcome (Accepted 0) (merged (x .image) from to) (noted (slotExponent (x .image)) h (sizeAt (x .image) h) 0 (x .table))
+
+unfoldable pub free : ℕ → State → Outcome
+free word x = freed (freeRelease word x) x
+
+-- Tally: 7; live objects, live bytes (the sum of their raw sizes) and free bytes (all others behind the superblock).
+
+unfoldable pub tallyCounted : Counted → ℕ → Usage
+tallyCounted (counted.Counts objects live) L = usage.Counts objects live (L - 16 - live)
+tallyCounted counted.Unsound L = usage.Refused Unsound
+
+unfoldable pub tallyOpened : Answer → State → Usage
+tallyOpened (Refused r) x = usage.Refused r
+tallyOpened (Accepted s) x = tallyCounted (countBlocks (x .image)) (length (x .image))
+
+unfoldable pub tally : State → Usage
+tally x = tallyOpened (opening x) x

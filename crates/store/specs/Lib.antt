@@ -1,0 +1,5 @@
+-- definitions
+pub mod State
+pub mod Calls
+-- laws
+pub mod CallLaws

@@ -1,0 +1,71 @@
+-- What a call is given and what it leaves: document 01, "Why a call was declined". Assumes nothing.
+use Prim.Native.Nat.{ℕ}
+use mathlib.Core.Path.{_≡_}
+use mathlib.Core.Bool.{Bool, cond}
+use mathlib.Core.List.{List}
+use Rattle.store.specs.declared.answer.Refusal.{Refusal}
+use Rattle.store.specs.declared.answer.Refusal.the-variants.{BadExponent, BadLength, TooFewEntries, BadSuperblock, ShortTable, Empty, Unsound, NoSpace, EntryTaken, BadTag, Dangling, Leaves, OutOfBounds, BadWidth, NotBase, TooLarge}
+use Rattle.store.specs.declared.answer.Answer.{Answer}
+use Rattle.store.specs.declared.answer.Answer.the-variants.{Accepted, Refused}
+
+-- document 01's number of a refusal
+abbrev pub refusalNumber : Refusal → ℕ
+refusalNumber BadExponent = 1
+refusalNumber BadLength = 2
+refusalNumber TooFewEntries = 3
+refusalNumber BadSuperblock = 4
+refusalNumber ShortTable = 5
+refusalNumber Empty = 6
+refusalNumber Unsound = 7
+refusalNumber NoSpace = 8
+refusalNumber EntryTaken = 9
+refusalNumber BadTag = 10
+refusalNumber Dangling = 11
+refusalNumber Leaves = 12
+refusalNumber OutOfBounds = 13
+refusalNumber BadWidth = 14
+refusalNumber NotBase = 15
+refusalNumber TooLarge = 16
+
+-- the number that a call returns: 0 where it is accepted
+abbrev pub returned : Answer → ℕ
+returned (Accepted v) = 0
+returned (Refused r) = refusalNumber r
+
+-- the value that it gives: 0 where it has none, or is refused
+abbrev pub value : Answer → ℕ
+value (Accepted v) = v
+value (Refused r) = 0
+
+-- An image with its frame table.
+pub record State : Type 0 where
+  pub image : List ℕ
+  pub table : List ℕ
+
+abbrev pub state : List ℕ → List ℕ → State
+state image table = record { image = image; table = table }
+
+-- What a call answers, and the image and table that it leaves.
+pub record Outcome : Type 0 where
+  pub answer : Answer
+  pub after : State
+
+abbrev pub outcome : Answer → List ℕ → List ℕ → Outcome
+outcome a image table = record { answer = a; after = state image table }
+
+abbrev pub IsAccepted : Outcome → Type 0
+IsAccepted r = returned (r .answer) ≡ 0
+
+-- refused with r where the test fails
+abbrev pub demand : Bool → Refusal → Answer → Answer
+demand ok r next = cond ok next (Refused r)
+
+-- the next test, on the number that this one found
+abbrev pub andThen : Answer → (ℕ → Answer) → Answer
+andThen (Accepted v) next = next v
+andThen (Refused r) next = Refused r
+
+-- a refusal leaves the state as it was; otherwise the call goes on with the number that its tests found
+abbrev pub conclude : State → Answer → (ℕ → Outcome) → Outcome
+conclude x (Accepted v) next = next v
+conclude x (Refused r) next = record { answer = Refused r; after = x }

@@ -1,0 +1,163 @@
+// Load, store and fill.
+ghost use mathlib.Core.Path.{_≡_};
+ghost use mathlib.Core.Bool.{true};
+ghost use Prim.Native.Nat.{_+_, _≤_, _^_};
+ghost use lib.Dec.{ltb};
+ghost use lib.ListN.{length};
+ghost use Rattle.block.specs.Bytes.{encode, field, put};
+ghost use Rattle.store.specs.State.{state, outcome};
+ghost use Rattle.store.specs.Calls.{goodWidth, loadAnswer, storeAnswer, fillAnswer, store, fill};
+use crate::answer::Answer;
+use crate::answer::Refusal;
+use crate::locate::access;
+use crate::locate::opening;
+use block::bytes::read1;
+use block::bytes::read2;
+use block::bytes::read4;
+use block::bytes::read8;
+use block::bytes::write1;
+use block::bytes::write2;
+use block::bytes::write4;
+use block::bytes::write8;
+
+fn good_width(width: u64) -> bool
+    ensures { λ r. ⌜ r ≡ goodWidth width ⌝ }
+{
+    if width == 1 {
+        return true;
+    }
+    if width == 2 {
+        return true;
+    }
+    if width == 4 {
+        return true;
+    }
+    width == 8
+}
+
+// Whether the value fits that many bytes.
+fn fits(width: u64, value: u64) -> bool
+    requires { ⌜ goodWidth width ≡ true ⌝ }
+    ensures { λ r. ⌜ r ≡ ltb value (256 ^ width) ⌝ }
+{
+    if width == 1 {
+        return value < 256;
+    }
+    if width == 2 {
+        return value < 65536;
+    }
+    if width == 4 {
+        return value < 4294967296;
+    }
+    true
+}
+
+// The number in `width` bytes.
+fn read_field(image: &[u8], at: usize, width: u64) -> u64
+    requires { ⌜ (goodWidth width ≡ true) × (at + width ≤ length (now image)) ⌝ }
+    ensures { λ r. ⌜ r ≡ field (now (image .entry)) at width ⌝ }
+{
+    if width == 1 {
+        return read1(image, at);
+    }
+    if width == 2 {
+        return read2(image, at);
+    }
+    if width == 4 {
+        return read4(image, at);
+    }
+    read8(image, at)
+}
+
+// Puts the value into `width` bytes.
+fn write_field(image: &mut [u8], at: usize, width: u64, value: u64)
+    requires { ⌜ (goodWidth width ≡ true) × (at + width ≤ length (now image)) ⌝ }
+    ensures { λ _. ⌜ now (image .exit) ≡ put (now (image .entry)) at (encode width value) ⌝ }
+{
+    if width == 1 {
+        write1(image, at, value);
+    } else if width == 2 {
+        write2(image, at, value);
+    } else if width == 4 {
+        write4(image, at, value);
+    } else {
+        write8(image, at, value);
+    }
+}
+
+// The number in `width` bytes through a pointer.
+pub fn load(image: &[u8], table: &[u64], pointer: u64, width: u64) -> Answer
+    ensures { λ r. ⌜ r ≡ loadAnswer pointer width (state (now (image .entry)) (now (table .entry))) ⌝ }
+{
+    match opening(image, table) {
+        Answer::Refused(r) => Answer::Refused(r),
+        Answer::Accepted(s) => {
+            if !good_width(width) {
+                return Answer::Refused(Refusal::BadWidth);
+            }
+            match access(image, table, s as u32, pointer, width) {
+                Answer::Refused(r) => Answer::Refused(r),
+                Answer::Accepted(at) => Answer::Accepted(read_field(image, at as usize, width)),
+            }
+        }
+    }
+}
+
+// The rows of store; the number is the address.
+fn storable(image: &[u8], table: &[u64], pointer: u64, width: u64, value: u64) -> Answer
+    ensures { λ r. ⌜ r ≡ storeAnswer pointer width value (state (now (image .entry)) (now (table .entry))) ⌝ }
+{
+    match opening(image, table) {
+        Answer::Refused(r) => Answer::Refused(r),
+        Answer::Accepted(s) => {
+            if !good_width(width) {
+                return Answer::Refused(Refusal::BadWidth);
+            }
+            if !fits(width, value) {
+                return Answer::Refused(Refusal::TooLarge);
+            }
+            access(image, table, s as u32, pointer, width)
+        }
+    }
+}
+
+// Puts the value into `width` bytes through a pointer.
+pub fn store(image: &mut [u8], table: &[u64], pointer: u64, width: u64, value: u64) -> Answer
+    ensures { λ r. ⌜ outcome r (now (image .exit)) (now (table .entry)) ≡ store pointer width value (state (now (image .entry)) (now (table .entry))) ⌝ }
+{
+    match storable(image, table, pointer, width, value) {
+        Answer::Refused(r) => Answer::Refused(r),
+        Answer::Accepted(at) => {
+            write_field(image, at as usize, width, value);
+            Answer::Accepted(0)
+        }
+    }
+}
+
+// The rows of fill; the number is the address.
+fn fillable(image: &[u8], table: &[u64], pointer: u64, length: u32) -> Answer
+    ensures { λ r. ⌜ r ≡ fillAnswer pointer length (state (now (image .entry)) (now (table .entry))) ⌝ }
+{
+    match opening(image, table) {
+        Answer::Refused(r) => Answer::Refused(r),
+        Answer::Accepted(s) => {
+            if length == 0 {
+                return Answer::Refused(Refusal::Empty);
+            }
+            access(image, table, s as u32, pointer, length as u64)
+        }
+    }
+}
+
+// Sets that many bytes through a pointer to one value.
+pub fn fill(image: &mut [u8], table: &[u64], pointer: u64, length: u32, value: u8) -> Answer
+    ensures { λ r. ⌜ outcome r (now (image .exit)) (now (table .entry)) ≡ fill pointer length value (state (now (image .entry)) (now (table .entry))) ⌝ }
+{
+    match fillable(image, table, pointer, length) {
+        Answer::Refused(r) => Answer::Refused(r),
+        Answer::Accepted(at) => {
+            block::bytes::fill(image, at as usize, length as usize, value);
+            Answer::Accepted(0)
+        }
+    }
+}

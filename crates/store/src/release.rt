@@ -1,0 +1,117 @@
+// Free: the block joins the free blocks directly before and after it.
+ghost use mathlib.Core.Path.{_≡_};
+ghost use mathlib.Core.Bool.{true};
+ghost use Prim.Native.Nat.{_+_, _≤_, _^_};
+ghost use lib.ListN.{length};
+ghost use Rattle.block.specs.Layout.{sound};
+ghost use Rattle.block.specs.Walk.{walkTo};
+ghost use Rattle.store.specs.State.{state, outcome};
+ghost use Rattle.store.specs.Calls.{mergeStart, released, freeRelease, merged, free};
+use crate::allocation::note;
+use crate::answer::Answer;
+use crate::answer::Refusal;
+use crate::locate::locate;
+use crate::locate::opening;
+use block::bytes::fill;
+use block::bytes::read2;
+use block::bytes::read4;
+use block::header::Examined;
+use block::header::examine;
+use block::header::write_free;
+use block::walk::Met;
+use block::walk::walk_to;
+use frame::Pointer;
+
+// What a free does: the object's header place, and from where to where the free block then reaches.
+pub enum Release {
+    Merges(u64, u64, u64),
+    Refused(Refusal),
+}
+
+// Where the merged block starts: at the block before h, where there is one and it is free.
+fn merge_start(image: &[u8], before: u64, h: u64) -> u64
+    requires { ⌜ before + 16 ≤ length (now image) ⌝ }
+    ensures { λ r. ⌜ r ≡ mergeStart (now (image .entry)) before h ⌝ }
+{
+    if before == 0 {
+        return h;
+    }
+    if read2(image, before as usize + 4) == 1 {
+        before
+    } else {
+        h
+    }
+}
+
+// Row 7 of free, and what is merged with the sound block at h.
+fn coalesce(image: &[u8], h: u64) -> Release
+    requires { ⌜ sound (now image) h ≡ true ⌝ }
+    ensures { λ r. ⌜ r ≡ released (now (image .entry)) h (walkTo (now (image .entry)) h) ⌝ }
+{
+    match walk_to(image, h) {
+        Met::Lost => Release::Refused(Refusal::Unsound),
+        Met::After(before) => {
+            let next = h + read4(image, h as usize);
+            let from = merge_start(image, before, h);
+            if next == image.len() as u64 {
+                return Release::Merges(h, from, next);
+            }
+            match examine(image, next) {
+                Examined::Unsound => Release::Refused(Refusal::Unsound),
+                Examined::Sound(d) => {
+                    if d.kind == 1 {
+                        return Release::Merges(h, from, next + d.extent);
+                    }
+                    Release::Merges(h, from, next)
+                }
+            }
+        }
+    }
+}
+
+// The rows of free.
+fn releasable(image: &[u8], table: &[u64], pointer: u64) -> Release
+    ensures { λ r. ⌜ r ≡ freeRelease pointer (state (now (image .entry)) (now (table .entry))) ⌝ }
+{
+    match opening(image, table) {
+        Answer::Refused(r) => Release::Refused(r),
+        Answer::Accepted(s) => {
+            let p = Pointer::unpack(pointer);
+            match locate(image, table, s as u32, p) {
+                Answer::Refused(r) => Release::Refused(r),
+                Answer::Accepted(h) => {
+                    if p.address != h + 16 {
+                        return Release::Refused(Refusal::NotBase);
+                    }
+                    coalesce(image, h)
+                }
+            }
+        }
+    }
+}
+
+// One free block from `from` to `to`, all else in it zero.
+fn merge(image: &mut [u8], from: u64, to: u64)
+    requires { ⌜ (from + 16 ≤ to) × (to ≤ length (now image)) ⌝ }
+    ensures { λ _. ⌜ now (image .exit) ≡ merged (now (image .entry)) from to ⌝ }
+{
+    let extent = to - from;
+    fill(image, from as usize, extent as usize, 0);
+    write_free(image, from as usize, extent);
+}
+
+// Ends the life of the object whose base pointer this is.
+pub fn free(image: &mut [u8], table: &mut [u64], pointer: u64) -> Answer
+    ensures { λ r. ⌜ outcome r (now (image .exit)) (now (table .exit)) ≡ free pointer (state (now (image .entry)) (now (table .entry))) ⌝ }
+{
+    match releasable(image, table, pointer) {
+        Release::Refused(r) => Answer::Refused(r),
+        Release::Merges(h, from, to) => {
+            let s = read2(image, 6) as u32;
+            let size = read4(image, h as usize + 8);
+            merge(image, from, to);
+            note(table, s, h, size, 0);
+            Answer::Accepted(0)
+        }
+    }
+}
