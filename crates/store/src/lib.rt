@@ -2,6 +2,7 @@
 mod access;
 mod allocation;
 mod answer;
+mod copying;
 mod counting;
 mod locate;
 mod moving;
@@ -14,6 +15,7 @@ pub use access::store;
 pub use allocation::allocate;
 pub use answer::Answer;
 pub use answer::Refusal;
+pub use copying::copy;
 pub use counting::Usage;
 pub use counting::tally;
 pub use moving::offset;

@@ -1,0 +1,244 @@
+-- What holds of image, table and abstract heap between any two calls of a list. Assumes nothing.
+use Prim.Native.Nat.{ℕ, _+_, _-_, _^_, _≤_}
+use mathlib.Core.Path.{_≡_, refl, sym, ap, _∙_, subst}
+use mathlib.Core.Bool.{Bool, true, false, cond}
+use mathlib.Core.List.{List, [], _++_}
+use mathlib.Core.Option.{Option, none, some}
+use native.Mathlib.Omega.{arith}
+use lib.ListN.{length, take, drop, replicate, take-append-drop, length-append, length-drop, length-replicate, getD-replicate, List·getD-append}
+use lib.Seq.{take-at}
+use borrow.Author.Tests.{eq-eqb}
+use Rattle.frame.specs.Pointers.{unpack, pack, goodTag}
+use Rattle.frame.specs.Tags.{pointerTo, usedEntries}
+use Rattle.block.specs.Layout.{superblock, superblockGood, slotExponent, isLive, extentAt, sizeAt}
+use Rattle.block.specs.LayoutLaws.{length-superblock, superblock-front, exponent-front}
+use Rattle.block.specs.declared.header.Header.{Header}
+use Rattle.store.specs.State.{State, state, demand}
+use Rattle.store.specs.Calls.{fresh, opening, headerPlace, leadsBack, located, inBody, accessed}
+use Rattle.store.specs.declared.answer.Answer.the-variants.{Accepted}
+use Rattle.store.specs.declared.answer.Refusal.the-variants.{OutOfBounds}
+use Rattle.history.specs.Heap.{Object, Heap, start, holds, ownerOf, inside}
+use Rattle.history.specs.History.{headerOf}
+use Rattle.history.proofs.Gaps.{Block, extent, Layout, last, lookup, blockAt, Placed, Remade}
+use Rattle.history.proofs.Image.{LiveAt, live-at, apart, placed-fresh}
+use Rattle.history.proofs.Heap.{find, Distinct, Owned, owned}
+use Rattle.history.proofs.Good.{Good, answer-address, good-answer, good-tag, good-place, good-leads}
+use Rattle.history.proofs.StoreLaws.{SetUp, opening-passes, located-at, accessed-at}
+use Rattle.history.proofs.Table.{nobody, Tabled, Ranged}
+
+-- what no call changes: the slot exponent and the image's length
+pub record Shape (s L : ℕ) : Type 0 where
+  pub exponent-low : 6 ≤ s
+  pub exponent-high : s ≤ 15
+  pub length-low : 64 ≤ L
+  pub length-high : L ≤ 2 ^ 30
+
+-- a live object whose header stands at k
+pub record Fine (s k : ℕ) (o : Object) : Type 0 where
+  pub answered : o .answer ≡ pack (pointerTo s k (o .size))
+  pub counted : length (o .bytes) ≡ o .size
+  pub good : (p : ℕ) → holds o p ≡ true → Good s k (o .size) p
+
+-- what a block and an object must share
+
+abbrev pub bodyIn : Option Block → Option (List ℕ)
+bodyIn none = none
+bodyIn (some b) = some (b .body)
+
+abbrev pub bytesIn : Option Object → Option (List ℕ)
+bytesIn none = none
+bytesIn (some o) = some (o .bytes)
+
+-- the image is a superblock and a layout, whose live blocks are the heap's objects
+pub record Laid (s L : ℕ) (image : List ℕ) (heap : Heap) : Type 0 where
+  pub shape : Shape s L
+  pub long : length image ≡ L
+  pub front : take 16 image ≡ superblock s L
+  pub layout : Layout
+  pub placed : Placed image layout
+  pub agree : (k : ℕ) → bodyIn (blockAt layout k) ≡ bytesIn (find heap k)
+  pub fine : (k : ℕ) (o : Object) → find heap k ≡ some o → Fine s k o
+  pub distinct : Distinct heap
+
+-- and the table has its large-framed ones
+pub record Invariant (s L : ℕ) (x : State) (heap : Heap) : Type 0 where
+  pub laid : Laid s L (x .image) heap
+  pub tabled : Tabled s L heap (x .table)
+
+-- A live object in the image.
+
+-- its block there, its size and extent, and that it lies in the image
+pub record Known (s L : ℕ) (image : List ℕ) (heap : Heap) (i : Laid s L image heap) (k : ℕ) (o : Object) : Type 0 where
+  pub block : Block
+  pub there : blockAt (i .layout) k ≡ some block
+  pub body : block .body ≡ o .bytes
+  pub live : LiveAt image k block
+  pub size : sizeAt image k ≡ o .size
+  pub extent-is : extentAt image k ≡ extent block
+  pub is-live : isLive image k ≡ true
+  pub high : k + 16 + o .size ≤ L
+  pub fits : k + 16 + o .size ≤ 2 ^ 30
+  pub begins : start o ≡ k + 16
+
+module _ {s L : ℕ} {image : List ℕ} {heap : Heap} (i : Laid s L image heap) where
+  pub known : (k : ℕ) (o : Object) → find heap k ≡ some o → Known s L image heap i k o
+  known k o e = go (blockAt (i .layout) k) refl
+    where
+      go : (r : Option Block) → blockAt (i .layout) k ≡ r → Known s L image heap i k o
+      go none f = let z : _≡_ {A = ℕ} 0 1 = cc (i .agree k) in absurd (omega arith)
+      go (some b) f =
+          let body : b .body ≡ o .bytes = cc (i .agree k) in
+          let live : LiveAt image k b = live-at image (i .layout) k b (i .placed) f in
+          let n : length (b .body) ≡ o .size = ap length body ∙ i .fine k o e .counted in
+          let high : k + 16 + o .size ≤ L = omega (arith, live .high, i .long) in
+          let fits : k + 16 + o .size ≤ 2 ^ 30 = omega (arith, i .shape .length-high) in
+          record {
+            block = b;
+            there = f;
+            body = body;
+            live = live;
+            size = ap (λ (d : Header). d .size) (live .header) ∙ n;
+            extent-is = ap (λ (d : Header). d .extent) (live .header);
+            is-live = eq-eqb _ _ (ap (λ (d : Header). d .kind) (live .header));
+            high = high;
+            fits = fits;
+            begins = ap (λ (a : ℕ). unpack a .address) (i .fine k o e .answered) ∙ answer-address s k (o .size) (i .shape .exponent-high) fits;
+          }
+
+  -- a live block of the layout is an object
+  pub object-of : (k : ℕ) (b : Block) → blockAt (i .layout) k ≡ some b → (o : Object) × (find heap k ≡ some o) × (o .bytes ≡ b .body)
+  object-of k b e = go (find heap k) refl
+    where
+      go : (r : Option Object) → find heap k ≡ r → (o : Object) × (find heap k ≡ some o) × (o .bytes ≡ b .body)
+      go none f = let z : _≡_ {A = ℕ} 0 1 = cc (i .agree k) in absurd (omega arith)
+      go (some o) f = (o, f, cc (i .agree k))
+
+  -- where no block stands, no object does
+  pub no-object : (k : ℕ) → blockAt (i .layout) k ≡ none → find heap k ≡ none
+  no-object k e = go (find heap k) refl
+    where
+      go : (r : Option Object) → find heap k ≡ r → find heap k ≡ none
+      go none f = f
+      go (some o) f = let z : _≡_ {A = ℕ} 0 1 = cc (i .agree k) in absurd (omega arith)
+
+  -- objects lie in the image, and apart
+  pub ranged : Ranged L heap
+  ranged =
+      record {
+        short = i .shape .length-high;
+        high = λ k o e. known k o e .high;
+        apart =
+            λ k j o o′ e f l.
+            let a = known k o e in
+            let b = known j o′ f in
+            omega (arith, apart (i .layout) k j (a .block) (b .block) (a .there) (b .there) l, ap length (a .body), i .fine k o e .counted);
+      }
+
+  -- the superblock is good, and has the slot exponent
+
+  pub superblock-is-good : superblockGood image ≡ true
+  superblock-is-good =
+      subst (λ (m : List ℕ). superblockGood m ≡ true) (ap (λ (q : List ℕ). q ++ drop 16 image) (sym (i .front)) ∙ take-append-drop 16 image)
+      (superblock-front s L (drop 16 image) (simp length-drop (omega (arith, i .long, i .shape .length-low))) (i .shape .exponent-low) (i .shape .exponent-high)
+      (i .shape .length-low) (i .shape .length-high))
+
+  pub exponent-is : slotExponent image ≡ s
+  exponent-is =
+      subst (λ (m : List ℕ). slotExponent m ≡ s) (ap (λ (q : List ℕ). q ++ drop 16 image) (sym (i .front)) ∙ take-append-drop 16 image)
+      (exponent-front s L (drop 16 image) (omega (arith, i .shape .exponent-high)))
+
+  -- another image with the same superblock, for another heap
+  pub relaid : {image′ : List ℕ} {next : Layout} (new : Heap) → Remade image image′ next → ((k : ℕ) → bodyIn (blockAt next k) ≡ bytesIn (find new k))
+      → ((k : ℕ) (o : Object) → find new k ≡ some o → Fine s k o) → Distinct new → Laid s L image′ new
+  relaid {next = next} new m a f d =
+      record {
+        shape = i .shape;
+        long = m .same-length ∙ i .long;
+        front = m .same-front ∙ i .front;
+        layout = next;
+        placed = m .placed;
+        agree = a;
+        fine = f;
+        distinct = d;
+      }
+
+-- two agreeing changes agree
+pub agree-cond : (b : Bool) (x x′ : Option Block) (y y′ : Option Object) → bodyIn x ≡ bytesIn y → bodyIn x′ ≡ bytesIn y′ → bodyIn (cond b x x′) ≡ bytesIn (cond b y y′)
+agree-cond true x x′ y y′ e f = e
+agree-cond false x x′ y y′ e f = f
+
+-- What pointers lead to.
+
+module _ {s L : ℕ} {x : State} {heap : Heap} (i : Invariant s L x heap) where
+  -- rows 4 and 5 let every call pass
+  pub opens : opening x ≡ Accepted s
+  opens =
+      let e : slotExponent (x .image) ≡ s = exponent-is (i .laid) in
+      opening-passes x (superblock-is-good (i .laid)) (rw (e, i .laid .long) (i .tabled .long)) ∙ ap Accepted e
+
+  -- reading the pointer's tag finds the header at k
+  pub record Leads (k p : ℕ) : Type 0 where
+    pub tag : goodTag s (unpack p) ≡ true
+    pub back : leadsBack s (unpack p) x ≡ true
+    pub place : headerPlace s (unpack p) (x .table) ≡ k
+    pub found : located s (unpack p) x ≡ Accepted k
+
+  -- each pointer of a live object leads to its header
+  pub leads : (k : ℕ) (o : Object) (p : ℕ) → find heap k ≡ some o → Good s k (o .size) p → Leads k p
+  leads k o p e g =
+      let n = known (i .laid) k o e in
+      let tag : goodTag s (unpack p) ≡ true = good-tag s k (o .size) p (i .laid .shape .exponent-high) (n .fits) g in
+      let place : headerPlace s (unpack p) (x .table) ≡ k = good-place s k (o .size) p (x .table) g (i .tabled .placed k o e) in
+      let back : leadsBack s (unpack p) x ≡ true =
+      good-leads s k (o .size) p x g (omega (arith, n .high, i .laid .long)) (n .live .is-sound) (n .is-live) (n .size) place
+      in
+      record { tag = tag; back = back; place = place; found = located-at s (unpack p) x k tag back place }
+
+  -- allocate's answer leads to its object
+  pub answer-leads : (k : ℕ) (o : Object) → find heap k ≡ some o → located s (unpack (o .answer)) x ≡ Accepted k
+  answer-leads k o e =
+      let n = known (i .laid) k o e in
+      leads k o (o .answer) e
+      (rw (i .laid .fine k o e .answered) (good-answer s k (o .size) (i .laid .shape .exponent-high) (n .fits))) .found
+
+  -- n bytes through a pointer: refused exactly where they are not all inside its object
+  pub accesses : (p : ℕ) (o : Object) (n : ℕ) → ownerOf heap p ≡ some o
+      → accessed s (unpack p) n x ≡ demand (inside o p n) OutOfBounds (Accepted (unpack p .address))
+  unfolding inside inBody
+  accesses p o n e =
+      let w : Owned heap p o = owned heap p o (i .laid .distinct) e in
+      let q = known (i .laid) (headerOf o) o (w .found) in
+      accessed-at s (unpack p) n x (headerOf o) (leads (headerOf o) o p (w .found) (i .laid .fine (headerOf o) o (w .found) .good p (w .mine)) .found)
+      ∙ rw (q .size, ← q .begins) refl
+
+-- Set-up.
+
+fresh-front : (s L : ℕ) → take 16 (fresh s L) ≡ superblock s L
+unfolding fresh
+fresh-front s L = take-at (superblock s L) _ 16 (length-superblock s L)
+
+pub begins-with : (s : ℕ) (x : State) (u : SetUp s x)
+    → Invariant s (length (x .image))
+    (state (fresh s (length (x .image))) (replicate (usedEntries s (length (x .image))) 0 ++ drop (usedEntries s (length (x .image))) (x .table))) []
+unfolding find lookup
+begins-with s x u =
+    let L : ℕ = length (x .image) in
+    let used : ℕ = usedEntries s L in
+    let p : Placed (fresh s L) (last (L - 16)) = placed-fresh s L (u .length-low) (u .length-high) in
+    record {
+      laid = record {
+        shape = record { exponent-low = u .exponent-low; exponent-high = u .exponent-high; length-low = u .length-low; length-high = u .length-high };
+        long = omega (arith, p .whole, u .length-low);
+        front = fresh-front s L;
+        layout = last (L - 16);
+        placed = p;
+        agree = λ k. refl;
+        fine = λ k o e. let z : _≡_ {A = ℕ} 0 1 = cc in absurd (omega arith);
+        distinct = tt;
+      };
+      tabled = record {
+        long = simp (length-append, length-replicate) (omega arith);
+        placed = λ k o e l. let z : _≡_ {A = ℕ} 0 1 = cc in absurd (omega arith);
+        entry = λ j l. nobody (List·getD-append (replicate used 0) (drop used (x .table)) 0 j (simp length-replicate l) ∙ getD-replicate used j 0 0 l);
+      };
+    }

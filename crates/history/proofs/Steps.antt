@@ -1,0 +1,420 @@
+-- Each call keeps the invariant, and what it answers. Assumes nothing.
+use Prim.Native.Nat.{ℕ, _+_, _-_, _^_, _≤_, _<_}
+use mathlib.Core.Path.{_≡_, refl, sym, ap, _∙_, subst}
+use mathlib.Core.Bool.{Bool, true, false, cond, _&&_}
+use mathlib.Core.List.{List, [], _∷_, _++_}
+use mathlib.Core.Option.{Option, none, some}
+use native.Mathlib.Omega.{arith}
+use lib.ListN.{length, take, drop, replicate, length-replicate, length-drop}
+use lib.Seq.{length-take-le}
+use lib.Dec.{leb, ltb, eqb}
+use lib.IntN.{ℤ}
+use borrow.Author.Tests.{eqb-true, eqb-false, leb-true, ltb-true}
+use Rattle.frame.specs.Pointers.{unpack, pack, goodTag, reach, moved}
+use Rattle.frame.specs.Tags.{pointerTo}
+use Rattle.frame.specs.declared.parts.Pointer.{Pointer}
+use Rattle.frame.specs.declared.parts.Moved.{Moved}
+use Rattle.frame.specs.declared.parts.Moved.the-variants.{To, Outside}
+use Rattle.block.specs.Tests.{byBool, and-left, and-right, and-false}
+use Rattle.block.specs.Bytes.{encode, put}
+use Rattle.block.specs.BytesLaws.{length-encode, length-put}
+use Rattle.block.specs.Layout.{sizeAt}
+use Rattle.store.specs.State.{State, state, Outcome, outcome, returned}
+use Rattle.store.specs.Calls.{entryFree, carved, noted, merged, located, movedAnswer, goodWidth, allocate, move, load, store, fill, copy, free}
+use Rattle.store.specs.declared.answer.Refusal.{Refusal}
+use Rattle.store.specs.declared.answer.Refusal.the-variants.{Empty, Unsound, NoSpace, BadTag, NotBase}
+use Rattle.store.specs.declared.answer.Answer.{Answer}
+use Rattle.store.specs.declared.answer.Answer.the-variants.{Accepted, Refused}
+use Rattle.history.specs.Lists.{allocates, frees, moves, loads, stores, fills, copies}
+use Rattle.history.specs.Heap.{Object, Heap, start, member, ownerOf, offset, inside, bytesAt, written, pointed, newObject, change, without, write, copied, hear}
+use Rattle.history.specs.History.{In, headerOf}
+use Rattle.history.proofs.Gaps.{Block, Layout, blockAt, Remade, Clear, patched}
+use Rattle.history.proofs.Image.{read-body, Rewritten, write-body, Carved, Fitted, room, full, fitted, Freed, freed, not-freed}
+use Rattle.history.proofs.Heap.{find, none-some, some-same, find-place, find-in, in-find, Owned, owned, find-append, distinct-append, find-change, distinct-change, change-nobody, find-without, distinct-without, without-nobody}
+use Rattle.history.proofs.Good.{answer-address, good-answer, good-moved, answer-again}
+use Rattle.history.proofs.StoreLaws.{refuse, through, load-after, Read, located-read, entry-is-free, allocate-empty, allocate-full, allocate-at, move-answer, store-through, store-width, store-large, fill-through, fill-empty, copy-through, copy-empty, free-unread, free-off-base, free-lost, free-merges}
+use Rattle.history.proofs.Table.{Tabled, added, entry-zero, gone, same-table}
+use Rattle.history.proofs.Invariant.{Fine, Laid, Invariant, bodyIn, bytesIn, known, object-of, no-object, ranged, exponent-is, relaid, agree-cond, opens, answer-leads, accesses}
+
+and-true : (b : Bool) → b && true ≡ b
+and-true true = refl
+and-true false = refl
+
+-- every object is fine after one is put in or changed
+fine-cond : (s : ℕ) (heap new : Heap) (h : ℕ) (o : Object) → ((k : ℕ) → find new k ≡ cond (eqb k h) (some o) (find heap k)) → Fine s h o
+    → ((k : ℕ) (y : Object) → find heap k ≡ some y → Fine s k y) → (k : ℕ) (y : Object) → find new k ≡ some y → Fine s k y
+fine-cond s heap new h o law f g k y e =
+    byBool (eqb k h)
+    (λ t. let v : o ≡ y = some-same (rw t at (law k)) e in rw (eqb-true k h t, ← v) f)
+    (λ t. g k y (sym (rw t at (law k)) ∙ e))
+
+-- Allocate.
+
+-- how allocate ends: size 0, no clear run, or a new object
+pub data Allocated (s L : ℕ) (x : State) (heap : Heap) (i : Invariant s L x heap) (size type : ℕ) : Type 0 where
+  empty : ltb 0 size ≡ false → allocate size type x ≡ refuse Empty x → Allocated s L x heap i size type
+  no-room :
+      allocate size type x ≡ refuse NoSpace x → ((a : ℕ) → Clear (x .image) (i .laid .layout) a (16 + size) → ⊥)
+      → Allocated s L x heap i size type
+  given :
+      (h : ℕ) → Clear (x .image) (i .laid .layout) h (16 + size)
+      → allocate size type x ≡ outcome (Accepted (pack (pointerTo s h size))) (carved (x .image) h size type) (noted s h size h (x .table))
+      → Invariant s L (state (carved (x .image) h size type) (noted s h size h (x .table))) (heap ++ (newObject (pack (pointerTo s h size)) size ∷ []))
+      → Allocated s L x heap i size type
+
+-- Free.
+
+-- allocate gave the number for no live object
+abbrev pub Nobody : Heap → ℕ → Type 0
+Nobody heap p = (o : Object) → In o heap → o .answer ≡ p → ⊥
+
+-- how free ends: an object is taken out, or the refusal of a number that is nobody's
+pub data Freeing (s L : ℕ) (x : State) (heap : Heap) (p : ℕ) : Type 0 where
+  taken :
+      (o : Object) → In o heap → o .answer ≡ p → returned (free p x .answer) ≡ 0 → Invariant s L (free p x .after) (without heap p)
+      → Freeing s L x heap p
+  declined : (r : Refusal) → free p x ≡ refuse r x → Nobody heap p → Freeing s L x heap p
+
+module _ {s L : ℕ} {x : State} {heap : Heap} (i : Invariant s L x heap) where
+  -- the new object at h
+  module _ (size type h : ℕ) (c : Carved (x .image) (i .laid .layout) size type h) where
+    new : Object
+    new = newObject (pack (pointerTo s h size)) size
+
+    new-fits : h + 16 + size ≤ 2 ^ 30
+    new-fits = omega (arith, c .clear .high, i .laid .long, i .laid .shape .length-high)
+
+    new-place : headerOf new ≡ h
+    unfolding new
+    new-place = omega (arith, answer-address s h size (i .laid .shape .exponent-high) new-fits)
+
+    new-vacant : find heap h ≡ none
+    new-vacant = no-object (i .laid) h (c .vacant)
+
+    new-law : (k : ℕ) → find (heap ++ (new ∷ [])) k ≡ cond (eqb k h) (some new) (find heap k)
+    new-law k =
+        find-append heap new k (ap (find heap) new-place ∙ new-vacant) ∙ ap (λ (z : ℕ). cond (eqb k z) (some new) (find heap k)) new-place
+
+    new-fine : Fine s h new
+    unfolding new member
+    new-fine =
+        record {
+          answered = refl;
+          counted = length-replicate size 0;
+          good =
+              λ p m.
+              byBool (eqb p (pack (pointerTo s h size)))
+              (λ t. rw (eqb-true p (pack (pointerTo s h size)) t) (good-answer s h size (i .laid .shape .exponent-high) new-fits))
+              (λ t. let z : _≡_ {A = ℕ} 0 1 = cc in absurd (omega arith));
+        }
+
+    new-laid : Laid s L (carved (x .image) h size type) (heap ++ (new ∷ []))
+    unfolding new
+    new-laid =
+        relaid (i .laid) (heap ++ (new ∷ [])) (c .remade)
+        (λ k.
+        ap bodyIn (c .looks k)
+        ∙ agree-cond (eqb k h) (some (c .block)) (blockAt (i .laid .layout) k) (some new) (find heap k) (ap some (c .zeroed)) (i .laid .agree k)
+        ∙ ap bytesIn (sym (new-law k)))
+        (fine-cond s heap (heap ++ (new ∷ [])) h new new-law new-fine (i .laid .fine))
+        (distinct-append heap new (i .laid .distinct) (ap (find heap) new-place ∙ new-vacant))
+
+    new-tabled : Tabled s L (heap ++ (new ∷ [])) (noted s h size h (x .table))
+    unfolding new
+    new-tabled = added s L heap (x .table) (i .tabled) (heap ++ (new ∷ [])) (ranged new-laid) h new new-vacant new-law
+
+    new-entry : entryFree s h size (x .table) ≡ true
+    unfolding new
+    new-entry = entry-is-free s h size (x .table) (λ l. entry-zero s L heap (x .table) (i .tabled) (heap ++ (new ∷ [])) (ranged new-laid) h new new-vacant new-law l)
+
+    new-given : ltb 0 size ≡ true → Allocated s L x heap i size type
+    unfolding new
+    new-given e =
+        given h (c .clear) (allocate-at s x (opens i) size type h (exponent-is (i .laid)) e (c .found) new-entry)
+        (record { laid = new-laid; tabled = new-tabled })
+
+  pub allocated : (size type : ℕ) → type < 2 ^ 16 → Allocated s L x heap i size type
+  allocated size type fits =
+      byBool (ltb 0 size)
+      (λ e. go e (fitted (x .image) (i .laid .layout) (i .laid .placed) size type (ltb-true 0 size e) fits))
+      (λ e. empty e (allocate-empty s x (opens i) size type e))
+    where
+      go : ltb 0 size ≡ true → Fitted (x .image) (i .laid .layout) size type → Allocated s L x heap i size type
+      go e (room h c) = new-given size type h c e
+      go e (full f n) = no-room (allocate-full s x (opens i) size type e f) n
+
+  pub allocate-step : (size type : ℕ) → type < 2 ^ 16
+      → Invariant s L (allocate size type x .after) (hear heap (allocates size type) (allocate size type x .answer))
+  unfolding hear
+  allocate-step size type fits = go (allocated size type fits)
+    where
+      go : Allocated s L x heap i size type → Invariant s L (allocate size type x .after) (hear heap (allocates size type) (allocate size type x .answer))
+      go (empty e f) = rw f i
+      go (no-room f n) = rw f i
+      go (given h c f j) = rw f j
+
+  -- Free.
+
+  -- allocate's answer for a live object, at its header place
+  answer-found : (p : ℕ) (o : Object) → In o heap → o .answer ≡ p → (located s (unpack p) x ≡ Accepted (headerOf o)) × (unpack p .address ≡ headerOf o + 16)
+  answer-found p o m a =
+      let f : find heap (headerOf o) ≡ some o = in-find heap o (i .laid .distinct) m in (
+        ap (λ (q : ℕ). located s (unpack q) x) (sym a) ∙ answer-leads i (headerOf o) o f,
+        ap (λ (q : ℕ). unpack q .address) (sym a) ∙ known (i .laid) (headerOf o) o f .begins,
+      )
+
+  -- it leads nowhere else
+  answer-only : (p h : ℕ) (o : Object) → In o heap → o .answer ≡ p → located s (unpack p) x ≡ Accepted h → headerOf o ≡ h
+  answer-only p h o m a e = let f : located s (unpack p) x ≡ Accepted (headerOf o) = answer-found p o m a .0 in cc
+
+  module _ (h : ℕ) (b : Block) (o : Object) (e : find heap h ≡ some o) (f : Freed (x .image) (i .laid .layout) h b) where
+    gone-law : (k : ℕ) → find (without heap (o .answer)) k ≡ cond (eqb k h) none (find heap k)
+    gone-law k =
+        let q : headerOf o ≡ h = find-place heap h o e in
+        find-without heap o k (i .laid .distinct) (ap (find heap) q ∙ e) ∙ ap (λ (z : ℕ). cond (eqb k z) none (find heap k)) q
+
+    gone-laid : Laid s L (merged (x .image) (f .from) (f .to)) (without heap (o .answer))
+    gone-laid =
+        relaid (i .laid) (without heap (o .answer)) (f .remade)
+        (λ k.
+        ap bodyIn (f .looks k) ∙ agree-cond (eqb k h) none (blockAt (i .laid .layout) k) none (find heap k) refl (i .laid .agree k)
+        ∙ ap bytesIn (sym (gone-law k)))
+        (λ k y g.
+        byBool (eqb k h)
+        (λ t. absurd (none-some (rw t at (gone-law k)) g))
+        (λ t. i .laid .fine k y (sym (rw t at (gone-law k)) ∙ g)))
+        (distinct-without heap (o .answer) (i .laid .distinct))
+
+    gone-invariant : Invariant s L (state (merged (x .image) (f .from) (f .to)) (noted s h (sizeAt (x .image) h) 0 (x .table))) (without heap (o .answer))
+    gone-invariant =
+        record {
+          laid = gone-laid;
+          tabled =
+              rw (known (i .laid) h o e .size)
+              (gone s L heap (x .table) (i .tabled) (ranged (i .laid)) (without heap (o .answer)) h o e gone-law);
+        }
+
+  pub freeing : (p : ℕ) → p < 2 ^ 64 → Freeing s L x heap p
+  freeing p fits = read (located s (unpack p) x) refl
+    where
+      found : (h : ℕ) (b : Block) (o : Object) → located s (unpack p) x ≡ Accepted h → eqb (unpack p .address) (h + 16) ≡ true
+          → find heap h ≡ some o → Freed (x .image) (i .laid .layout) h b → Freeing s L x heap p
+      found h b o e t g f =
+          let r : Read s (unpack p) x h = located-read s (unpack p) x h e in
+          let a : o .answer ≡ p =
+          i .laid .fine h o g .answered ∙ ap (λ (n : ℕ). pack (pointerTo s h n)) (sym (known (i .laid) h o g .size))
+          ∙ answer-again s h (sizeAt (x .image) h) p fits (r .matches) (eqb-true _ _ t)
+          in
+          let q = free-merges s x (opens i) p h (f .from) (f .to) (exponent-is (i .laid)) e t (f .merges) in
+          taken o (find-in heap h o g) a (ap (λ (z : Outcome). returned (z .answer)) q)
+          (subst (λ (z : State). Invariant s L z (without heap p)) (sym (ap (λ (z : Outcome). z .after) q))
+          (subst (λ (z : ℕ). Invariant s L (state (merged (x .image) (f .from) (f .to)) (noted s h (sizeAt (x .image) h) 0 (x .table))) (without heap z)) a
+          (gone-invariant h b o g f)))
+
+      base : (h : ℕ) → located s (unpack p) x ≡ Accepted h → eqb (unpack p .address) (h + 16) ≡ true → (r : Option Block) → blockAt (i .laid .layout) h ≡ r
+          → Freeing s L x heap p
+      base h e t none g =
+          let r : Read s (unpack p) x h = located-read s (unpack p) x h e in
+          declined Unsound
+          (free-lost s x (opens i) p h Unsound e t (not-freed (x .image) (i .laid .layout) h (i .laid .placed) g (r .live) (r .is-sound)))
+          (λ o m a. none-some (no-object (i .laid) h g) (ap (find heap) (sym (answer-only p h o m a e)) ∙ in-find heap o (i .laid .distinct) m))
+      base h e t (some b) g =
+          let o = object-of (i .laid) h b g in
+          found h b (o .0) e t (o .1) (freed (x .image) (i .laid .layout) h b (i .laid .placed) g)
+
+      read : (r : Answer) → located s (unpack p) x ≡ r → Freeing s L x heap p
+      read (Refused r) e =
+          declined r (free-unread s x (opens i) p r e)
+          (λ o m a. let f : located s (unpack p) x ≡ Accepted (headerOf o) = answer-found p o m a .0 in let z : _≡_ {A = ℕ} 0 1 = cc in omega arith)
+      read (Accepted h) e =
+          byBool (eqb (unpack p .address) (h + 16))
+          (λ t. base h e t (blockAt (i .laid .layout) h) refl)
+          (λ t. declined NotBase (free-off-base s x (opens i) p h e t)
+          (λ o m a. eqb-false _ _ t (answer-found p o m a .1 ∙ ap (λ (k : ℕ). k + 16) (answer-only p h o m a e))))
+
+  pub free-step : (p : ℕ) → p < 2 ^ 64 → Invariant s L (free p x .after) (hear heap (frees p) (free p x .answer))
+  unfolding hear
+  free-step p fits = go (freeing p fits)
+    where
+      go : Freeing s L x heap p → Invariant s L (free p x .after) (without heap p)
+      go (taken o m a q j) = j
+      go (declined r q n) = rw (q, without-nobody heap p n) i
+
+  -- An object changes, and neither its answer nor its size.
+
+  module _ (p : ℕ) (o : Object) (e : ownerOf heap p ≡ some o) (f : Object → Object) (same : (y : Object) → headerOf (f y) ≡ headerOf y)
+      (size : f o .size ≡ o .size) (fine : Fine s (headerOf o) (f o)) where
+    change-law : (k : ℕ) → find (change f heap p) k ≡ cond (eqb k (headerOf o)) (some (f o)) (find heap k)
+    change-law k = find-change f same heap p o k (i .laid .distinct) e
+
+    changed : (image′ : List ℕ) (next : Layout) (b : Block) → Remade (x .image) image′ next → b .body ≡ f o .bytes
+        → ((k : ℕ) → blockAt next k ≡ cond (eqb k (headerOf o)) (some b) (blockAt (i .laid .layout) k))
+        → Invariant s L (state image′ (x .table)) (change f heap p)
+    changed image′ next b m body looks =
+        record {
+          laid =
+              relaid (i .laid) (change f heap p) m
+              (λ k.
+              ap bodyIn (looks k)
+              ∙ agree-cond (eqb k (headerOf o)) (some b) (blockAt (i .laid .layout) k) (some (f o)) (find heap k) (ap some body) (i .laid .agree k)
+              ∙ ap bytesIn (sym (change-law k)))
+              (fine-cond s heap (change f heap p) (headerOf o) (f o) change-law fine (i .laid .fine))
+              (distinct-change f same heap p (i .laid .distinct));
+          tabled =
+              same-table s L heap (x .table) (i .tabled) (change f heap p) (headerOf o) o (f o) (owned heap p o (i .laid .distinct) e .found) size change-law;
+        }
+
+  -- Move.
+
+  -- the pointer's object has one pointer more
+  move-owned : (p : ℕ) (o : Object) (d : ℤ) (q : Pointer) → ownerOf heap p ≡ some o → moved (unpack p) (reach s (unpack p)) d ≡ To q
+      → Invariant s L x (change (pointed (pack q)) heap p)
+  unfolding member
+  move-owned p o d q e m =
+      let w : Owned heap p o = owned heap p o (i .laid .distinct) e in
+      let n = known (i .laid) (headerOf o) o (w .found) in
+      let f : Fine s (headerOf o) o = i .laid .fine (headerOf o) o (w .found) in
+      changed p o e (pointed (pack q)) (λ y. refl) refl
+      (record {
+        answered = f .answered;
+        counted = f .counted;
+        good =
+            λ r t.
+            byBool (eqb r (pack q))
+            (λ u. rw (eqb-true r (pack q) u) (good-moved s (headerOf o) (o .size) p q d (f .good p (w .mine)) m))
+            (λ u. f .good r (rw u at t));
+      })
+      (x .image) (i .laid .layout) (n .block) (record { placed = i .laid .placed; same-length = refl; same-front = refl }) (n .body)
+      (λ k. byBool (eqb k (headerOf o)) (λ t. rw t (ap (blockAt (i .laid .layout)) (eqb-true k (headerOf o) t) ∙ n .there)) (λ t. rw t))
+
+  move-to : (p : ℕ) (d : ℤ) (r : Moved) → moved (unpack p) (reach s (unpack p)) d ≡ r → Invariant s L x (hear heap (moves p d) (movedAnswer r))
+  unfolding hear movedAnswer
+  move-to p d Outside m = i
+  move-to p d (To q) m = go (ownerOf heap p) refl
+    where
+      go : (r : Option Object) → ownerOf heap p ≡ r → Invariant s L x (change (pointed (pack q)) heap p)
+      go none e = rw (change-nobody (pointed (pack q)) heap p e) i
+      go (some o) e = move-owned p o d q e m
+
+  move-refused : (p : ℕ) (d : ℤ) → Invariant s L x (hear heap (moves p d) (Refused BadTag))
+  unfolding hear
+  move-refused p d = i
+
+  pub move-step : (p : ℕ) (d : ℤ) → Invariant s L (move p d x .after) (hear heap (moves p d) (move p d x .answer))
+  move-step p d =
+      rw (move-answer s x (opens i) p d)
+      (byBool (goodTag s (unpack p))
+      (λ t. rw t (move-to p d (moved (unpack p) (reach s (unpack p)) d) refl))
+      (λ t. rw t (move-refused p d)))
+
+  -- Load.
+
+  pub load-step : (p width : ℕ) → Invariant s L (load p width x .after) (hear heap (loads p width) (load p width x .answer))
+  unfolding hear
+  load-step p width = rw (load-after p width x) i
+
+  -- Store, fill and copy.
+
+  -- bytes inside an object, through one of its pointers
+  pub record Span (p : ℕ) (o : Object) (n : ℕ) : Type 0 where
+    pub owner : Owned heap p o
+    pub at-address : headerOf o + 16 + offset o p ≡ unpack p .address
+    pub fits : offset o p + n ≤ o .size
+
+  pub span : (p : ℕ) (o : Object) (n : ℕ) → ownerOf heap p ≡ some o → inside o p n ≡ true → Span p o n
+  unfolding inside
+  span p o n e t =
+      let w : Owned heap p o = owned heap p o (i .laid .distinct) e in
+      let b : start o ≡ headerOf o + 16 = known (i .laid) (headerOf o) o (w .found) .begins in
+      let low : start o ≤ unpack p .address = leb-true _ _ (and-left _ (leb (unpack p .address + n) (start o + o .size)) t) in
+      let high : unpack p .address + n ≤ start o + o .size = leb-true _ _ (and-right (leb (start o) (unpack p .address)) _ t) in
+      record { owner = w; at-address = omega arith; fits = omega arith }
+
+  -- they are the heap's
+  pub read-through : (p : ℕ) (o : Object) (n : ℕ) → ownerOf heap p ≡ some o → inside o p n ≡ true → take n (drop (unpack p .address) (x .image)) ≡ bytesAt o p n
+  read-through p o n e t =
+      let w : Span p o n = span p o n e t in
+      let q = known (i .laid) (headerOf o) o (w .owner .found) in
+      let c : length (o .bytes) ≡ o .size = i .laid .fine (headerOf o) o (w .owner .found) .counted in
+      ap (λ (a : ℕ). take n (drop a (x .image))) (sym (w .at-address))
+      ∙ read-body (x .image) (i .laid .layout) (headerOf o) (q .block) (i .laid .placed) (q .there) (offset o p) n (omega (arith, ap length (q .body), w .fits))
+      ∙ ap (λ (b : List ℕ). take n (drop (offset o p) b)) (q .body)
+
+  -- a write of so many
+  pub wrote : (p : ℕ) (o : Object) (n : ℕ) (bytes : List ℕ) → ownerOf heap p ≡ some o → length bytes ≡ n → inside o p n ≡ true
+      → Invariant s L (state (put (x .image) (unpack p .address) bytes) (x .table)) (change (written p bytes) heap p)
+  wrote p o n bytes e l t =
+      let w : Span p o n = span p o n e t in
+      let q = known (i .laid) (headerOf o) o (w .owner .found) in
+      let f : Fine s (headerOf o) o = i .laid .fine (headerOf o) o (w .owner .found) in
+      let room : offset o p + length bytes ≤ length (q .block .body) = omega (arith, ap length (q .body), f .counted, w .fits) in
+      let r : Rewritten (x .image) (i .laid .layout) (headerOf o) (q .block) (patched (q .block) (offset o p) bytes) (put (x .image) (unpack p .address) bytes) =
+      subst
+      (λ (a : ℕ). Rewritten (x .image) (i .laid .layout) (headerOf o) (q .block) (patched (q .block) (offset o p) bytes) (put (x .image) a bytes)) (w .at-address)
+      (write-body (x .image) (i .laid .layout) (headerOf o) (q .block) (i .laid .placed) (q .there) (offset o p) bytes room)
+      in
+      changed p o e (written p bytes) (λ y. refl) refl
+      (record {
+        answered = f .answered;
+        counted = length-put (o .bytes) (offset o p) bytes (omega (arith, f .counted, w .fits)) ∙ f .counted;
+        good = f .good;
+      })
+      (put (x .image) (unpack p .address) bytes) (r .next) (patched (q .block) (offset o p) bytes) (r .remade)
+      (ap (λ (b : List ℕ). put b (offset o p) bytes) (q .body)) (r .looks)
+
+  -- so many bytes through a pointer, refused or not
+  wrote-through : (p : ℕ) (o : Object) (n : ℕ) (bytes : List ℕ) → ownerOf heap p ≡ some o → length bytes ≡ n
+      → Invariant s L (through x (inside o p n) (unpack p .address) bytes .after) (write (some o) p n bytes heap)
+  unfolding write
+  wrote-through p o n bytes e l =
+      byBool (inside o p n)
+      (λ t. rw t (wrote p o n bytes e l t))
+      (λ t. rw t i)
+
+  pub store-step : (p width v : ℕ) (o : Object) → ownerOf heap p ≡ some o
+      → Invariant s L (store p width v x .after) (hear heap (stores p width v) (store p width v x .answer))
+  unfolding hear
+  store-step p width v o e =
+      byBool (goodWidth width)
+      (λ g. byBool (ltb v (256 ^ width))
+      (λ l.
+      rw (store-through s x (opens i) p width v (unpack p .address) (inside o p width) g l (accesses i p o width e), g, l, e)
+      (wrote-through p o width (encode width v) e (length-encode width v)))
+      (λ l. rw (store-large s x (opens i) p width v g l, g, l) i))
+      (λ g. rw (store-width s x (opens i) p width v g, g) i)
+
+  pub fill-step : (p n byte : ℕ) (o : Object) → ownerOf heap p ≡ some o
+      → Invariant s L (fill p n byte x .after) (hear heap (fills p n byte) (fill p n byte x .answer))
+  unfolding hear
+  fill-step p n byte o e =
+      byBool (ltb 0 n)
+      (λ l.
+      rw (fill-through s x (opens i) p n byte (unpack p .address) (inside o p n) l (accesses i p o n e), l, e)
+      (wrote-through p o n (replicate n byte) e (length-replicate n byte)))
+      (λ l. rw (fill-empty s x (opens i) p n byte l, l) i)
+
+  -- the source's bytes are as many
+  length-bytes : (p : ℕ) (o : Object) (n : ℕ) → ownerOf heap p ≡ some o → inside o p n ≡ true → length (bytesAt o p n) ≡ n
+  length-bytes p o n e t =
+      let w : Span p o n = span p o n e t in
+      length-take-le n (drop (offset o p) (o .bytes))
+      (simp length-drop (omega (arith, i .laid .fine (headerOf o) o (w .owner .found) .counted, w .fits)))
+
+  copied-through : (t p : ℕ) (o o′ : Object) (n : ℕ) → ownerOf heap t ≡ some o → ownerOf heap p ≡ some o′
+      → Invariant s L (through x (inside o t n && inside o′ p n) (unpack t .address) (take n (drop (unpack p .address) (x .image))) .after)
+      (copied (some o′) t p n heap)
+  unfolding copied
+  copied-through t p o o′ n e f =
+      byBool (inside o′ p n)
+      (λ u. rw (u, e, read-through p o′ n f u, and-true (inside o t n)) (wrote-through t o n (bytesAt o′ p n) e (length-bytes p o′ n f u)))
+      (λ u. rw (u, and-false (inside o t n)) i)
+
+  pub copy-step : (t p n : ℕ) (o o′ : Object) → ownerOf heap t ≡ some o → ownerOf heap p ≡ some o′
+      → Invariant s L (copy t p n x .after) (hear heap (copies t p n) (copy t p n x .answer))
+  unfolding hear
+  copy-step t p n o o′ e f =
+      byBool (ltb 0 n)
+      (λ l.
+      rw (copy-through s x (opens i) t p n (unpack p .address) (inside o t n) (inside o′ p n) l (accesses i t o n e) (accesses i p o′ n f), l, f)
+      (copied-through t p o o′ n e f))
+      (λ l. rw (copy-empty s x (opens i) t p n l, l) i)

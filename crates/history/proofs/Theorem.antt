@@ -1,0 +1,314 @@
+-- Demand 3, and the further claims about its lists. Assumes nothing.
+use Prim.Native.Nat.{ℕ, zero, suc, _+_, _-_, _^_, _≤_, _<_}
+use mathlib.Core.Path.{_≡_, refl, sym, ap, _∙_, subst}
+use mathlib.Core.Bool.{true, false, _&&_}
+use mathlib.Core.List.{List, [], _∷_}
+use mathlib.Core.Logic.{_↔_, _⊎_}
+use mathlib.Core.Option.{Option, some}
+use native.Mathlib.Omega.{arith}
+use lib.ListN.{length}
+use lib.Dec.{ltb}
+use borrow.Author.Tests.{lt-ltb, ltb-true, leb-false}
+use Rattle.frame.specs.Pointers.{unpack, goodTag}
+use Rattle.frame.specs.Tags.{isSmall, entryOf}
+use Rattle.block.specs.Tests.{and-left, and-right, and-both, true-false}
+use Rattle.block.specs.Bytes.{decode, field}
+use Rattle.block.specs.Layout.{extentAt, sizeAt}
+use Rattle.block.specs.Walk.{countBlocks}
+use Rattle.block.specs.declared.walk.Counted.{Counted}
+use Rattle.block.specs.declared.walk.Counted.the-variants as counted
+use Rattle.store.specs.State.{State, Outcome, IsAccepted, returned, value}
+use Rattle.store.specs.Calls.{setUp, allocate, load, store, free, fill, copy, tallyCounted, goodWidth, located, leadsBack, headerPlace}
+use Rattle.store.specs.declared.answer.Answer.the-variants.{Accepted}
+use Rattle.store.specs.declared.answer.Refusal.the-variants.{OutOfBounds}
+use Rattle.history.specs.Lists.{Call, allocates, frees, moves, loads, stores, fills, copies, step}
+use Rattle.history.specs.Heap.{Object, Heap, start, holds, ownerOf, inside, bytesAt, hear, HearsNoOther}
+use Rattle.history.specs.History.{known, admitted, Configuration, next, after, allAdmitted, begun, In, headerOf, FreeRun, Holds, Demand3, RefusalsKeep, tallyReturned, MeetsNoUnsound, NeverUnsound, Tidy, StaysTidy}
+use Rattle.history.proofs.Gaps.{Block, extent, blockAt, Clear}
+use Rattle.history.proofs.Image.{counts, no-neighbours, free-zero, tail-zero}
+use Rattle.history.proofs.Heap.{find, find-in, find-place, in-find, places-apart, two-places, known-owner}
+use Rattle.history.proofs.BlockMore.{field-bytes}
+use Rattle.history.proofs.StoreLaws.{demand-iff, refused-some, set-up-keeps, allocate-keeps, move-keeps, load-keeps, store-keeps, fill-keeps, copy-keeps, free-keeps, SetUp, set-up-accepted, through-iff, load-through, store-through, fill-through, copy-through, tally-counts}
+use Rattle.history.proofs.Table.{entries-differ}
+use Rattle.history.proofs.Invariant.{Invariant, object-of, ranged, exponent-is, opens, Leads, leads, accesses, begins-with}
+use Rattle.history.proofs.Invariant as invariant
+use Rattle.history.proofs.Steps.{Allocated, empty, no-room, given, allocated, allocate-step, Freeing, taken, declined, freeing, free-step, move-step, load-step, read-through, store-step, fill-step, copy-step}
+
+-- The list.
+
+-- each admitted call keeps the invariant
+pub steps : {s L : ℕ} {x : State} {heap : Heap} (c : Call) → Invariant s L x heap → admitted heap c ≡ true
+    → Invariant s L (step c x .after) (hear heap c (step c x .answer))
+steps (allocates size type) i a = allocate-step i size type (ltb-true _ _ (and-right (ltb size (2 ^ 32)) _ a))
+steps (frees p) i a = free-step i p (ltb-true _ _ a)
+steps (moves p d) i a = move-step i p d
+steps (loads p width) i a = load-step i p width
+steps {heap = heap} (stores p width v) i a =
+    let o = known-owner heap p (and-left _ (ltb width (2 ^ 64) && ltb v (2 ^ 64)) a) in
+    store-step i p width v (o .0) (o .1)
+steps {heap = heap} (fills p n byte) i a =
+    let o = known-owner heap p (and-left _ (ltb n (2 ^ 32) && ltb byte 256) a) in
+    fill-step i p n byte (o .0) (o .1)
+steps {heap = heap} (copies t p n) i a =
+    let o = known-owner heap t (and-left _ (known heap p && ltb n (2 ^ 32)) a) in
+    let o′ = known-owner heap p (and-left _ (ltb n (2 ^ 32)) (and-right (known heap t) _ a)) in
+    copy-step i t p n (o .0) (o′ .0) (o .1) (o′ .1)
+
+-- and so does an admitted list
+pub keeps : {s L : ℕ} (calls : List Call) (x : Configuration) → Invariant s L (x .state) (x .heap) → allAdmitted calls x ≡ true
+    → Invariant s L (after calls x .state) (after calls x .heap)
+unfolding after allAdmitted
+keeps [] x i a = i
+keeps (c ∷ cs) x i a = keeps cs (next c x) (steps c i (and-left _ (allAdmitted cs (next c x)) a)) (and-right (admitted (x .heap) c) _ a)
+
+-- set-up establishes it
+pub begins : (s : ℕ) (x : State) → IsAccepted (setUp s x) → Invariant s (length (x .image)) (setUp s x .after) []
+begins s x e = let u : SetUp s x = set-up-accepted s x e in rw (u .leaves) (begins-with s x u)
+
+-- What the invariant says.
+
+module _ {s L : ℕ} (x : Configuration) (i : Invariant s L (x .state) (x .heap)) where
+  at-place : (o : Object) → In o (x .heap) → find (x .heap) (headerOf o) ≡ some o
+  at-place o m = in-find (x .heap) o (i .laid .distinct) m
+
+  about : (o : Object) (m : In o (x .heap)) → invariant.Known s L (x .state .image) (x .heap) (i .laid) (headerOf o) o
+  about o m = invariant.known (i .laid) (headerOf o) o (at-place o m)
+
+  pointer-leads : (o : Object) (p : ℕ) → find (x .heap) (headerOf o) ≡ some o → holds o p ≡ true → Leads i (headerOf o) p
+  pointer-leads o p e t = leads i (headerOf o) o p e (i .laid .fine (headerOf o) o e .good p t)
+
+  two-entries : (o o′ : Object) → find (x .heap) (headerOf o) ≡ some o → find (x .heap) (headerOf o′) ≡ some o′ → (headerOf o ≡ headerOf o′ → ⊥)
+      → isSmall s (headerOf o) (o .size) ≡ false → isSmall s (headerOf o′) (o′ .size) ≡ false
+      → entryOf s (headerOf o) (o .size) ≡ entryOf s (headerOf o′) (o′ .size) → ⊥
+  two-entries o o′ e f n l m q =
+      entries-differ s L (x .heap) (ranged (i .laid)) (headerOf o) (headerOf o′) o o′ e f n (leb-false _ _ l) (leb-false _ _ m) q
+
+  two-owners : (o o′ : Object) → find (x .heap) (headerOf o) ≡ some o → find (x .heap) (headerOf o′) ≡ some o′ → (headerOf o ≡ headerOf o′ → ⊥)
+      → (p : ℕ) → holds o p ≡ true → holds o′ p ≡ true → ⊥
+  two-owners o o′ e f n p t u =
+      let a : located s (unpack p) (x .state) ≡ Accepted (headerOf o) = pointer-leads o p e t .found in
+      let b : located s (unpack p) (x .state) ≡ Accepted (headerOf o′) = pointer-leads o′ p f u .found in
+      n cc
+
+  leads-to : (o : Object) → In o (x .heap) → (p : ℕ) → holds o p ≡ true
+      → (goodTag s (unpack p) ≡ true) × (leadsBack s (unpack p) (x .state) ≡ true)
+      × (headerPlace s (unpack p) (x .state .table) ≡ headerOf o) × (headerOf o + 16 ≡ start o)
+      × (sizeAt (x .state .image) (headerOf o) ≡ o .size)
+  leads-to o m p t =
+      let l : Leads i (headerOf o) p = pointer-leads o p (at-place o m) t in
+      (l .tag, l .back, l .place, sym (about o m .begins), about o m .size)
+
+  free-iff : (p : ℕ) → p < 2 ^ 64 → IsAccepted (free p (x .state)) ↔ ((o : Object) × In o (x .heap) × (o .answer ≡ p))
+  free-iff p fits = go (freeing i p fits)
+    where
+      go : Freeing s L (x .state) (x .heap) p → IsAccepted (free p (x .state)) ↔ ((o : Object) × In o (x .heap) × (o .answer ≡ p))
+      go (taken o m a q j) = ((λ e. (o, m, a)), λ w. q)
+      go (declined r q n) = (
+        (λ (e : IsAccepted (free p (x .state))). absurd (refused-some r (sym (ap (λ (z : Outcome). returned (z .answer)) q) ∙ e))),
+        λ (w : (o : Object) × In o (x .heap) × (o .answer ≡ p)). absurd (n (w .0) (w .1) (w .2)),
+      )
+
+  load-iff : (o : Object) (p : ℕ) → ownerOf (x .heap) p ≡ some o → (width : ℕ) → goodWidth width ≡ true
+      → IsAccepted (load p width (x .state)) ↔ (inside o p width ≡ true)
+  load-iff o p e width g =
+      rw (load-through s (x .state) (opens i) p width (unpack p .address) (inside o p width) g (accesses i p o width e))
+      (demand-iff (inside o p width) OutOfBounds (field (x .state .image) (unpack p .address) width))
+
+  load-value : (o : Object) (p : ℕ) → ownerOf (x .heap) p ≡ some o → (width : ℕ) → goodWidth width ≡ true
+      → IsAccepted (load p width (x .state)) → value (load p width (x .state) .answer) ≡ decode (bytesAt o p width)
+  load-value o p e width g a =
+      let t : inside o p width ≡ true = load-iff o p e width g .0 a in
+      rw (load-through s (x .state) (opens i) p width (unpack p .address) (inside o p width) g (accesses i p o width e), t)
+      (field-bytes (x .state .image) (unpack p .address) width ∙ ap decode (read-through i p o width e t))
+
+  store-iff : (o : Object) (p : ℕ) → ownerOf (x .heap) p ≡ some o → (width v : ℕ) → goodWidth width ≡ true → v < 256 ^ width
+      → IsAccepted (store p width v (x .state)) ↔ (inside o p width ≡ true)
+  store-iff o p e width v g l =
+      rw (store-through s (x .state) (opens i) p width v (unpack p .address) (inside o p width) g (lt-ltb _ _ l) (accesses i p o width e))
+      (through-iff (x .state) (inside o p width) (unpack p .address) _)
+
+  fill-iff : (o : Object) (p : ℕ) → ownerOf (x .heap) p ≡ some o → (n byte : ℕ) → 0 < n → n < 2 ^ 32 → byte < 256
+      → IsAccepted (fill p n byte (x .state)) ↔ (inside o p n ≡ true)
+  fill-iff o p e n byte l u b =
+      rw (fill-through s (x .state) (opens i) p n byte (unpack p .address) (inside o p n) (lt-ltb 0 n l) (accesses i p o n e))
+      (through-iff (x .state) (inside o p n) (unpack p .address) _)
+
+  copy-iff : (o o′ : Object) (t p : ℕ) → ownerOf (x .heap) t ≡ some o → ownerOf (x .heap) p ≡ some o′ → (n : ℕ) → 0 < n → n < 2 ^ 32
+      → IsAccepted (copy t p n (x .state)) ↔ ((inside o t n ≡ true) × (inside o′ p n ≡ true))
+  copy-iff o o′ t p e f n l u =
+      let w : IsAccepted (copy t p n (x .state)) ↔ (inside o t n && inside o′ p n ≡ true) =
+      rw (copy-through s (x .state) (opens i) t p n (unpack p .address) (inside o t n) (inside o′ p n) (lt-ltb 0 n l) (accesses i t o n e) (accesses i p o′ n f))
+      (through-iff (x .state) (inside o t n && inside o′ p n) (unpack t .address) _)
+      in
+      ((λ a. (and-left _ (inside o′ p n) (w .0 a), and-right (inside o t n) _ (w .0 a))), λ b. w .1 (and-both _ _ (b .0) (b .1)))
+
+  -- runs outside every live extent are those outside every live block
+
+  run-clear : (a n : ℕ) → FreeRun x a n → Clear (x .state .image) (i .laid .layout) a n
+  run-clear a n r =
+      record {
+        low = r .behind-superblock;
+        high = r .in-image;
+        apart =
+            λ h b e.
+            let q = object-of (i .laid) h b e in
+            let o : Object = q .0 in
+            let m : In o (x .heap) = find-in (x .heap) h o (q .1) in
+            let k : headerOf o ≡ h = find-place (x .heap) h o (q .1) in
+            let c = about o m in
+            let same : extentAt (x .state .image) (headerOf o) ≡ extent b = c .extent-is ∙ ap extent (block-same (c .there) (ap (blockAt (i .laid .layout)) k ∙ e)) in
+            subst (λ (z : ℕ). (z + extent b ≤ a) ⊎ (a + n ≤ z)) k
+            (subst (λ (z : ℕ). (headerOf o + z ≤ a) ⊎ (a + n ≤ headerOf o)) same (r .outside o m));
+      }
+    where
+      block-same : {r : Option Block} {b c : Block} → r ≡ some b → r ≡ some c → b ≡ c
+      block-same e f = cc
+
+  clear-run : (a n : ℕ) → Clear (x .state .image) (i .laid .layout) a n → FreeRun x a n
+  clear-run a n c =
+      record {
+        behind-superblock = c .low;
+        in-image = c .high;
+        outside =
+            λ o m.
+            let q = about o m in
+            subst (λ (z : ℕ). (headerOf o + z ≤ a) ⊎ (a + n ≤ headerOf o)) (sym (q .extent-is)) (c .apart (headerOf o) (q .block) (q .there));
+      }
+
+  -- what allocate returns
+  data Returns (size type : ℕ) : Type 0 where
+    six : size ≡ 0 → returned (allocate size type (x .state) .answer) ≡ 6 → Returns size type
+    eight : returned (allocate size type (x .state) .answer) ≡ 8 → ((a : ℕ) → FreeRun x a (16 + size) → ⊥) → Returns size type
+    nought : returned (allocate size type (x .state) .answer) ≡ 0 → (a : ℕ) → FreeRun x a (16 + size) → Returns size type
+
+  allocate-returns : (size type : ℕ) → type < 2 ^ 16 → Returns size type
+  allocate-returns size type fits = go (allocated i size type fits)
+    where
+      number : (r : Outcome) → allocate size type (x .state) ≡ r → returned (allocate size type (x .state) .answer) ≡ returned (r .answer)
+      number r e = ap (λ (z : Outcome). returned (z .answer)) e
+
+      nothing : (n : ℕ) → ltb 0 n ≡ false → n ≡ 0
+      nothing zero e = refl
+      nothing (suc n) e = absurd (true-false (lt-ltb 0 (suc n) (omega arith)) e)
+
+      go : Allocated s L (x .state) (x .heap) i size type → Returns size type
+      go (empty e f) = six (nothing size e) (number _ f)
+      go (no-room f n) = eight (number _ f) (λ a r. n a (run-clear a (16 + size) r))
+      go (given h c f j) = nought (number _ f) h (clear-run h (16 + size) c)
+
+  -- no other number
+  never : (size type n : ℕ) → type < 2 ^ 16 → returned (allocate size type (x .state) .answer) ≡ n → (n ≡ 0 → ⊥) → (n ≡ 6 → ⊥) → (n ≡ 8 → ⊥) → ⊥
+  never size type n fits e a b c = go (allocate-returns size type fits)
+    where
+      go : Returns size type → ⊥
+      go (six z f) = b (sym e ∙ f)
+      go (eight f r) = c (sym e ∙ f)
+      go (nought f k r) = a (sym e ∙ f)
+
+  never-nine : (size type : ℕ) → size < 2 ^ 32 → type < 2 ^ 16 → returned (allocate size type (x .state) .answer) ≡ 9 → ⊥
+  never-nine size type l fits e = never size type 9 fits e (λ z. omega arith) (λ z. omega arith) (λ z. omega arith)
+
+  never-seven : (size type : ℕ) → size < 2 ^ 32 → type < 2 ^ 16 → returned (allocate size type (x .state) .answer) ≡ 7 → ⊥
+  never-seven size type l fits e = never size type 7 fits e (λ z. omega arith) (λ z. omega arith) (λ z. omega arith)
+
+  has-room : (size type : ℕ) → 0 < size → size < 2 ^ 32 → type < 2 ^ 16
+      → IsAccepted (allocate size type (x .state)) ↔ ((a : ℕ) × FreeRun x a (16 + size))
+  has-room size type l u fits = go (allocate-returns size type fits)
+    where
+      go : Returns size type → IsAccepted (allocate size type (x .state)) ↔ ((a : ℕ) × FreeRun x a (16 + size))
+      go (six z f) = absurd (omega arith)
+      go (eight f n) =
+          ((λ (e : IsAccepted (allocate size type (x .state))). absurd (omega arith)), λ (w : (a : ℕ) × FreeRun x a (16 + size)). absurd (n (w .0) (w .1)))
+      go (nought f a r) = ((λ e. (a, r)), λ w. f)
+
+  has-none : (size type : ℕ) → 0 < size → size < 2 ^ 32 → type < 2 ^ 16
+      → (returned (allocate size type (x .state) .answer) ≡ 8) ↔ ((a : ℕ) → FreeRun x a (16 + size) → ⊥)
+  has-none size type l u fits = go (allocate-returns size type fits)
+    where
+      go : Returns size type → (returned (allocate size type (x .state) .answer) ≡ 8) ↔ ((a : ℕ) → FreeRun x a (16 + size) → ⊥)
+      go (six z f) = absurd (omega arith)
+      go (eight f n) = ((λ e. n), λ w. f)
+      go (nought f a r) =
+          ((λ (e : returned (allocate size type (x .state) .answer) ≡ 8). absurd (omega arith)), λ (w : (b : ℕ) → FreeRun x b (16 + size) → ⊥). absurd (w a r))
+
+  pub holds-all : Holds s x
+  holds-all =
+      record {
+        slot-exponent = exponent-is (i .laid);
+        byte-counts = λ o m. i .laid .fine (headerOf o) o (at-place o m) .counted;
+        header-places = places-apart (x .heap) (i .laid .distinct);
+        entries = two-places (x .heap) _ (i .laid .distinct) two-entries;
+        pointers = two-places (x .heap) _ (i .laid .distinct) two-owners;
+        leads = leads-to;
+        frees = free-iff;
+        loads = load-iff;
+        stores = store-iff;
+        fills = fill-iff;
+        copies = copy-iff;
+        reads = load-value;
+        no-conflict = never-nine;
+        room = has-room;
+        no-space = has-none;
+      }
+
+  -- the tally meets no unsound header either
+  tally-never : (c : Counted) (n : ℕ) → (c ≡ counted.Unsound → ⊥) → tallyReturned (tallyCounted c n) ≡ 7 → ⊥
+  unfolding tallyCounted
+  tally-never (counted.Counts a b) n f e = omega arith
+  tally-never counted.Unsound n f e = f refl
+
+  pub meets-no-unsound : MeetsNoUnsound (x .state)
+  meets-no-unsound =
+      record {
+        allocates = never-seven;
+        tallies =
+            λ e.
+            tally-never (countBlocks (x .state .image)) (length (x .state .image)) (counts (x .state .image) (i .laid .layout) (i .laid .placed))
+            (sym (ap tallyReturned (tally-counts s (x .state) (opens i))) ∙ e);
+      }
+
+  pub tidy : Tidy (x .state .image)
+  tidy =
+      record {
+        apart = no-neighbours (x .state .image) (i .laid .layout) (i .laid .placed);
+        free-zero = free-zero (x .state .image) (i .laid .layout) (i .laid .placed);
+        tail-zero = tail-zero (x .state .image) (i .laid .layout) (i .laid .placed);
+      }
+
+-- The claims.
+
+pub demand3 : Demand3
+unfolding Demand3
+demand3 s x e calls a = holds-all (after calls (begun s x)) (keeps calls (begun s x) (begins s x e) a)
+
+pub never-unsound : NeverUnsound
+unfolding NeverUnsound
+never-unsound s x e calls a = meets-no-unsound (after calls (begun s x)) (keeps calls (begun s x) (begins s x e) a)
+
+pub stays-tidy : StaysTidy
+unfolding StaysTidy
+stays-tidy s x e calls a = tidy (after calls (begun s x)) (keeps calls (begun s x) (begins s x e) a)
+
+-- the abstract heap hears of an answer only after allocate and move
+pub hears-no-other : HearsNoOther
+unfolding HearsNoOther hear
+hears-no-other heap (allocates size type) a a′ e = let z : _≡_ {A = ℕ} 0 1 = cc in absurd (omega arith)
+hears-no-other heap (frees p) a a′ e = refl
+hears-no-other heap (moves p d) a a′ e = let z : _≡_ {A = ℕ} 0 1 = cc in absurd (omega arith)
+hears-no-other heap (loads p width) a a′ e = refl
+hears-no-other heap (stores p width v) a a′ e = refl
+hears-no-other heap (fills p n byte) a a′ e = refl
+hears-no-other heap (copies t p n) a a′ e = refl
+
+-- a refusal changes nothing
+call-keeps : (c : Call) (x : State) → (IsAccepted (step c x) → ⊥) → (step c x .after ≡ x) × (value (step c x .answer) ≡ 0)
+call-keeps (allocates size type) x n = allocate-keeps size type x n
+call-keeps (frees p) x n = free-keeps p x n
+call-keeps (moves p d) x n = move-keeps p d x n
+call-keeps (loads p width) x n = load-keeps p width x n
+call-keeps (stores p width v) x n = store-keeps p width v x n
+call-keeps (fills p n byte) x f = fill-keeps p n byte x f
+call-keeps (copies t p n) x f = copy-keeps t p n x f
+
+pub refusals-keep : RefusalsKeep
+refusals-keep = record { set-up = set-up-keeps; calls = call-keeps }

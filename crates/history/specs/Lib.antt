@@ -1,0 +1,5 @@
+-- definitions
+pub mod Lists
+pub mod Heap
+-- claims
+pub mod History
