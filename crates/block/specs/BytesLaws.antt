@@ -37,6 +37,11 @@ decode-bound (b ∷ bs) h = omega (arith, pow-suc 256 (length bs), decode-bound 
 
 -- fields
 
+-- a field is what its bytes are
+pub field-bytes : (image : List ℕ) (at w : ℕ) → field image at w ≡ decode (take w (drop at image))
+unfolding field
+field-bytes image at w = refl
+
 -- a field of no bytes
 pub field-zero : (image : List ℕ) (at : ℕ) → field image at 0 ≡ 0
 unfolding field decode

@@ -1,75 +1,398 @@
-// Document 01's examples that are run: the frame rows without a mark, and the ends of moving, at the slot exponent 6.
-use frame::Moved;
-use frame::Pointer;
-use frame::Reach;
+// Document 01's cases that are run: those of "Arithmetic by example" without a mark, the ends of moving, and each row of the
+// refusal table at least once. The slot exponent is 6.
 use libc::STDOUT_FILENO;
-
-const SLOT_EXPONENT: u32 = 6;
+use store::Answer;
 
 fn text(t: &[u8]) {
     io::write_all(STDOUT_FILENO, t);
 }
 
-// A pointer in hexadecimal, by its 16 digits.
-fn print_pointer(word: u64) {
-    text(b"0x");
-    io::print_hex(STDOUT_FILENO, word, 16);
-}
-
-enum Answer {
-    Pointer(u64),
-    Refused(u64),
-}
-
-// The pointer moved, or document 01's refusal number.
-fn moved(word: u64, distance: i64) -> Answer {
-    let p = Pointer::unpack(word);
-    match p.reach(SLOT_EXPONENT) {
-        Reach::BadTag => Answer::Refused(10),
-        Reach::Within(n) => match p.moved(n, distance) {
-            Moved::Outside => Answer::Refused(12),
-            Moved::To(q) => Answer::Pointer(q.pack()),
-        },
-    }
-}
-
-fn show_move(name: &[u8], word: u64, distance: i64) {
-    print_pointer(word);
-    text(b" move ");
+// A line: what was done, the returned number, and the value.
+fn line(name: &[u8], a: Answer) {
     text(name);
     text(b": ");
-    match moved(word, distance) {
-        Answer::Pointer(q) => print_pointer(q),
-        Answer::Refused(n) => {
-            io::print_decimal(STDOUT_FILENO, n);
-        }
-    }
+    io::print_decimal(STDOUT_FILENO, a.returned() as u64);
+    text(b" 0x");
+    io::print_hex(STDOUT_FILENO, a.value(), 16);
     text(b"\n");
 }
 
+// Each call with its line.
+
+fn set_up(name: &[u8], image: &mut [u8], table: &mut [u64], s: u32) {
+    line(name, store::set_up(image, table, s));
+}
+
+fn allocate(name: &[u8], image: &mut [u8], table: &mut [u64], size: u32) {
+    line(name, store::allocate(image, table, size, 1));
+}
+
+fn free(name: &[u8], image: &mut [u8], table: &mut [u64], pointer: u64) {
+    line(name, store::free(image, table, pointer));
+}
+
+fn offset(name: &[u8], image: &[u8], table: &[u64], pointer: u64, distance: i64) {
+    line(name, store::offset(image, table, pointer, distance));
+}
+
+fn load(name: &[u8], image: &[u8], table: &[u64], pointer: u64, width: u64) {
+    line(name, store::load(image, table, pointer, width));
+}
+
+fn put(name: &[u8], image: &mut [u8], table: &[u64], pointer: u64, width: u64, value: u64) {
+    line(name, store::store(image, table, pointer, width, value));
+}
+
+fn fill(name: &[u8], image: &mut [u8], table: &[u64], pointer: u64, length: u32) {
+    line(name, store::fill(image, table, pointer, length, 7));
+}
+
+fn copy(name: &[u8], image: &mut [u8], table: &[u64], target: u64, source: u64, length: u32) {
+    line(name, store::copy(image, table, target, source, length));
+}
+
+// Rows 1, 2 and 3.
+fn set_ups(image: &mut [u8], table: &mut [u64]) {
+    set_up(b"set-up, s = 5", image, table, 5);
+    set_up(b"set-up, s = 16", image, table, 16);
+}
+
+// On the first bytes of the image alone.
+fn set_up_part(name: &[u8], image: &mut [u8], table: &mut [u64], bytes: usize) {
+    if bytes <= image.len() {
+        set_up(name, &mut image[..bytes], table, 6);
+    }
+}
+
+// With the first entries of the table alone.
+fn set_up_few(name: &[u8], image: &mut [u8], table: &mut [u64], entries: usize) {
+    if entries <= table.len() {
+        set_up(name, image, &mut table[..entries], 6);
+    }
+}
+
+fn short(image: &mut [u8], table: &mut [u64]) {
+    set_up_part(b"set-up, L = 63", image, table, 63);
+    set_up_few(b"set-up, 383 entries", image, table, 383);
+}
+
+fn fresh(image: &mut [u8], table: &mut [u64]) {
+    set_up(b"set-up, 384 entries", image, table, 6);
+    allocate(b"allocate of 10", image, table, 10);
+}
+
+// The object of 10 bytes at 32.
+fn loads(image: &[u8], table: &[u64]) {
+    load(b"load of 8 at 34", image, table, 0x8010_0000_0000_0022, 8);
+    load(b"load of 8 at 35", image, table, 0x8010_0000_0000_0023, 8);
+    load(b"load of 1 at 31", image, table, 0x8010_0000_0000_001F, 1);
+    load(b"load of 3 at 32", image, table, 0x8010_0000_0000_0020, 3);
+}
+
+fn stores(image: &mut [u8], table: &[u64]) {
+    put(
+        b"store of 256 in 1 at 41",
+        image,
+        table,
+        0x8010_0000_0000_0029,
+        1,
+        256,
+    );
+    put(
+        b"store of 255 in 1 at 41",
+        image,
+        table,
+        0x8010_0000_0000_0029,
+        1,
+        255,
+    );
+    put(
+        b"store of 1 in 1 at 42",
+        image,
+        table,
+        0x8010_0000_0000_002A,
+        1,
+        1,
+    );
+    fill(b"fill of 1 at 40", image, table, 0x8010_0000_0000_0028, 1);
+    load(b"load of 2 at 40", image, table, 0x8010_0000_0000_0028, 2);
+}
+
+// Copies inside that object, overlapping both ways.
+fn copies_up(image: &mut [u8], table: &[u64]) {
+    put(
+        b"store of 0x04030201 in 4 at 32",
+        image,
+        table,
+        0x8010_0000_0000_0020,
+        4,
+        0x0403_0201,
+    );
+    copy(
+        b"copy of 4 from 32 to 34",
+        image,
+        table,
+        0x8010_0000_0000_0022,
+        0x8010_0000_0000_0020,
+        4,
+    );
+    load(b"load of 8 at 32", image, table, 0x8010_0000_0000_0020, 8);
+}
+
+fn copies_down(image: &mut [u8], table: &[u64]) {
+    copy(
+        b"copy of 4 from 34 to 33",
+        image,
+        table,
+        0x8010_0000_0000_0021,
+        0x8010_0000_0000_0022,
+        4,
+    );
+    load(b"load of 8 at 32", image, table, 0x8010_0000_0000_0020, 8);
+    copy(
+        b"copy of 0 from 34 to 33",
+        image,
+        table,
+        0x8010_0000_0000_0021,
+        0x8010_0000_0000_0022,
+        0,
+    );
+    copy(
+        b"copy of 4 from 39 to 33",
+        image,
+        table,
+        0x8010_0000_0000_0021,
+        0x8010_0000_0000_0027,
+        4,
+    );
+}
+
+// Moves of its pointer, in the slot from 0 to 63, and in the last slot of the 48 bits.
+fn small_moves(image: &[u8], table: &[u64]) {
+    offset(b"move by -33", image, table, 0x8010_0000_0000_0020, -33);
+    offset(b"move by 0", image, table, 0x8010_0000_0000_0020, 0);
+    offset(
+        b"move by 2^63-1",
+        image,
+        table,
+        0x8010_0000_0000_0020,
+        9223372036854775807,
+    );
+    offset(
+        b"move by -2^63",
+        image,
+        table,
+        0x8010_0000_0000_0020,
+        -9223372036854775808,
+    );
+    offset(b"last slot, by 0", image, table, 0x8000_FFFF_FFFF_FFFF, 0);
+    offset(b"last slot, by 1", image, table, 0x8000_FFFF_FFFF_FFFF, 1);
+    offset(
+        b"last slot, by -63",
+        image,
+        table,
+        0x8000_FFFF_FFFF_FFFF,
+        -63,
+    );
+    offset(
+        b"last slot, by -64",
+        image,
+        table,
+        0x8000_FFFF_FFFF_FFFF,
+        -64,
+    );
+}
+
+// Moves of large-framed pointers.
+fn large_moves(image: &[u8], table: &[u64]) {
+    offset(
+        b"frame of 2^8 bytes, by 113",
+        image,
+        table,
+        0x0008_0000_0000_008E,
+        113,
+    );
+    offset(
+        b"frame of 2^8 bytes, by 114",
+        image,
+        table,
+        0x0008_0000_0000_008E,
+        114,
+    );
+    offset(
+        b"frame of 2^8 bytes, by -142",
+        image,
+        table,
+        0x0008_0000_0000_008E,
+        -142,
+    );
+    offset(
+        b"frame of 2^8 bytes, by -143",
+        image,
+        table,
+        0x0008_0000_0000_008E,
+        -143,
+    );
+    offset(
+        b"frame of 2^31 bytes, by 2^31-1",
+        image,
+        table,
+        0x001F_0000_0000_0000,
+        2147483647,
+    );
+    offset(
+        b"frame of 2^31 bytes, by 2^31",
+        image,
+        table,
+        0x001F_0000_0000_0000,
+        2147483648,
+    );
+}
+
+// Tag numbers at the ends of their range.
+fn tags(image: &[u8], table: &[u64]) {
+    offset(
+        b"small, tag number 63",
+        image,
+        table,
+        0x803F_0000_0000_0000,
+        0,
+    );
+    offset(
+        b"small, tag number 64",
+        image,
+        table,
+        0x8040_0000_0000_0000,
+        0,
+    );
+    offset(
+        b"large, tag number 6",
+        image,
+        table,
+        0x0006_0000_0000_0000,
+        0,
+    );
+    offset(
+        b"large, tag number 7",
+        image,
+        table,
+        0x0007_0000_0000_0000,
+        0,
+    );
+    offset(
+        b"large, tag number 31",
+        image,
+        table,
+        0x001F_0000_0000_0000,
+        0,
+    );
+    offset(
+        b"large, tag number 32",
+        image,
+        table,
+        0x0020_0000_0000_0000,
+        0,
+    );
+}
+
+// Rows 11 and 15, and a free that is accepted once.
+fn frees(image: &mut [u8], table: &mut [u64]) {
+    free(b"free at 33", image, table, 0x8010_0000_0000_0021);
+    free(
+        b"free through an entry that is zero",
+        image,
+        table,
+        0x0007_0000_0000_0020,
+    );
+    free(b"free at 32", image, table, 0x8010_0000_0000_0020);
+    free(b"free at 32 again", image, table, 0x8010_0000_0000_0020);
+}
+
+// Rows 4 and 5.
+fn load_part(name: &[u8], image: &[u8], table: &[u64], bytes: usize) {
+    if bytes <= image.len() {
+        load(name, &image[..bytes], table, 0x8010_0000_0000_0020, 1);
+    }
+}
+
+fn load_few(name: &[u8], image: &[u8], table: &[u64], entries: usize) {
+    if entries <= table.len() {
+        load(name, image, &table[..entries], 0x8010_0000_0000_0020, 1);
+    }
+}
+
+fn closed(image: &[u8], table: &[u64]) {
+    load_part(b"load in 15 bytes", image, table, 15);
+    load_part(b"load in 1023 bytes", image, table, 1023);
+    load_few(b"load with 383 entries", image, table, 383);
+}
+
+// Rows 6 and 8.
+fn sizes(image: &mut [u8], table: &mut [u64]) {
+    allocate(b"allocate of 0", image, table, 0);
+    allocate(b"allocate of 993", image, table, 993);
+    allocate(b"allocate of 2^32-1", image, table, 4294967295);
+}
+
+// Row 9, and a header place near 2^64.
+fn note(table: &mut [u64], entry: u64) {
+    if 0 < table.len() {
+        table[0] = entry;
+    }
+}
+
+fn taken(image: &mut [u8], table: &mut [u64]) {
+    note(table, 18446744073709551615);
+    allocate(b"allocate of 32, entry 0 not zero", image, table, 32);
+    load(
+        b"load through entry 0",
+        image,
+        table,
+        0x0007_0000_0000_0020,
+        1,
+    );
+}
+
+// Row 7: a header of kind 9.
+fn damage(image: &mut [u8], at: usize, byte: u8) {
+    if at < image.len() {
+        image[at] = byte;
+    }
+}
+
+fn damaged(image: &mut [u8], table: &mut [u64]) {
+    damage(image, 20, 9);
+    allocate(b"allocate of 10, unsound header", image, table, 10);
+}
+
+fn begin(image: &mut [u8], table: &mut [u64]) {
+    set_ups(image, table);
+    short(image, table);
+    fresh(image, table);
+}
+
+fn access(image: &mut [u8], table: &[u64]) {
+    loads(image, table);
+    stores(image, table);
+    copies_up(image, table);
+    copies_down(image, table);
+}
+
+fn end(image: &mut [u8], table: &mut [u64]) {
+    frees(image, table);
+    sizes(image, table);
+    taken(image, table);
+    damaged(image, table);
+}
+
 fn main() {
-    // from the slot of document 01's first object: the slot is 0 to 63
-    show_move(b"-33", 0x8010_0000_0000_0020, -33);
-    show_move(b"0", 0x8010_0000_0000_0020, 0);
-    show_move(b"+2^63-1", 0x8010_0000_0000_0020, 9223372036854775807);
-    show_move(b"-2^63", 0x8010_0000_0000_0020, -9223372036854775808);
-    // large-framed: the frame of 2^8 bytes from 0 to 255
-    show_move(b"+113", 0x0008_0000_0000_008E, 113);
-    show_move(b"+114", 0x0008_0000_0000_008E, 114);
-    show_move(b"-142", 0x0008_0000_0000_008E, -142);
-    show_move(b"-143", 0x0008_0000_0000_008E, -143);
-    // the last slot of the 48 bits
-    show_move(b"0", 0x8000_FFFF_FFFF_FFFF, 0);
-    show_move(b"+1", 0x8000_FFFF_FFFF_FFFF, 1);
-    show_move(b"-63", 0x8000_FFFF_FFFF_FFFF, -63);
-    show_move(b"-64", 0x8000_FFFF_FFFF_FFFF, -64);
-    show_move(b"+2^48-1", 0x801F_0000_0000_0000, 281474976710655);
-    show_move(b"+2^31-1", 0x001F_0000_0000_0000, 2147483647);
-    show_move(b"+2^31", 0x001F_0000_0000_0000, 2147483648);
-    // tag numbers at the ends of their range
-    show_move(b"0", 0x803F_0000_0000_0000, 0);
-    show_move(b"0", 0x8040_0000_0000_0000, 0);
-    show_move(b"0", 0x0006_0000_0000_0000, 0);
-    show_move(b"0", 0x0007_0000_0000_0000, 0);
-    show_move(b"0", 0x0020_0000_0000_0000, 0);
+    let mut image = [7u8; 1024];
+    let mut table = [9u64; 384];
+    begin(&mut image, &mut table);
+    access(&mut image, &table);
+    small_moves(&image, &table);
+    large_moves(&image, &table);
+    tags(&image, &table);
+    closed(&image, &table);
+    end(&mut image, &mut table);
 }

@@ -6,5 +6,4 @@ pub mod Tags
 pub mod FrameLaws
 pub mod PointerLaws
 pub mod TagLaws
--- worked examples
-pub mod Examples
+pub mod ObjectLaws

@@ -1,6 +1,6 @@
 -- Laws of tagged pointers. Assumes nothing.
 use Prim.Native.Nat.{ℕ, zero, suc, _+_, _*_, _/_, _%_, _^_, _≤_, _<_}
-use mathlib.Core.Path.{_≡_, refl, sym, ap, _∙_, subst}
+use mathlib.Core.Path.{_≡_, refl, sym, subst}
 use mathlib.Core.Bool.{Bool, true, false, cond, _&&_}
 use native.Mathlib.Nat.{mod-lt}
 use native.Mathlib.Omega.{arith}
@@ -11,15 +11,15 @@ use borrow.Author.Tests.{eq-eqb, ne-eqb, eqb-true, ltb-true, leb-true}
 use Rattle.frame.specs.Frame.{sameFrame}
 use Rattle.frame.specs.Pointers.{bit, unpack, pack, InRange, goodTag, reach, reachOf, at, landed, moved}
 use Rattle.frame.specs.declared.parts.Pointer.{Pointer}
-use Rattle.frame.specs.declared.parts.Moved.{Moved}
 use Rattle.frame.specs.declared.parts.Moved.the-variants.{To, Outside}
 use Rattle.frame.specs.declared.parts.Reach.the-variants.{Within, BadTag}
 
-and-left : (a b : Bool) → a && b ≡ true → a ≡ true
+-- a conjunction, taken apart
+pub and-left : (a b : Bool) → a && b ≡ true → a ≡ true
 and-left true b e = refl
 and-left false b e = e
 
-and-right : (a b : Bool) → a && b ≡ true → b ≡ true
+pub and-right : (a b : Bool) → a && b ≡ true → b ≡ true
 and-right true b e = e
 and-right false b e = let z : _≡_ {A = ℕ} 0 1 = cc in absurd (omega arith)
 
@@ -61,6 +61,16 @@ pack-unpack word h = let b = flag-bit (word / 2 ^ 63) (omega arith) in omega ari
 pub pack-word : (p : Pointer) → InRange p → pack p < 2 ^ 64
 unfolding pack
 pack-word p r = let b = bit-small (p .flag) in let t = r .tag in let a = r .address in omega arith
+
+-- The address says nothing about the tag.
+
+pub good-at : (s : ℕ) (p : Pointer) (a : ℕ) → goodTag s (at p a) ≡ goodTag s p
+unfolding goodTag
+good-at s p a = refl
+
+pub reach-at : (s : ℕ) (p : Pointer) (a : ℕ) → reach s (at p a) ≡ reach s p
+unfolding reach
+reach-at s p a = refl
 
 -- A good tag number, taken apart.
 
@@ -147,3 +157,7 @@ moved-to p q n d h = landed-to p q n d (pos (p .address) +ℤ d) refl h
 
 pub moved-range : (p q : Pointer) (n : ℕ) (d : ℤ) → InRange p → moved p n d ≡ To q → InRange q
 moved-range p q n d r h = let m = moved-to p q n d h in record { tag = rw (m .tag) (r .tag); address = m .address }
+
+-- a moved pointer is the same one at another address
+pub moved-at : (p q : Pointer) (n : ℕ) (d : ℤ) → moved p n d ≡ To q → q ≡ at p (q .address)
+moved-at p q n d e = let m = moved-to p q n d e in λ i. record { flag = m .flag i; tag = m .tag i; address = q .address }

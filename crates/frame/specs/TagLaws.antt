@@ -1,18 +1,18 @@
 -- Laws of wrapper frames, tags and table entries. Assumes nothing.
 use Prim.Native.Nat.{ℕ, _+_, _-_, _*_, _/_, _%_, _^_, _≤_, _<_}
-use mathlib.Core.Path.{_≡_, refl, sym, ap, _∙_, subst}
+use mathlib.Core.Path.{_≡_, refl, sym, ap, _∙_}
 use mathlib.Core.Bool.{Bool, true, false, cond, _&&_, not}
 use mathlib.Core.Logic.{_↔_}
 use native.Mathlib.Nat.{le-refl, lt-of-not-le, lt-of-lt-of-le, mod-lt, mod-eq-sub-div-mul, div-mul-le-self, mul-assoc, mul-div-cancel, eq-of-mul-eq-mul-right}
 use native.Mathlib.Decide.{ℕ-discrete}
 use native.Mathlib.Omega.{arith}
-use lib.Dec.{leb, ltb, eqb}
+use lib.Dec.{leb, eqb}
 use lib.Pow.{pow-pos, pow-add, pow-mono, shr-mono}
-use borrow.Author.Tests.{le-leb, lt-leb, leb-true, leb-false, eq-eqb, ne-eqb, lt-ltb}
-use Rattle.frame.specs.Frame.{frameNumber, frameStart, sameFrame}
+use borrow.Author.Tests.{le-leb, lt-leb, leb-true, leb-false, eq-eqb, ne-eqb, eqb-true, lt-ltb}
+use Rattle.frame.specs.Frame.{frameStart, sameFrame}
 use Rattle.frame.specs.FrameLaws.{number-iff, number-least, between, frames-apart}
-use Rattle.frame.specs.Pointers.{InRange, goodTag, reach}
-use Rattle.frame.specs.PointerLaws.{good-large}
+use Rattle.frame.specs.Pointers.{InRange, goodTag, reach, at}
+use Rattle.frame.specs.PointerLaws.{and-left, and-right, good-large}
 use Rattle.frame.specs.Tags.{firstHeld, lastHeld, wrapper, isSmall, tagNumber, pointerTo, tagMatches, usedEntries, entryAt, entryOf, tagged}
 use Rattle.frame.specs.declared.parts.Pointer.{Pointer}
 use Rattle.frame.specs.declared.tag.Tagged.the-variants.{Small, Large}
@@ -105,6 +105,11 @@ entry-used s n L a u k =
     let q = shr-mono {a = frameStart n a} {b = L - 1} (s + 1) (omega arith) in
     omega arith
 
+-- so the entry of an object that lies in the image is one
+pub object-entry-used : (s L h size : ℕ) → h + 16 + size ≤ L → L ≤ 2 ^ 30 → entryOf s h size < usedEntries s L
+object-entry-used s L h size l u =
+    entry-used s (wrapper h size) L h (wrapper-at-most h size (omega arith)) (omega (arith, div-mul-le-self h (2 ^ wrapper h size)))
+
 -- The tag.
 
 small-test : (n h size : ℕ) → leb (wrapper h size) n ≡ sameFrame n (firstHeld h) (lastHeld h size)
@@ -174,6 +179,16 @@ pub pointer-large : (s h size : ℕ) → s < wrapper h size → pointerTo s h si
 unfolding pointerTo tagNumber
 pointer-large s h size l = rw (lt-leb (wrapper h size) s l)
 
+-- its address is the start of the body
+pub pointer-address : (s h size : ℕ) → pointerTo s h size .address ≡ h + 16
+unfolding pointerTo
+pointer-address s h size = refl
+
+-- with that address it is the same pointer
+pub pointer-at : (s h size : ℕ) → at (pointerTo s h size) (h + 16) ≡ pointerTo s h size
+unfolding pointerTo
+pointer-at s h size = refl
+
 -- an object is small-framed or large-framed
 pub by-frame : {P : Type 0} (s h size : ℕ) → (wrapper h size ≤ s → P) → (s < wrapper h size → P) → P
 by-frame {P} s h size small large = go (leb (wrapper h size) s) refl
@@ -216,6 +231,26 @@ pointer-matches s h size = go (isSmall s h size)
     go : (b : Bool) → cond b b (not b) && eqb (tagNumber s h size) (tagNumber s h size) ≡ true
     go true = eq-eqb (tagNumber s h size) (tagNumber s h size) refl
     go false = eq-eqb (tagNumber s h size) (tagNumber s h size) refl
+
+-- the address says nothing about them
+pub matches-at : (s h size : ℕ) (p : Pointer) (a : ℕ) → tagMatches s h size (at p a) ≡ tagMatches s h size p
+unfolding tagMatches
+matches-at s h size p a = refl
+
+-- a flag that matches
+flag-of : (b f : Bool) → cond f b (not b) ≡ true → f ≡ b
+flag-of true true e = refl
+flag-of true false e = e
+flag-of false true e = sym e
+flag-of false false e = refl
+
+-- a pointer that has them is the object's, but for the address
+pub matches-pointer : (s h size : ℕ) (p : Pointer) → tagMatches s h size p ≡ true → p ≡ at (pointerTo s h size) (p .address)
+unfolding tagMatches pointerTo
+matches-pointer s h size p e =
+    let f : p .flag ≡ isSmall s h size = flag-of (isSmall s h size) (p .flag) (and-left _ (eqb (tagNumber s h size) (p .tag)) e) in
+    let t : p .tag ≡ tagNumber s h size = sym (eqb-true _ _ (and-right (cond (p .flag) (isSmall s h size) (not (isSmall s h size))) _ e)) in
+    λ i. record { flag = f i; tag = t i; address = p .address }
 
 -- and with its entry
 

@@ -21,6 +21,7 @@ use Rattle.block.specs.WalkLaws.{first-fit-lowest, first-fit-unsound, first-fit
 use Rattle.block.specs.declared.walk.Fit.{Fit}
 use Rattle.block.specs.declared.walk.Fit.the-variants as fit
 use Rattle.store.specs.Calls.{carved}
+use Rattle.store.specs.Written.{carved-whole, carved-rest}
 use Rattle.history.proofs.Gaps.{Block, extent, Layout, last, item, zeros, gapBytes, blockBytes, render, GapOk, BlockOk, lookup, blockAt, Placed, Remade, Clear}
 use Rattle.history.proofs.Looks.{gap, regap, gap-ok, gap-le, regap-ok, regap-size, look-first, look-regap, look-inside, look-before}
 use Rattle.history.proofs.Rendered.{after, gap-none, gap-some, gap-free, gap-extent, block-not-free, render-regap, gap-cut, Part}
@@ -117,7 +118,7 @@ carve-whole P A h g n type e le =
 -- the carved image is the layout's with the new block
 carve-bytes : (image : List ℕ) (h : ℕ) (l : Layout) → Part image h l → (n type : ℕ) → 16 + n ≤ gap l
     → carved image h n type ≡ take h image ++ render (placed-in n type l)
-unfolding carved left over
+unfolding left over
 carve-bytes image h l p n type le =
     let x : extentAt image h ≡ gap l = gap-extent image h l p (omega arith) in
     let c : image ≡ take h image ++ (freeHeader (gap l) ++ (zeros (gap l - 16) ++ after l)) =
@@ -125,9 +126,13 @@ carve-bytes image h l p n type le =
     in
     let s : length (take h image) ≡ h = length-take-le h image (omega (arith, p .whole)) in
     byBool (ltb (gap l - (16 + n)) 16)
-    (λ t. rw (x, render-placed n type l, t, gap-none)
+    (λ t.
+    carved-whole image h n type (gap l) (sym x) (ltb-true (gap l - (16 + n)) 16 t)
+    ∙ rw (render-placed n type l, t, gap-none)
     (ap (λ (q : List ℕ). put q h (liveHeader (gap l) type n)) c ∙ carve-whole (take h image) (after l) h (gap l) n type s le))
-    (λ t. rw (x, render-placed n type l, t)
+    (λ t.
+    carved-rest image h n type (gap l) (sym x) (ltb-false (gap l - (16 + n)) 16 t)
+    ∙ rw (render-placed n type l, t)
     (ap (λ (q : List ℕ). put (put q h (liveHeader (16 + n) type n)) (h + (16 + n)) (freeHeader (gap l - (16 + n)))) c
     ∙ carve-part (take h image) (after l) h (gap l) n type s (omega (arith, ltb-false (gap l - (16 + n)) 16 t))))
 

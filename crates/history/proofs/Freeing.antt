@@ -5,33 +5,35 @@ use mathlib.Core.Bool.{Bool, true, false, cond, _||_}
 use mathlib.Core.List.{List, _++_}
 use mathlib.Core.Option.{none}
 use native.Mathlib.Omega.{arith}
-use lib.ListN.{length, take, drop, length-append, length-replicate}
+use lib.ListN.{length, take, drop}
 use lib.Dec.{leb, eqb}
-use borrow.Author.Tests.{le-leb, lt-ltb, le-ltb, eq-eqb, eqb-true, eqb-false}
-use Rattle.block.specs.Tests.{byBool, and-false}
-use Rattle.block.specs.Layout.{freeHeader, sound, isFree}
-use Rattle.block.specs.LayoutLaws.{length-header}
+use borrow.Author.Tests.{le-leb, eq-eqb, eqb-true, eqb-false}
+use Rattle.block.specs.Tests.{byBool}
+use Rattle.block.specs.Layout.{freeHeader, sound, isFree, extentAt}
 use Rattle.block.specs.Walk.{stopped, walk, reaching, metOf, walkTo}
 use Rattle.block.specs.WalkLaws.{walk-stopped}
 use Rattle.block.specs.declared.walk.Met.the-variants as met
 use Rattle.store.specs.Calls.{released, mergeStart, mergeEnd, merged}
+use Rattle.store.specs.Rows.{merge-start-here, merge-start-free, merge-end-last, merge-end-free, merge-end-live, released-merges}
+use Rattle.store.specs.Written.{merged-parts}
 use Rattle.store.specs.declared.release.Release.the-variants as release
 use Rattle.history.proofs.Gaps.{Block, extent, Layout, last, item, zeros, render, lookup, Remade}
 use Rattle.history.proofs.Looks.{gap, regap, gap-ok, gap-le, regap-ok, regap-size, look-regap, look-before}
-use Rattle.history.proofs.Rendered.{Part, part-after, part-next, put-parts, gap-some, gap-free, gap-extent, render-regap, block-sound, block-not-free, block-extent}
+use Rattle.history.proofs.Rendered.{Part, part-after, part-next, gap-some, gap-free, gap-extent, render-regap, block-sound, block-not-free, block-extent}
 use Rattle.history.proofs.Focus.{Crossed, cross-gap, Focus, focus-next, focus-remade, standing-first, standing-sound}
 
 -- the merging ends with the next gap
 merge-end : (image : List ℕ) (h : ℕ) (l : Layout) → Part image h l → mergeEnd image h ≡ h + gap l
-unfolding mergeEnd
-merge-end image h (last zero) p = rw (le-ltb h (length image) (omega (arith, p .whole))) (omega arith)
+merge-end image h (last zero) p = merge-end-last image h (omega (arith, p .whole)) ∙ omega arith
 merge-end image h (last (suc g)) p =
-    rw (lt-ltb h (length image) (omega (arith, p .whole)), gap-free image h (last (suc g)) p (omega arith), gap-extent image h (last (suc g)) p (omega arith))
+    merge-end-free image h (omega (arith, p .whole)) (gap-free image h (last (suc g)) p (omega arith))
+    ∙ ap (λ (n : ℕ). h + n) (gap-extent image h (last (suc g)) p (omega arith))
 merge-end image h (item zero b l) p =
     let n : isFree image h ≡ false = ap (isFree image) (omega arith) ∙ block-not-free image h 0 b l p in
-    rw (n, and-false) (omega arith)
+    merge-end-live image h n ∙ omega arith
 merge-end image h (item (suc g) b l) p =
-    rw (lt-ltb h (length image) (omega (arith, p .whole)), gap-free image h (item (suc g) b l) p (omega arith), gap-extent image h (item (suc g) b l) p (omega arith))
+    merge-end-free image h (omega (arith, p .whole)) (gap-free image h (item (suc g) b l) p (omega arith))
+    ∙ ap (λ (n : ℕ). h + n) (gap-extent image h (item (suc g) b l) p (omega arith))
 
 or-right : (a b : Bool) → b ≡ true → a || b ≡ true
 or-right true b e = refl
@@ -63,15 +65,14 @@ module _ (image : List ℕ) (l : Layout) (k g : ℕ) (b : Block) (m : Layout) (f
 
   -- the merging starts with the block's gap
   merge-start : mergeStart image (crossed .latest) (k + g) ≡ k
-  unfolding mergeStart
   merge-start =
       byBool (eqb g 0)
       (λ e. let z : g ≡ 0 = eqb-true g 0 e in
-      ap (λ (a : ℕ). mergeStart image a (k + g)) (crossed .none-there z) ∙ rw (f .settled) (omega arith))
+      ap (λ (a : ℕ). mergeStart image a (k + g)) (crossed .none-there z) ∙ merge-start-here image (k + g) (f .before) (f .settled) ∙ omega arith)
       (λ e. let n : g ≡ 0 → ⊥ = eqb-false g 0 e in
       let one : 1 ≤ g = omega arith in
       ap (λ (a : ℕ). mergeStart image a (k + g)) (crossed .one-there one)
-      ∙ rw (lt-ltb 0 k (omega (arith, f .part .low)), gap-free image k (item g b m) (f .part) one))
+      ∙ merge-start-free image (k + g) k (omega (arith, f .part .low)) (gap-free image k (item g b m) (f .part) one))
 
   -- the gap that comes of it
   abbrev pub joined : ℕ
@@ -80,21 +81,22 @@ module _ (image : List ℕ) (l : Layout) (k g : ℕ) (b : Block) (m : Layout) (f
   -- what free answers, what it leaves, and which blocks are left
 
   pub free-merges : released image (k + g) (walkTo image (k + g)) ≡ release.Merges (k + g) k (k + joined)
-  unfolding released
   free-merges =
       let n : Focus image l (k + g + extent b) m = focus-next image l k g b m f in
       let e : k + g + extent b + gap m ≡ k + joined = omega arith in
-      rw (meets, block-extent image k g b m (f .part), next-sound image l (k + g + extent b) m n, merge-start, merge-end image (k + g + extent b) m (n .part), e)
+      let x : extentAt image (k + g) ≡ extent b = block-extent image k g b m (f .part) in
+      ap (released image (k + g)) meets
+      ∙ released-merges image (k + g) (crossed .latest) (rw x (next-sound image l (k + g + extent b) m n))
+      ∙ rw (x, merge-start, merge-end image (k + g + extent b) m (n .part), e)
 
   free-bytes : merged image k (k + joined) ≡ take k image ++ render (regap joined m)
-  unfolding merged
   free-bytes =
       let n : Part image (k + g + extent b) m = part-next image k g b m (f .part) in
       let d : k + joined - k ≡ joined = omega arith in
       let e : k + g + extent b + gap m ≡ k + joined = omega arith in
-      let s : length (freeHeader joined ++ zeros (joined - 16)) ≡ joined = simp (length-append, length-header, length-replicate) (omega arith) in
-      rw (d, render-regap joined m, gap-some joined (omega arith))
-      (put-parts image k (freeHeader joined ++ zeros (joined - 16)) _ joined s (omega (arith, n .whole, gap-le m))
+      merged-parts image k (k + joined) (omega arith) (omega (arith, n .whole, gap-le m))
+      ∙ rw (d, render-regap joined m, gap-some joined (omega arith))
+      (ap (λ (q : List ℕ). take k image ++ ((freeHeader joined ++ zeros (joined - 16)) ++ q))
       (ap (λ (i : ℕ). drop i image) (sym e) ∙ part-after image (k + g + extent b) m n))
 
   pub free-remade : Remade image (merged image k (k + joined)) (f .fill (regap joined m))

@@ -6,15 +6,17 @@ use mathlib.Core.List.{List, [], _++_}
 use mathlib.Core.Option.{Option, none, some}
 use native.Mathlib.Omega.{arith}
 use lib.ListN.{length, take, drop, replicate, take-append-drop, length-append, length-drop, length-replicate, getD-replicate, List·getD-append}
-use lib.Seq.{take-at}
 use borrow.Author.Tests.{eq-eqb}
 use Rattle.frame.specs.Pointers.{unpack, pack, goodTag}
 use Rattle.frame.specs.Tags.{pointerTo, usedEntries}
+use Rattle.frame.specs.ObjectLaws.{PointerOf, unpack-address, own-pointer}
 use Rattle.block.specs.Layout.{superblock, superblockGood, slotExponent, isLive, extentAt, sizeAt}
-use Rattle.block.specs.LayoutLaws.{length-superblock, superblock-front, exponent-front}
+use Rattle.block.specs.LayoutLaws.{superblock-front, exponent-front}
 use Rattle.block.specs.declared.header.Header.{Header}
 use Rattle.store.specs.State.{State, state, demand}
-use Rattle.store.specs.Calls.{fresh, opening, headerPlace, leadsBack, located, inBody, accessed}
+use Rattle.store.specs.Calls.{fresh, opening, headerPlace, leadsBack, located, accessed}
+use Rattle.store.specs.CallLaws.{Settable, opening-passes, Stands, Located, located-object, located-leads, located-at, accessed-at}
+use Rattle.store.specs.Written.{fresh-front}
 use Rattle.store.specs.declared.answer.Answer.the-variants.{Accepted}
 use Rattle.store.specs.declared.answer.Refusal.the-variants.{OutOfBounds}
 use Rattle.history.specs.Heap.{Object, Heap, start, holds, ownerOf, inside}
@@ -22,8 +24,6 @@ use Rattle.history.specs.History.{headerOf}
 use Rattle.history.proofs.Gaps.{Block, extent, Layout, last, lookup, blockAt, Placed, Remade}
 use Rattle.history.proofs.Image.{LiveAt, live-at, apart, placed-fresh}
 use Rattle.history.proofs.Heap.{find, Distinct, Owned, owned}
-use Rattle.history.proofs.Good.{Good, answer-address, good-answer, good-tag, good-place, good-leads}
-use Rattle.history.proofs.StoreLaws.{SetUp, opening-passes, located-at, accessed-at}
 use Rattle.history.proofs.Table.{nobody, Tabled, Ranged}
 
 -- what no call changes: the slot exponent and the image's length
@@ -37,7 +37,7 @@ pub record Shape (s L : ℕ) : Type 0 where
 pub record Fine (s k : ℕ) (o : Object) : Type 0 where
   pub answered : o .answer ≡ pack (pointerTo s k (o .size))
   pub counted : length (o .bytes) ≡ o .size
-  pub good : (p : ℕ) → holds o p ≡ true → Good s k (o .size) p
+  pub good : (p : ℕ) → holds o p ≡ true → PointerOf s k (o .size) p
 
 -- what a block and an object must share
 
@@ -102,7 +102,7 @@ module _ {s L : ℕ} {image : List ℕ} {heap : Heap} (i : Laid s L image heap) 
             is-live = eq-eqb _ _ (ap (λ (d : Header). d .kind) (live .header));
             high = high;
             fits = fits;
-            begins = ap (λ (a : ℕ). unpack a .address) (i .fine k o e .answered) ∙ answer-address s k (o .size) (i .shape .exponent-high) fits;
+            begins = ap (λ (a : ℕ). unpack a .address) (i .fine k o e .answered) ∙ unpack-address s k (o .size) (i .shape .exponent-high) fits;
           }
 
   -- a live block of the layout is an object
@@ -184,27 +184,34 @@ module _ {s L : ℕ} {x : State} {heap : Heap} (i : Invariant s L x heap) where
     pub found : located s (unpack p) x ≡ Accepted k
 
   -- each pointer of a live object leads to its header
-  pub leads : (k : ℕ) (o : Object) (p : ℕ) → find heap k ≡ some o → Good s k (o .size) p → Leads k p
+  pub leads : (k : ℕ) (o : Object) (p : ℕ) → find heap k ≡ some o → PointerOf s k (o .size) p → Leads k p
   leads k o p e g =
       let n = known (i .laid) k o e in
-      let tag : goodTag s (unpack p) ≡ true = good-tag s k (o .size) p (i .laid .shape .exponent-high) (n .fits) g in
-      let place : headerPlace s (unpack p) (x .table) ≡ k = good-place s k (o .size) p (x .table) g (i .tabled .placed k o e) in
-      let back : leadsBack s (unpack p) x ≡ true =
-      good-leads s k (o .size) p x g (omega (arith, n .high, i .laid .long)) (n .live .is-sound) (n .is-live) (n .size) place
+      let stands : Stands s x k (o .size) =
+      record {
+        exponent = i .laid .shape .exponent-high;
+        inside = omega (arith, n .high, i .laid .long);
+        short = omega (arith, i .laid .long, i .laid .shape .length-high);
+        is-sound = n .live .is-sound;
+        is-live = n .is-live;
+        size-is = n .size;
+        entry = i .tabled .placed k o e;
+      }
       in
-      record { tag = tag; back = back; place = place; found = located-at s (unpack p) x k tag back place }
+      let l : Located s (unpack p) x k = located-object s x k (o .size) p stands g in
+      record { tag = l .good; back = located-leads s (unpack p) x k l; place = sym (l .place); found = located-at s (unpack p) x k l }
 
   -- allocate's answer leads to its object
   pub answer-leads : (k : ℕ) (o : Object) → find heap k ≡ some o → located s (unpack (o .answer)) x ≡ Accepted k
   answer-leads k o e =
       let n = known (i .laid) k o e in
       leads k o (o .answer) e
-      (rw (i .laid .fine k o e .answered) (good-answer s k (o .size) (i .laid .shape .exponent-high) (n .fits))) .found
+      (rw (i .laid .fine k o e .answered) (own-pointer s k (o .size) (i .laid .shape .exponent-high) (n .fits))) .found
 
   -- n bytes through a pointer: refused exactly where they are not all inside its object
   pub accesses : (p : ℕ) (o : Object) (n : ℕ) → ownerOf heap p ≡ some o
       → accessed s (unpack p) n x ≡ demand (inside o p n) OutOfBounds (Accepted (unpack p .address))
-  unfolding inside inBody
+  unfolding inside
   accesses p o n e =
       let w : Owned heap p o = owned heap p o (i .laid .distinct) e in
       let q = known (i .laid) (headerOf o) o (w .found) in
@@ -213,11 +220,8 @@ module _ {s L : ℕ} {x : State} {heap : Heap} (i : Invariant s L x heap) where
 
 -- Set-up.
 
-fresh-front : (s L : ℕ) → take 16 (fresh s L) ≡ superblock s L
-unfolding fresh
-fresh-front s L = take-at (superblock s L) _ 16 (length-superblock s L)
-
-pub begins-with : (s : ℕ) (x : State) (u : SetUp s x)
+-- what it leaves has the invariant, with no object
+pub begins-with : (s : ℕ) (x : State) (u : Settable s x)
     → Invariant s (length (x .image))
     (state (fresh s (length (x .image))) (replicate (usedEntries s (length (x .image))) 0 ++ drop (usedEntries s (length (x .image))) (x .table))) []
 unfolding find lookup

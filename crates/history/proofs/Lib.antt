@@ -9,13 +9,8 @@ mod Fresh
 mod Fitting
 mod Freeing
 pub mod Image
--- laws of the crates below
-mod FrameMore
-mod BlockMore
-mod StoreLaws
--- heap, pointers and table
+-- heap and table
 mod Heap
-mod Good
 mod Table
 -- demand 3
 mod Invariant

@@ -16,6 +16,7 @@ use Rattle.block.specs.declared.walk.Counted.the-variants as counted
 use Rattle.block.specs.declared.walk.Met.{Met}
 use Rattle.block.specs.declared.walk.Met.the-variants as met
 use Rattle.store.specs.Calls.{released}
+use Rattle.store.specs.Rows.{released-lost}
 use Rattle.store.specs.declared.answer.Refusal.the-variants.{Unsound}
 use Rattle.store.specs.declared.release.Release.the-variants as release
 use Rattle.history.proofs.Gaps.{Block, extent, Layout, last, item, zeros, render, blockAt, Placed}
@@ -86,11 +87,10 @@ module _ (image : List ℕ) (l : Layout) where
   -- where the layout has no block, a live header is not met, and a free of it is refused
   pub not-met : Placed image l → (h : ℕ) → blockAt l h ≡ none → isLive image h ≡ true → (w : Met) → walkTo image h ≡ w
       → released image h w ≡ release.Refused Unsound
-  unfolding released
   not-met p h e r (met.After before) q =
       let m : MeetsBlock image h before = walk-to-meets image h before q in
       absurd (standing-looked h (standing image l p h (m .on-walk)) e (m .is-sound) r)
-  not-met p h e r met.Lost q = refl
+  not-met p h e r met.Lost q = released-lost image h
 
   -- by how the walk ended
   count-sound : Placed image l → (a : Usage) (w : Walked Usage) → walk counting image a ≡ w → countOf w ≡ counted.Unsound → ⊥

@@ -1,7 +1,7 @@
 -- Each call keeps the invariant, and what it answers. Assumes nothing.
-use Prim.Native.Nat.{ℕ, _+_, _-_, _^_, _≤_, _<_}
+use Prim.Native.Nat.{ℕ, _+_, _^_, _≤_, _<_}
 use mathlib.Core.Path.{_≡_, refl, sym, ap, _∙_, subst}
-use mathlib.Core.Bool.{Bool, true, false, cond, _&&_}
+use mathlib.Core.Bool.{true, false, cond, _&&_}
 use mathlib.Core.List.{List, [], _∷_, _++_}
 use mathlib.Core.Option.{Option, none, some}
 use native.Mathlib.Omega.{arith}
@@ -12,33 +12,32 @@ use lib.IntN.{ℤ}
 use borrow.Author.Tests.{eqb-true, eqb-false, leb-true, ltb-true}
 use Rattle.frame.specs.Pointers.{unpack, pack, goodTag, reach, moved}
 use Rattle.frame.specs.Tags.{pointerTo}
+use Rattle.frame.specs.ObjectLaws.{unpack-address, own-pointer, moved-pointer, own-again}
 use Rattle.frame.specs.declared.parts.Pointer.{Pointer}
 use Rattle.frame.specs.declared.parts.Moved.{Moved}
 use Rattle.frame.specs.declared.parts.Moved.the-variants.{To, Outside}
-use Rattle.block.specs.Tests.{byBool, and-left, and-right, and-false}
+use Rattle.block.specs.Tests.{byBool, and-true, and-false, and-left, and-right}
 use Rattle.block.specs.Bytes.{encode, put}
 use Rattle.block.specs.BytesLaws.{length-encode, length-put}
 use Rattle.block.specs.Layout.{sizeAt}
-use Rattle.store.specs.State.{State, state, Outcome, outcome, returned}
+use Rattle.store.specs.State.{State, state, Outcome, outcome, returned, demand}
 use Rattle.store.specs.Calls.{entryFree, carved, noted, merged, located, movedAnswer, goodWidth, allocate, move, load, store, fill, copy, free}
+use Rattle.store.specs.CallLaws.{Located, located-parts}
+use Rattle.store.specs.Claims.{allocates, frees, moves, loads, stores, fills, copies}
+use Rattle.store.specs.Rows.{load-leaves, moved-bad, moved-out, moved-in}
+use Rattle.store.specs.Written.{entry-is-free}
+use Rattle.store.specs.Outcomes.{refuse, through, allocate-empty, allocate-full, allocate-at, move-answer, store-through, store-width, store-large, fill-through, fill-empty, copy-through, copy-empty, free-unread, free-off-base, free-lost, free-merges}
 use Rattle.store.specs.declared.answer.Refusal.{Refusal}
 use Rattle.store.specs.declared.answer.Refusal.the-variants.{Empty, Unsound, NoSpace, BadTag, NotBase}
 use Rattle.store.specs.declared.answer.Answer.{Answer}
 use Rattle.store.specs.declared.answer.Answer.the-variants.{Accepted, Refused}
-use Rattle.history.specs.Lists.{allocates, frees, moves, loads, stores, fills, copies}
 use Rattle.history.specs.Heap.{Object, Heap, start, member, ownerOf, offset, inside, bytesAt, written, pointed, newObject, change, without, write, copied, hear}
 use Rattle.history.specs.History.{In, headerOf}
 use Rattle.history.proofs.Gaps.{Block, Layout, blockAt, Remade, Clear, patched}
 use Rattle.history.proofs.Image.{read-body, Rewritten, write-body, Carved, Fitted, room, full, fitted, Freed, freed, not-freed}
 use Rattle.history.proofs.Heap.{find, none-some, some-same, find-place, find-in, in-find, Owned, owned, find-append, distinct-append, find-change, distinct-change, change-nobody, find-without, distinct-without, without-nobody}
-use Rattle.history.proofs.Good.{answer-address, good-answer, good-moved, answer-again}
-use Rattle.history.proofs.StoreLaws.{refuse, through, load-after, Read, located-read, entry-is-free, allocate-empty, allocate-full, allocate-at, move-answer, store-through, store-width, store-large, fill-through, fill-empty, copy-through, copy-empty, free-unread, free-off-base, free-lost, free-merges}
 use Rattle.history.proofs.Table.{Tabled, added, entry-zero, gone, same-table}
 use Rattle.history.proofs.Invariant.{Fine, Laid, Invariant, bodyIn, bytesIn, known, object-of, no-object, ranged, exponent-is, relaid, agree-cond, opens, answer-leads, accesses}
-
-and-true : (b : Bool) → b && true ≡ b
-and-true true = refl
-and-true false = refl
 
 -- every object is fine after one is put in or changed
 fine-cond : (s : ℕ) (heap new : Heap) (h : ℕ) (o : Object) → ((k : ℕ) → find new k ≡ cond (eqb k h) (some o) (find heap k)) → Fine s h o
@@ -86,7 +85,7 @@ module _ {s L : ℕ} {x : State} {heap : Heap} (i : Invariant s L x heap) where
 
     new-place : headerOf new ≡ h
     unfolding new
-    new-place = omega (arith, answer-address s h size (i .laid .shape .exponent-high) new-fits)
+    new-place = omega (arith, unpack-address s h size (i .laid .shape .exponent-high) new-fits)
 
     new-vacant : find heap h ≡ none
     new-vacant = no-object (i .laid) h (c .vacant)
@@ -104,7 +103,7 @@ module _ {s L : ℕ} {x : State} {heap : Heap} (i : Invariant s L x heap) where
           good =
               λ p m.
               byBool (eqb p (pack (pointerTo s h size)))
-              (λ t. rw (eqb-true p (pack (pointerTo s h size)) t) (good-answer s h size (i .laid .shape .exponent-high) new-fits))
+              (λ t. rw (eqb-true p (pack (pointerTo s h size)) t) (own-pointer s h size (i .laid .shape .exponent-high) new-fits))
               (λ t. let z : _≡_ {A = ℕ} 0 1 = cc in absurd (omega arith));
         }
 
@@ -130,7 +129,7 @@ module _ {s L : ℕ} {x : State} {heap : Heap} (i : Invariant s L x heap) where
     new-given : ltb 0 size ≡ true → Allocated s L x heap i size type
     unfolding new
     new-given e =
-        given h (c .clear) (allocate-at s x (opens i) size type h (exponent-is (i .laid)) e (c .found) new-entry)
+        given h (c .clear) (allocate-at s x (opens i) size type e h (exponent-is (i .laid)) (c .found) new-entry)
         (record { laid = new-laid; tabled = new-tabled })
 
   pub allocated : (size type : ℕ) → type < 2 ^ 16 → Allocated s L x heap i size type
@@ -200,12 +199,12 @@ module _ {s L : ℕ} {x : State} {heap : Heap} (i : Invariant s L x heap) where
       found : (h : ℕ) (b : Block) (o : Object) → located s (unpack p) x ≡ Accepted h → eqb (unpack p .address) (h + 16) ≡ true
           → find heap h ≡ some o → Freed (x .image) (i .laid .layout) h b → Freeing s L x heap p
       found h b o e t g f =
-          let r : Read s (unpack p) x h = located-read s (unpack p) x h e in
+          let r : Located s (unpack p) x h = located-parts s (unpack p) x h e in
           let a : o .answer ≡ p =
           i .laid .fine h o g .answered ∙ ap (λ (n : ℕ). pack (pointerTo s h n)) (sym (known (i .laid) h o g .size))
-          ∙ answer-again s h (sizeAt (x .image) h) p fits (r .matches) (eqb-true _ _ t)
+          ∙ own-again s h (sizeAt (x .image) h) p fits (r .header .matches) (eqb-true _ _ t)
           in
-          let q = free-merges s x (opens i) p h (f .from) (f .to) (exponent-is (i .laid)) e t (f .merges) in
+          let q = free-merges s x (opens i) p h e t (f .from) (f .to) (exponent-is (i .laid)) (f .merges) in
           taken o (find-in heap h o g) a (ap (λ (z : Outcome). returned (z .answer)) q)
           (subst (λ (z : State). Invariant s L z (without heap p)) (sym (ap (λ (z : Outcome). z .after) q))
           (subst (λ (z : ℕ). Invariant s L (state (merged (x .image) (f .from) (f .to)) (noted s h (sizeAt (x .image) h) 0 (x .table))) (without heap z)) a
@@ -214,9 +213,9 @@ module _ {s L : ℕ} {x : State} {heap : Heap} (i : Invariant s L x heap) where
       base : (h : ℕ) → located s (unpack p) x ≡ Accepted h → eqb (unpack p .address) (h + 16) ≡ true → (r : Option Block) → blockAt (i .laid .layout) h ≡ r
           → Freeing s L x heap p
       base h e t none g =
-          let r : Read s (unpack p) x h = located-read s (unpack p) x h e in
+          let r : Located s (unpack p) x h = located-parts s (unpack p) x h e in
           declined Unsound
-          (free-lost s x (opens i) p h Unsound e t (not-freed (x .image) (i .laid .layout) h (i .laid .placed) g (r .live) (r .is-sound)))
+          (free-lost s x (opens i) p h e t Unsound (not-freed (x .image) (i .laid .layout) h (i .laid .placed) g (r .header .is-live) (r .header .is-sound)))
           (λ o m a. none-some (no-object (i .laid) h g) (ap (find heap) (sym (answer-only p h o m a e)) ∙ in-find heap o (i .laid .distinct) m))
       base h e t (some b) g =
           let o = object-of (i .laid) h b g in
@@ -281,37 +280,39 @@ module _ {s L : ℕ} {x : State} {heap : Heap} (i : Invariant s L x heap) where
         good =
             λ r t.
             byBool (eqb r (pack q))
-            (λ u. rw (eqb-true r (pack q) u) (good-moved s (headerOf o) (o .size) p q d (f .good p (w .mine)) m))
+            (λ u. rw (eqb-true r (pack q) u) (moved-pointer s (headerOf o) (o .size) p q d (f .good p (w .mine)) m))
             (λ u. f .good r (rw u at t));
       })
       (x .image) (i .laid .layout) (n .block) (record { placed = i .laid .placed; same-length = refl; same-front = refl }) (n .body)
       (λ k. byBool (eqb k (headerOf o)) (λ t. rw t (ap (blockAt (i .laid .layout)) (eqb-true k (headerOf o) t) ∙ n .there)) (λ t. rw t))
 
-  move-to : (p : ℕ) (d : ℤ) (r : Moved) → moved (unpack p) (reach s (unpack p)) d ≡ r → Invariant s L x (hear heap (moves p d) (movedAnswer r))
-  unfolding hear movedAnswer
-  move-to p d Outside m = i
-  move-to p d (To q) m = go (ownerOf heap p) refl
+  move-to : (p : ℕ) (d : ℤ) → goodTag s (unpack p) ≡ true → (r : Moved) → moved (unpack p) (reach s (unpack p)) d ≡ r
+      → Invariant s L x (hear heap (moves p d) (demand (goodTag s (unpack p)) BadTag (movedAnswer (moved (unpack p) (reach s (unpack p)) d))))
+  unfolding hear
+  move-to p d t Outside m = rw (← moved-out s (unpack p) d t m) i
+  move-to p d t (To q) m = rw (← moved-in s (unpack p) d q t m) (go (ownerOf heap p) refl)
     where
       go : (r : Option Object) → ownerOf heap p ≡ r → Invariant s L x (change (pointed (pack q)) heap p)
       go none e = rw (change-nobody (pointed (pack q)) heap p e) i
       go (some o) e = move-owned p o d q e m
 
-  move-refused : (p : ℕ) (d : ℤ) → Invariant s L x (hear heap (moves p d) (Refused BadTag))
+  move-refused : (p : ℕ) (d : ℤ) → goodTag s (unpack p) ≡ false
+      → Invariant s L x (hear heap (moves p d) (demand (goodTag s (unpack p)) BadTag (movedAnswer (moved (unpack p) (reach s (unpack p)) d))))
   unfolding hear
-  move-refused p d = i
+  move-refused p d t = rw (← moved-bad s (unpack p) d t) i
 
   pub move-step : (p : ℕ) (d : ℤ) → Invariant s L (move p d x .after) (hear heap (moves p d) (move p d x .answer))
   move-step p d =
       rw (move-answer s x (opens i) p d)
       (byBool (goodTag s (unpack p))
-      (λ t. rw t (move-to p d (moved (unpack p) (reach s (unpack p)) d) refl))
-      (λ t. rw t (move-refused p d)))
+      (λ t. move-to p d t (moved (unpack p) (reach s (unpack p)) d) refl)
+      (λ t. move-refused p d t))
 
   -- Load.
 
   pub load-step : (p width : ℕ) → Invariant s L (load p width x .after) (hear heap (loads p width) (load p width x .answer))
   unfolding hear
-  load-step p width = rw (load-after p width x) i
+  load-step p width = rw (load-leaves p width x) i
 
   -- Store, fill and copy.
 

@@ -1,22 +1,21 @@
 -- The table of large-framed objects, against the abstract heap. Assumes nothing.
-use Prim.Native.Nat.{ℕ, _+_, _-_, _^_, _≤_, _<_}
+use Prim.Native.Nat.{ℕ, _+_, _^_, _≤_, _<_}
 use mathlib.Core.Path.{_≡_, refl, sym, ap, _∙_}
 use mathlib.Core.Bool.{cond}
 use mathlib.Core.List.{List}
 use mathlib.Core.Option.{none, some}
-use native.Mathlib.Nat.{div-mul-le-self}
 use native.Mathlib.Omega.{arith}
 use lib.ListN.{length, getD, set, length-set}
 use lib.Seq.{getD-set-same, getD-set-other}
 use lib.Dec.{leb, eqb}
 use borrow.Author.Tests.{eq-eqb, ne-eqb, eqb-true, eqb-false, leb-true, leb-false}
 use Rattle.frame.specs.Tags.{wrapper, usedEntries, entryOf}
-use Rattle.frame.specs.TagLaws.{entries-apart, entry-used, wrapper-at-most, by-frame}
+use Rattle.frame.specs.TagLaws.{entries-apart, object-entry-used, by-frame}
 use Rattle.block.specs.Tests.{byBool}
 use Rattle.store.specs.Calls.{noted}
+use Rattle.store.specs.Written.{noted-small, noted-large}
 use Rattle.history.specs.Heap.{Object, Heap}
 use Rattle.history.proofs.Heap.{find, none-some, some-same}
-use Rattle.history.proofs.StoreLaws.{noted-small, noted-large}
 
 -- who stands in entry j with the number t
 pub data Entry (s : ℕ) (heap : Heap) (j t : ℕ) : Type 0 where
@@ -34,11 +33,6 @@ pub record Ranged (L : ℕ) (heap : Heap) : Type 0 where
   pub short : L ≤ 2 ^ 30
   pub high : (k : ℕ) (o : Object) → find heap k ≡ some o → k + 16 + o .size ≤ L
   pub apart : (k j : ℕ) (o o′ : Object) → find heap k ≡ some o → find heap j ≡ some o′ → k < j → k + 16 + o .size ≤ j
-
--- an object in the image has a used entry
-pub entry-in : (s L k size : ℕ) → k + 16 + size ≤ L → L ≤ 2 ^ 30 → s < wrapper k size → entryOf s k size < usedEntries s L
-entry-in s L k size u b l =
-    entry-used s (wrapper k size) L k (wrapper-at-most k size (omega arith)) (omega (arith, div-mul-le-self k (2 ^ wrapper k size)))
 
 -- two live large-framed objects have two entries
 pub entries-differ : (s L : ℕ) (heap : Heap) → Ranged L heap → (k j : ℕ) (o o′ : Object) → find heap k ≡ some o → find heap j ≡ some o′ → (k ≡ j → ⊥)
@@ -72,7 +66,7 @@ module _ (s L : ℕ) (heap : Heap) (table : List ℕ) (t : Tabled s L heap table
 
     -- its entry is zero
     pub entry-zero : s < wrapper h (b .size) → getD table (entryOf s h (b .size)) 0 ≡ 0
-    entry-zero l = go (t .entry (entryOf s h (b .size)) (entry-in s L h (b .size) (r .high h b at-new) (r .short) l))
+    entry-zero l = go (t .entry (entryOf s h (b .size)) (object-entry-used s L h (b .size) (r .high h b at-new) (r .short)))
       where
         go : Entry s heap (entryOf s h (b .size)) (getD table (entryOf s h (b .size)) 0) → getD table (entryOf s h (b .size)) 0 ≡ 0
         go (nobody e) = e
@@ -96,7 +90,7 @@ module _ (s L : ℕ) (heap : Heap) (table : List ℕ) (t : Tabled s L heap table
 
     added-large : s < wrapper h (b .size) → Tabled s L new (set table (entryOf s h (b .size)) h)
     added-large lE =
-        let uE : entryOf s h (b .size) < length table = omega (arith, entry-in s L h (b .size) (r .high h b at-new) (r .short) lE, t .long) in
+        let uE : entryOf s h (b .size) < length table = omega (arith, object-entry-used s L h (b .size) (r .high h b at-new) (r .short), t .long) in
         record {
           long = rw length-set (t .long);
           placed =
@@ -122,7 +116,7 @@ module _ (s L : ℕ) (heap : Heap) (table : List ℕ) (t : Tabled s L heap table
     added =
         by-frame s h (b .size)
         (λ l. rw (noted-small s h (b .size) h table l) (added-small l))
-        (λ l. rw (noted-large s h (b .size) h table l) (added-large l))
+        (λ l. rw (noted-large s h (b .size) h table (entryOf s h (b .size)) l refl) (added-large l))
 
   -- An object is taken out.
 
@@ -157,7 +151,7 @@ module _ (s L : ℕ) (heap : Heap) (table : List ℕ) (t : Tabled s L heap table
 
     gone-large : s < wrapper h (b .size) → Tabled s L new (set table (entryOf s h (b .size)) 0)
     gone-large lE =
-        let uE : entryOf s h (b .size) < length table = omega (arith, entry-in s L h (b .size) (r .high h b was) (r .short) lE, t .long) in
+        let uE : entryOf s h (b .size) < length table = omega (arith, object-entry-used s L h (b .size) (r .high h b was) (r .short), t .long) in
         record {
           long = rw length-set (t .long);
           placed =
@@ -179,7 +173,7 @@ module _ (s L : ℕ) (heap : Heap) (table : List ℕ) (t : Tabled s L heap table
     gone =
         by-frame s h (b .size)
         (λ l. rw (noted-small s h (b .size) 0 table l) (gone-small l))
-        (λ l. rw (noted-large s h (b .size) 0 table l) (gone-large l))
+        (λ l. rw (noted-large s h (b .size) 0 table (entryOf s h (b .size)) l refl) (gone-large l))
 
   -- An object changes, but not its size.
 

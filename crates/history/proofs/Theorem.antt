@@ -1,5 +1,5 @@
 -- Demand 3, and the further claims about its lists. Assumes nothing.
-use Prim.Native.Nat.{ℕ, zero, suc, _+_, _-_, _^_, _≤_, _<_}
+use Prim.Native.Nat.{ℕ, zero, suc, _+_, _^_, _≤_, _<_}
 use mathlib.Core.Path.{_≡_, refl, sym, ap, _∙_, subst}
 use mathlib.Core.Bool.{true, false, _&&_}
 use mathlib.Core.List.{List, [], _∷_}
@@ -13,22 +13,24 @@ use Rattle.frame.specs.Pointers.{unpack, goodTag}
 use Rattle.frame.specs.Tags.{isSmall, entryOf}
 use Rattle.block.specs.Tests.{and-left, and-right, and-both, true-false}
 use Rattle.block.specs.Bytes.{decode, field}
+use Rattle.block.specs.BytesLaws.{field-bytes}
 use Rattle.block.specs.Layout.{extentAt, sizeAt}
 use Rattle.block.specs.Walk.{countBlocks}
 use Rattle.block.specs.declared.walk.Counted.{Counted}
 use Rattle.block.specs.declared.walk.Counted.the-variants as counted
-use Rattle.store.specs.State.{State, Outcome, IsAccepted, returned, value}
-use Rattle.store.specs.Calls.{setUp, allocate, load, store, free, fill, copy, tallyCounted, goodWidth, located, leadsBack, headerPlace}
+use Rattle.store.specs.State.{State, Outcome, IsAccepted, returned, value, usageNumber}
+use Rattle.store.specs.Calls.{setUp, allocate, load, store, free, fill, copy, tally, goodWidth, located, leadsBack, headerPlace}
+use Rattle.store.specs.CallLaws.{demand-iff, refused-some}
+use Rattle.store.specs.Claims.{Call, allocates, frees, moves, loads, stores, fills, copies, step}
+use Rattle.store.specs.Rows.{tally-counts}
+use Rattle.store.specs.Outcomes.{set-up-accepted, through-iff, load-through, store-through, fill-through, copy-through}
 use Rattle.store.specs.declared.answer.Answer.the-variants.{Accepted}
 use Rattle.store.specs.declared.answer.Refusal.the-variants.{OutOfBounds}
-use Rattle.history.specs.Lists.{Call, allocates, frees, moves, loads, stores, fills, copies, step}
 use Rattle.history.specs.Heap.{Object, Heap, start, holds, ownerOf, inside, bytesAt, hear, HearsNoOther}
-use Rattle.history.specs.History.{known, admitted, Configuration, next, after, allAdmitted, begun, In, headerOf, FreeRun, Holds, Demand3, RefusalsKeep, tallyReturned, MeetsNoUnsound, NeverUnsound, Tidy, StaysTidy}
+use Rattle.history.specs.History.{known, admitted, Configuration, next, after, allAdmitted, begun, In, headerOf, FreeRun, Holds, Demand3, MeetsNoUnsound, NeverUnsound, Tidy, StaysTidy}
 use Rattle.history.proofs.Gaps.{Block, extent, blockAt, Clear}
 use Rattle.history.proofs.Image.{counts, no-neighbours, free-zero, tail-zero}
 use Rattle.history.proofs.Heap.{find, find-in, find-place, in-find, places-apart, two-places, known-owner}
-use Rattle.history.proofs.BlockMore.{field-bytes}
-use Rattle.history.proofs.StoreLaws.{demand-iff, refused-some, set-up-keeps, allocate-keeps, move-keeps, load-keeps, store-keeps, fill-keeps, copy-keeps, free-keeps, SetUp, set-up-accepted, through-iff, load-through, store-through, fill-through, copy-through, tally-counts}
 use Rattle.history.proofs.Table.{entries-differ}
 use Rattle.history.proofs.Invariant.{Invariant, object-of, ranged, exponent-is, opens, Leads, leads, accesses, begins-with}
 use Rattle.history.proofs.Invariant as invariant
@@ -63,7 +65,7 @@ keeps (c ∷ cs) x i a = keeps cs (next c x) (steps c i (and-left _ (allAdmitted
 
 -- set-up establishes it
 pub begins : (s : ℕ) (x : State) → IsAccepted (setUp s x) → Invariant s (length (x .image)) (setUp s x .after) []
-begins s x e = let u : SetUp s x = set-up-accepted s x e in rw (u .leaves) (begins-with s x u)
+begins s x e = let (t, q) = set-up-accepted s x e in rw q (begins-with s x t)
 
 -- What the invariant says.
 
@@ -252,20 +254,12 @@ module _ {s L : ℕ} (x : Configuration) (i : Invariant s L (x .state) (x .heap)
       }
 
   -- the tally meets no unsound header either
-  tally-never : (c : Counted) (n : ℕ) → (c ≡ counted.Unsound → ⊥) → tallyReturned (tallyCounted c n) ≡ 7 → ⊥
-  unfolding tallyCounted
-  tally-never (counted.Counts a b) n f e = omega arith
-  tally-never counted.Unsound n f e = f refl
+  tally-never : (c : Counted) → countBlocks (x .state .image) ≡ c → usageNumber (tally (x .state)) ≡ 7 → ⊥
+  tally-never (counted.Counts n b) q e = omega (arith, ap usageNumber (tally-counts (x .state) s (opens i) n b q))
+  tally-never counted.Unsound q e = counts (x .state .image) (i .laid .layout) (i .laid .placed) q
 
   pub meets-no-unsound : MeetsNoUnsound (x .state)
-  meets-no-unsound =
-      record {
-        allocates = never-seven;
-        tallies =
-            λ e.
-            tally-never (countBlocks (x .state .image)) (length (x .state .image)) (counts (x .state .image) (i .laid .layout) (i .laid .placed))
-            (sym (ap tallyReturned (tally-counts s (x .state) (opens i))) ∙ e);
-      }
+  meets-no-unsound = record { allocates = never-seven; tallies = tally-never (countBlocks (x .state .image)) refl }
 
   pub tidy : Tidy (x .state .image)
   tidy =
@@ -299,16 +293,3 @@ hears-no-other heap (loads p width) a a′ e = refl
 hears-no-other heap (stores p width v) a a′ e = refl
 hears-no-other heap (fills p n byte) a a′ e = refl
 hears-no-other heap (copies t p n) a a′ e = refl
-
--- a refusal changes nothing
-call-keeps : (c : Call) (x : State) → (IsAccepted (step c x) → ⊥) → (step c x .after ≡ x) × (value (step c x .answer) ≡ 0)
-call-keeps (allocates size type) x n = allocate-keeps size type x n
-call-keeps (frees p) x n = free-keeps p x n
-call-keeps (moves p d) x n = move-keeps p d x n
-call-keeps (loads p width) x n = load-keeps p width x n
-call-keeps (stores p width v) x n = store-keeps p width v x n
-call-keeps (fills p n byte) x f = fill-keeps p n byte x f
-call-keeps (copies t p n) x f = copy-keeps t p n x f
-
-pub refusals-keep : RefusalsKeep
-refusals-keep = record { set-up = set-up-keeps; calls = call-keeps }

@@ -14,11 +14,9 @@ use Rattle.frame.specs.Tags.{isSmall, entryOf}
 use Rattle.block.specs.Bytes.{decode}
 use Rattle.block.specs.Layout.{slotExponent, extentAt, sizeAt, isFree, isLive}
 use Rattle.block.specs.Walk.{OnWalk}
-use Rattle.store.specs.State.{State, Outcome, IsAccepted, refusalNumber, returned, value}
+use Rattle.store.specs.State.{State, Outcome, IsAccepted, returned, value, usageNumber}
 use Rattle.store.specs.Calls.{setUp, allocate, load, store, free, fill, copy, tally, goodWidth, leadsBack, headerPlace}
-use Rattle.store.specs.declared.counting.Usage.{Usage}
-use Rattle.store.specs.declared.counting.Usage.the-variants as usage
-use Rattle.history.specs.Lists.{Call, allocates, frees, moves, loads, stores, fills, copies, step}
+use Rattle.store.specs.Claims.{Call, allocates, frees, moves, loads, stores, fills, copies, step}
 use Rattle.history.specs.Heap.{Object, Heap, start, holds, ownerOf, inside, bytesAt, hear}
 
 -- Lists.
@@ -147,20 +145,10 @@ Demand3 = AfterEveryHistory Holds
 
 -- Further claims.
 
--- A refusal leaves image and table as they were, and its value is 0: on every state.
-pub record RefusalsKeep : Type 0 where
-  pub set-up : (s : ℕ) (x : State) → (IsAccepted (setUp s x) → ⊥) → (setUp s x .after ≡ x) × (value (setUp s x .answer) ≡ 0)
-  pub calls : (c : Call) (x : State) → (IsAccepted (step c x) → ⊥) → (step c x .after ≡ x) × (value (step c x .answer) ≡ 0)
-
--- the number that tally returns: 0 where it is accepted
-abbrev pub tallyReturned : Usage → ℕ
-tallyReturned (usage.Counts objects live free) = 0
-tallyReturned (usage.Refused r) = refusalNumber r
-
 -- no walk of allocate or tally meets an unsound header
 pub record MeetsNoUnsound (x : State) : Type 0 where
   pub allocates : (size type : ℕ) → size < 2 ^ 32 → type < 2 ^ 16 → returned (allocate size type x .answer) ≡ 7 → ⊥
-  pub tallies : tallyReturned (tally x) ≡ 7 → ⊥
+  pub tallies : usageNumber (tally x) ≡ 7 → ⊥
 
 -- On these histories 7 never comes from allocate or tally.
 unfoldable pub NeverUnsound : Type 0

@@ -1,5 +1,4 @@
 -- definitions
-pub mod Lists
 pub mod Heap
 -- claims
 pub mod History

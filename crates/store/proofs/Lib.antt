@@ -1,6 +1,7 @@
 -- What the proofs of several functions use.
-mod Accessing
 mod Locating
-pub mod Fresh
-pub mod Carving
-pub mod Merging
+mod Fresh
+mod Carving
+mod Merging
+-- The claims of single calls.
+pub mod Claims

@@ -1,23 +1,20 @@
 -- The ways through reading a tag, over plain values. Assumes nothing.
-use Prim.Native.Nat.{ℕ, _+_, _^_, _≤_, _<_}
-use mathlib.Core.Path.{_≡_, refl, sym, ap, _∙_}
-use mathlib.Core.Bool.{Bool, true, false, cond, _&&_}
+use Prim.Native.Nat.{ℕ, _+_, _≤_, _<_}
+use mathlib.Core.Path.{_≡_, refl}
+use mathlib.Core.Bool.{true, false}
 use mathlib.Core.List.{List}
-use native.Mathlib.Omega.{arith}
-use lib.Dec.{leb, ltb, eqb}
 use lib.ListN.{length, getD}
 use borrow.Author.Tests.{le-leb, lt-leb, lt-ltb, le-ltb, eq-eqb, ne-eqb}
 use Rattle.frame.specs.Frame.{frameStart, sameFrame}
 use Rattle.frame.specs.Pointers.{goodTag, reach}
 use Rattle.frame.specs.Tags.{usedEntries, tagMatches, entryAt}
 use Rattle.frame.specs.declared.parts.Pointer.{Pointer}
-use Rattle.block.specs.Tests.{and-false}
-use Rattle.block.specs.Layout.{superblockGood, slotExponent, sound, headerAt, isLive, kindAt, sizeAt}
-use Rattle.store.specs.State.{State, state}
-use Rattle.store.specs.Calls.{opening, headerPlace, verified, leadsBack, located, inBody, accessed}
+use Rattle.block.specs.Layout.{superblockGood, slotExponent, sound, kindAt, sizeAt}
+use Rattle.store.specs.State.{State}
+use Rattle.store.specs.Calls.{opening, headerPlace, verified, leadsBack, located, accessed}
+use Rattle.store.specs.CallLaws.{accessed-at}
 use Rattle.store.specs.declared.answer.Refusal.{Refusal}
 use Rattle.store.specs.declared.answer.Refusal.the-variants.{BadSuperblock, ShortTable, BadTag, Dangling, OutOfBounds}
-use Rattle.store.specs.declared.answer.Answer.{Answer}
 use Rattle.store.specs.declared.answer.Answer.the-variants.{Accepted, Refused}
 
 -- rows 4 and 5
@@ -30,10 +27,6 @@ module _ (x : State) where
   pub table-short : superblockGood (x .image) ≡ true → length (x .table) < usedEntries (slotExponent (x .image)) (length (x .image)) → Refused ShortTable ≡ opening x
   unfolding opening
   table-short e l = rw (e, lt-leb _ _ l)
-
-  pub opens : superblockGood (x .image) ≡ true → usedEntries (slotExponent (x .image)) (length (x .image)) ≤ length (x .table) → Accepted (slotExponent (x .image)) ≡ opening x
-  unfolding opening
-  opens e l = rw (e, le-leb _ _ l)
 
 -- the place that a tag leads to
 
@@ -96,13 +89,10 @@ module _ (s : ℕ) (p : Pointer) (n : ℕ) (x : State) where
 
   module _ (h : ℕ) (l : located s p x ≡ Accepted h) where
     pub below-base : p .address < h + 16 → Refused OutOfBounds ≡ accessed s p n x
-    unfolding accessed inBody
-    below-base b = rw (l, lt-leb _ _ b)
+    below-base b = rw (accessed-at s p n x h l, lt-leb _ _ b) refl
 
     pub past-end : h + 16 ≤ p .address → h + 16 + sizeAt (x .image) h < p .address + n → Refused OutOfBounds ≡ accessed s p n x
-    unfolding accessed inBody
-    past-end b e = rw (l, le-leb _ _ b, lt-leb _ _ e)
+    past-end b e = rw (accessed-at s p n x h l, le-leb _ _ b, lt-leb _ _ e) refl
 
     pub within-body : h + 16 ≤ p .address → p .address + n ≤ h + 16 + sizeAt (x .image) h → Accepted (p .address) ≡ accessed s p n x
-    unfolding accessed inBody
-    within-body b e = rw (l, le-leb _ _ b, le-leb _ _ e)
+    within-body b e = rw (accessed-at s p n x h l, le-leb _ _ b, le-leb _ _ e) refl

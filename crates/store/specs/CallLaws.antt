@@ -1,20 +1,22 @@
 -- What the tests of the calls come to: each test taken apart, and how it is met. Assumes nothing.
-use Prim.Native.Nat.{ℕ, _+_, _/_, _^_, _≤_, _<_}
-use mathlib.Core.Path.{_≡_, refl, subst}
+use Prim.Native.Nat.{ℕ, _+_, _*_, _/_, _^_, _≤_, _<_}
+use mathlib.Core.Path.{_≡_, refl, sym, ap, _∙_, subst}
 use mathlib.Core.Bool.{Bool, true, false, _&&_, _||_}
 use mathlib.Core.List.{List}
+use mathlib.Core.Logic.{_↔_}
 use native.Mathlib.Nat.{lt-of-lt-of-le, div-mul-le-self}
 use native.Mathlib.Omega.{arith}
 use lib.Dec.{leb, ltb, eqb}
-use lib.ListN.{length}
-use borrow.Author.Tests.{leb-true, ltb-true, eqb-true, lt-leb, lt-ltb, eq-eqb, ne-eqb}
+use lib.ListN.{length, getD}
+use borrow.Author.Tests.{leb-true, ltb-true, eqb-true, le-leb, lt-leb, lt-ltb, eq-eqb, ne-eqb}
 use Rattle.frame.specs.Frame.{frameStart, sameFrame}
-use Rattle.frame.specs.Pointers.{unpack, goodTag, reach}
-use Rattle.frame.specs.Tags.{wrapper, usedEntries, entryOf, tagMatches}
-use Rattle.frame.specs.TagLaws.{wrapper-at-most, entry-used}
+use Rattle.frame.specs.Pointers.{unpack, goodTag, reach, at}
+use Rattle.frame.specs.Tags.{wrapper, usedEntries, pointerTo, entryOf, tagMatches}
+use Rattle.frame.specs.TagLaws.{slot-leads, entry-same, object-entry-used, pointer-small, pointer-large, by-frame}
+use Rattle.frame.specs.ObjectLaws.{PointerOf, same-reach, object-tag, object-matches}
 use Rattle.frame.specs.declared.parts.Pointer.{Pointer}
-use Rattle.block.specs.Tests.{byBool, and-left, and-right}
-use Rattle.block.specs.Layout.{superblockGood, slotExponent, sound, isFree, isLive, sizeAt, extentAt}
+use Rattle.block.specs.Tests.{byBool, true-false, and-left, and-right}
+use Rattle.block.specs.Layout.{superblockGood, slotExponent, goodExponent, goodLength, sound, isFree, isLive, sizeAt, extentAt}
 use Rattle.block.specs.LayoutLaws.{superblock-parts, sound-live, sound-extent, sound-end, sound-low}
 use Rattle.block.specs.Walk.{firstFit, walkTo, Behind, at-first, at-later, LowestFit, MeetsBlock}
 use Rattle.block.specs.WalkLaws.{first-fit-lowest, walk-to-meets}
@@ -22,13 +24,37 @@ use Rattle.block.specs.declared.walk.Fit.{Fit}
 use Rattle.block.specs.declared.walk.Fit.the-variants as fit
 use Rattle.block.specs.declared.walk.Met.{Met}
 use Rattle.block.specs.declared.walk.Met.the-variants as met
-use Rattle.store.specs.State.{State, demand, andThen}
-use Rattle.store.specs.Calls.{opening, entryFree, fitAnswer, allocateAnswer, headerPlace, verified, leadsBack, located, inBody, accessed, goodWidth, storeAnswer, fillAnswer, copyAnswer, mergeEnd, mergeStart, released, releaseFound, freeRelease}
+use Rattle.store.specs.State.{State, refusalNumber, returned, demand, andThen}
+use Rattle.store.specs.Calls.{setUpAnswer, opening, entryFree, fitAnswer, allocateAnswer, headerPlace, verified, leadsBack, located, inBody, accessed, goodWidth, storeAnswer, fillAnswer, copyAnswer, mergeEnd, mergeStart, released, releaseFound, freeRelease}
 use Rattle.store.specs.declared.answer.Refusal.{Refusal}
-use Rattle.store.specs.declared.answer.Refusal.the-variants.{BadSuperblock, ShortTable, Empty, EntryTaken, BadTag, Dangling, OutOfBounds, BadWidth, TooLarge}
+use Rattle.store.specs.declared.answer.Refusal.the-variants.{BadExponent, BadLength, TooFewEntries, BadSuperblock, ShortTable, Empty, Unsound, NoSpace, EntryTaken, BadTag, Dangling, Leaves, OutOfBounds, BadWidth, NotBase, TooLarge}
 use Rattle.store.specs.declared.answer.Answer.{Answer}
 use Rattle.store.specs.declared.answer.Answer.the-variants.{Accepted, Refused}
 use Rattle.store.specs.declared.release.Release.the-variants as release
+
+-- no refusal has the number 0
+pub refused-some : (r : Refusal) → refusalNumber r ≡ 0 → ⊥
+refused-some BadExponent e = omega arith
+refused-some BadLength e = omega arith
+refused-some TooFewEntries e = omega arith
+refused-some BadSuperblock e = omega arith
+refused-some ShortTable e = omega arith
+refused-some Empty e = omega arith
+refused-some Unsound e = omega arith
+refused-some NoSpace e = omega arith
+refused-some EntryTaken e = omega arith
+refused-some BadTag e = omega arith
+refused-some Dangling e = omega arith
+refused-some Leaves e = omega arith
+refused-some OutOfBounds e = omega arith
+refused-some BadWidth e = omega arith
+refused-some NotBase e = omega arith
+refused-some TooLarge e = omega arith
+
+-- a test is accepted exactly where it holds
+pub demand-iff : (ok : Bool) (r : Refusal) (v : ℕ) → (returned (demand ok r (Accepted v)) ≡ 0) ↔ (ok ≡ true)
+demand-iff true r v = ((λ e. refl), λ e. refl)
+demand-iff false r v = ((λ e. absurd (refused-some r e)), λ (e : false ≡ true). absurd (true-false e refl))
 
 -- a test that came through is met, and what follows it came through too
 pub demand-met : (ok : Bool) (r : Refusal) (next : Answer) (v : ℕ) → demand ok r next ≡ Accepted v → (ok ≡ true) × (next ≡ Accepted v)
@@ -42,6 +68,29 @@ and-then-met (Refused r) next v e = let z : _≡_ {A = ℕ} 0 1 = cc in absurd (
 -- the widths
 pub width-last : (w : ℕ) → goodWidth w ≡ true → (w ≡ 1 → ⊥) → (w ≡ 2 → ⊥) → (w ≡ 4 → ⊥) → w ≡ 8
 width-last w g a b c = eqb-true w 8 (rw (ne-eqb w 1 a, ne-eqb w 2 b, ne-eqb w 4 c) at g)
+
+-- rows 1, 2 and 3 are passed
+pub record Settable (s : ℕ) (x : State) : Type 0 where
+  pub exponent-low : 6 ≤ s
+  pub exponent-high : s ≤ 15
+  pub length-low : 64 ≤ length (x .image)
+  pub length-high : length (x .image) ≤ 2 ^ 30
+  pub entries : usedEntries s (length (x .image)) ≤ length (x .table)
+
+-- an accepted set-up passes them
+pub settable-parts : (s : ℕ) (x : State) (v : ℕ) → setUpAnswer s x ≡ Accepted v → Settable s x
+unfolding setUpAnswer
+settable-parts s x v e =
+    let a = demand-met (goodExponent s) BadExponent _ v e in
+    let b = demand-met (goodLength (length (x .image))) BadLength _ v (a .1) in
+    let c = demand-met (leb (usedEntries s (length (x .image))) (length (x .table))) TooFewEntries _ v (b .1) in
+    record {
+      exponent-low = leb-true _ _ (and-left _ (leb s 15) (a .0));
+      exponent-high = leb-true _ _ (and-right (leb 6 s) _ (a .0));
+      length-low = leb-true _ _ (and-left _ (leb (length (x .image)) (2 ^ 30)) (b .0));
+      length-high = leb-true _ _ (and-right (leb 64 (length (x .image))) _ (b .0));
+      entries = leb-true _ _ (c .0);
+    }
 
 -- rows 4 and 5 are passed, with the slot exponent s
 pub record Open (x : State) (s : ℕ) : Type 0 where
@@ -69,6 +118,12 @@ opening-parts x s e =
       long = p .length-low;
       short = p .length-high;
     }
+
+-- and how they are passed
+pub opening-passes : (x : State) → superblockGood (x .image) ≡ true → usedEntries (slotExponent (x .image)) (length (x .image)) ≤ length (x .table)
+    → opening x ≡ Accepted (slotExponent (x .image))
+unfolding opening
+opening-passes x g l = rw (g, le-leb _ _ l)
 
 -- the header at h is the one that the pointer was made for
 pub record Verified (s : ℕ) (p : Pointer) (x : State) (h : ℕ) : Type 0 where
@@ -108,13 +163,57 @@ located-parts s p x h e =
           });
     }
 
--- and how they are passed
-pub located-at : (s : ℕ) (p : Pointer) (x : State) (h : ℕ) → Located s p x h → located s p x ≡ Accepted h
-unfolding located leadsBack verified
-located-at s p x h l =
+-- how row 11 is passed
+pub located-leads : (s : ℕ) (p : Pointer) (x : State) (h : ℕ) → Located s p x h → leadsBack s p x ≡ true
+unfolding leadsBack verified
+located-leads s p x h l =
     let k = l .place in
     let v = l .header in
-    rw (l .good, ← k, lt-ltb _ _ (l .starts), v .is-sound, v .is-live, v .matches, eq-eqb _ _ (v .near))
+    rw (← k, lt-ltb _ _ (l .starts), v .is-sound, v .is-live, v .matches, eq-eqb _ _ (v .near))
+
+-- and both
+pub located-at : (s : ℕ) (p : Pointer) (x : State) (h : ℕ) → Located s p x h → located s p x ≡ Accepted h
+unfolding located
+located-at s p x h l = let k = l .place in rw (l .good, located-leads s p x h l, ← k)
+
+-- an object's pointer leads to its header from every address of its slot or wrapper frame
+place-at : (s h size a : ℕ) (table : List ℕ) → a / 2 ^ reach s (pointerTo s h size) ≡ h / 2 ^ reach s (pointerTo s h size)
+    → (s < wrapper h size → getD table (entryOf s h size) 0 ≡ h) → headerPlace s (at (pointerTo s h size) a) table ≡ h
+unfolding headerPlace reach
+place-at s h size a table near entry =
+    by-frame s h size
+    (λ l. let n : a / 2 ^ s ≡ h / 2 ^ s = rw (pointer-small s h size l) at near in
+    rw (pointer-small s h size l) (slot-leads s h a n))
+    (λ l. let n : a / 2 ^ wrapper h size ≡ h / 2 ^ wrapper h size = rw (pointer-large s h size l) at near in
+    rw (pointer-large s h size l) (ap (λ (j : ℕ). getD table j 0) (entry-same s (wrapper h size) a h n) ∙ entry l))
+
+-- a live object of `size` bytes with a sound header at h, and its place in its table entry where it is large-framed
+pub record Stands (s : ℕ) (x : State) (h size : ℕ) : Type 0 where
+  pub exponent : s ≤ 15
+  pub inside : h + 16 + size ≤ length (x .image)
+  pub short : length (x .image) ≤ 2 ^ 30
+  pub is-sound : sound (x .image) h ≡ true
+  pub is-live : isLive (x .image) h ≡ true
+  pub size-is : sizeAt (x .image) h ≡ size
+  pub entry : s < wrapper h size → getD (x .table) (entryOf s h size) 0 ≡ h
+
+-- its pointers lead to it
+pub located-object : (s : ℕ) (x : State) (h size word : ℕ) → Stands s x h size → PointerOf s h size word → Located s (unpack word) x h
+located-object s x h size word o g =
+    let n : ℕ = reach s (unpack word) in
+    let near : unpack word .address / 2 ^ n ≡ h / 2 ^ n = rw (same-reach s h size word g) (g .near) in
+    record {
+      good = object-tag s h size word (o .exponent) (omega (arith, o .inside, o .short)) g;
+      starts = omega (arith, o .inside, ap (λ (q : ℕ). q * 2 ^ n) near, div-mul-le-self h (2 ^ n));
+      place =
+          sym (ap (λ (q : Pointer). headerPlace s q (x .table)) (g .shape) ∙ place-at s h size (unpack word .address) (x .table) (g .near) (o .entry));
+      header = record {
+        is-sound = o .is-sound;
+        is-live = o .is-live;
+        matches = ap (λ (k : ℕ). tagMatches s h k (unpack word)) (o .size-is) ∙ object-matches s h size word g;
+        near = sym near;
+      };
+    }
 
 -- rows 10, 11 and 13 are passed: n bytes from a on lie in the body of the object at h
 pub record Accessed (s : ℕ) (p : Pointer) (n : ℕ) (x : State) (a h : ℕ) : Type 0 where
@@ -137,13 +236,16 @@ accessed-parts s p n x a e =
     let body = sound-live (x .image) h (o .header .is-sound) (o .header .is-live) .holds in
     (h, record { object = o; address = q; low = omega arith; high = omega arith; inside = omega arith })
 
+-- row 13, where rows 10 and 11 are passed
+pub accessed-at : (s : ℕ) (p : Pointer) (n : ℕ) (x : State) (h : ℕ) → located s p x ≡ Accepted h
+    → accessed s p n x
+    ≡ demand (leb (h + 16) (p .address) && leb (p .address + n) (h + 16 + sizeAt (x .image) h)) OutOfBounds (Accepted (p .address))
+unfolding accessed inBody
+accessed-at s p n x h e = rw e
+
 -- the table has the entry of an object that lies in the image
 pub entry-in : (x : State) (s h size : ℕ) → Open x s → h + 16 + size ≤ length (x .image) → entryOf s h size < length (x .table)
-entry-in x s h size o l =
-    let N = wrapper h size in
-    let n : N ≤ 31 = wrapper-at-most h size (omega (arith, o .short)) in
-    let f : frameStart N h < length (x .image) = omega (arith, div-mul-le-self h (2 ^ N)) in
-    lt-of-lt-of-le (entry-used s N (length (x .image)) h n f) (o .entries)
+entry-in x s h size o l = lt-of-lt-of-le (object-entry-used s (length (x .image)) h size l (o .short)) (o .entries)
 
 -- a fit that came through is a block's place
 pub fit-met : (f : Fit) (next : ℕ → Answer) (v : ℕ) → fitAnswer f next ≡ Accepted v → (h : ℕ) × (f ≡ fit.At h) × (next h ≡ Accepted v)

@@ -7,6 +7,8 @@ use Rattle.store.specs.declared.answer.Refusal.{Refusal}
 use Rattle.store.specs.declared.answer.Refusal.the-variants.{BadExponent, BadLength, TooFewEntries, BadSuperblock, ShortTable, Empty, Unsound, NoSpace, EntryTaken, BadTag, Dangling, Leaves, OutOfBounds, BadWidth, NotBase, TooLarge}
 use Rattle.store.specs.declared.answer.Answer.{Answer}
 use Rattle.store.specs.declared.answer.Answer.the-variants.{Accepted, Refused}
+use Rattle.store.specs.declared.counting.Usage.{Usage}
+use Rattle.store.specs.declared.counting.Usage.the-variants as usage
 
 -- document 01's number of a refusal
 abbrev pub refusalNumber : Refusal → ℕ
@@ -36,6 +38,25 @@ returned (Refused r) = refusalNumber r
 abbrev pub value : Answer → ℕ
 value (Accepted v) = v
 value (Refused r) = 0
+
+-- the number that tally returns: 0 where it is accepted
+abbrev pub usageNumber : Usage → ℕ
+usageNumber (usage.Counts objects live free) = 0
+usageNumber (usage.Refused r) = refusalNumber r
+
+-- the values that it gives, all 0 where it is refused: live objects, live bytes, free bytes
+
+abbrev pub liveObjects : Usage → ℕ
+liveObjects (usage.Counts objects live free) = objects
+liveObjects (usage.Refused r) = 0
+
+abbrev pub liveBytes : Usage → ℕ
+liveBytes (usage.Counts objects live free) = live
+liveBytes (usage.Refused r) = 0
+
+abbrev pub freeBytes : Usage → ℕ
+freeBytes (usage.Counts objects live free) = free
+freeBytes (usage.Refused r) = 0
 
 -- An image with its frame table.
 pub record State : Type 0 where

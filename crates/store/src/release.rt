@@ -95,9 +95,8 @@ fn merge(image: &mut [u8], from: u64, to: u64)
     requires { ⌜ (from + 16 ≤ to) × (to ≤ length (now image)) ⌝ }
     ensures { λ _. ⌜ now (image .exit) ≡ merged (now (image .entry)) from to ⌝ }
 {
-    let extent = to - from;
-    fill(image, from as usize, extent as usize, 0);
-    write_free(image, from as usize, extent);
+    fill(image, from as usize, (to - from) as usize, 0);
+    write_free(image, from as usize, to - from);
 }
 
 // Ends the life of the object whose base pointer this is.

@@ -7,7 +7,7 @@ use Rattle.store.specs.State.{state}
 use Rattle.block.specs.Bytes.{field}
 use Rattle.store.specs.CallLaws.{opening-parts, accessed-parts}
 use Rattle.store.specs.declared.answer.Answer.the-variants.{Accepted}
-use Rattle.store.proofs.Accessing.{load-shut, load-width, load-refused, load-given}
+use Rattle.store.specs.Rows.{load-shut, load-width, load-refused, load-given}
 use borrow.Author.Needs.{needs}
 use Rattle.store.proofs.access.load.Statement.{statement}
 use Rattle.store.proofs.access.load.Tie as tie

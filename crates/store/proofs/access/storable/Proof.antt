@@ -5,7 +5,7 @@ use native.Mathlib.Omega.{arith}
 use borrow.Author.Tests.{not-true, not-false}
 use Rattle.store.specs.State.{state}
 use Rattle.store.specs.CallLaws.{opening-parts}
-use Rattle.store.proofs.Accessing.{store-shut, store-width, store-large, store-access}
+use Rattle.store.specs.Rows.{store-shut, store-width, store-large, store-access}
 use borrow.Author.Needs.{needs}
 use Rattle.store.proofs.access.storable.Statement.{statement}
 use Rattle.store.proofs.access.storable.Tie as tie

@@ -8,7 +8,8 @@ use Rattle.store.specs.State.{state}
 use Rattle.store.specs.Calls.{opening}
 use Rattle.store.specs.CallLaws.{opening-parts}
 use Rattle.store.specs.declared.answer.Answer.the-variants.{Accepted}
-use Rattle.store.proofs.Carving.{fit-needs, not-opened, empty, meets-unsound, no-space, entry-taken, taken-at}
+use Rattle.store.specs.Rows.{allocate-shut, allocate-empty, allocate-unsound, allocate-full, allocate-taken, allocate-given}
+use Rattle.store.proofs.Carving.{fit-needs}
 use borrow.Author.Needs.{needs}
 use Rattle.store.proofs.allocation.allocatable.Statement.{statement}
 use Rattle.store.proofs.allocation.allocatable.Tie as tie
@@ -27,7 +28,7 @@ opened : (c : tie.After-known-told2) → let a = c .before .before .before .befo
 opened c = sym (c .before .before .before .opening .ensures) ∙ c .before .s .given .1
 
 returns : tie.Need-returns
-returns c = empty _ (state _ _) _ (opened (c .before)) (c .if1 .taken)
+returns c = allocate-empty _ (state _ _) _ (opened (c .before)) (c .if1 .taken)
 
 add-first-fit : tie.Need-add-first-fit
 add-first-fit c = search needs
@@ -55,19 +56,19 @@ entry-free-requires : tie.Need-entry-free-requires
 entry-free-requires c κs = fit-needs (state _ _) _ _ _ (opening-parts (state _ _) _ (opened (c .before .before .before .before .before))) (fitted c)
 
 returns-2 : tie.Need-returns-2
-returns-2 c = not-opened _ (state _ _) _ (sym (c .before .before .before .opening .ensures) ∙ c .before .r .given .1)
+returns-2 c = allocate-shut _ (state _ _) _ (sym (c .before .before .before .opening .ensures) ∙ c .before .r .given .1)
 
 returns-3 : tie.Need-returns-3
-returns-3 c = meets-unsound _ (state _ _) _ (opened (c .before .before .before .before)) (c .before .before .before .if1 .left) _ (sym (c .before .before .first-fit .ensures) ∙ c .enum-told .given .1)
+returns-3 c = allocate-unsound _ (state _ _) _ (opened (c .before .before .before .before)) (c .before .before .before .if1 .left) _ (sym (c .before .before .first-fit .ensures) ∙ c .enum-told .given .1)
 
 returns-4 : tie.Need-returns-4
-returns-4 c = no-space _ (state _ _) _ (opened (c .before .before .before .before)) (c .before .before .before .if1 .left) (sym (c .before .before .first-fit .ensures) ∙ c .enum-told2 .given .1)
+returns-4 c = allocate-full _ (state _ _) _ (opened (c .before .before .before .before)) (c .before .before .before .if1 .left) (sym (c .before .before .first-fit .ensures) ∙ c .enum-told2 .given .1)
 
 returns-5 : tie.Need-returns-5
-returns-5 c = taken-at _ (state _ _) _ (opened (c .before .before .before .before .before .before .before)) (c .before .before .before .before .before .before .if1 .left) _ (fitted (c .before .before)) (sym (c .before .entry-free .ensures) ∙ c .if2 .taken)
+returns-5 c = allocate-given _ (state _ _) _ (opened (c .before .before .before .before .before .before .before)) (c .before .before .before .before .before .before .if1 .left) _ (fitted (c .before .before)) (sym (c .before .entry-free .ensures) ∙ c .if2 .taken)
 
 returns-6 : tie.Need-returns-6
-returns-6 c = entry-taken _ (state _ _) _ (opened (c .before .before .before .before .before .before .before)) (c .before .before .before .before .before .before .if1 .left) _ (fitted (c .before .before)) (sym (c .before .entry-free .ensures) ∙ c .if2 .left)
+returns-6 c = allocate-taken _ (state _ _) _ (opened (c .before .before .before .before .before .before .before)) (c .before .before .before .before .before .before .if1 .left) _ (fitted (c .before .before)) (sym (c .before .entry-free .ensures) ∙ c .if2 .left)
 
 pub allocatable-spec : {M : Type 1} → statement M
 allocatable-spec =

@@ -7,7 +7,8 @@ use Rattle.store.specs.State.{state}
 use Rattle.store.specs.Calls.{allocateAnswer}
 use Rattle.store.specs.CallLaws.{Allocates, allocate-parts}
 use Rattle.store.specs.declared.answer.Answer.the-variants.{Accepted}
-use Rattle.store.proofs.Carving.{fit-needs, allocate-refused, allocate-accepted}
+use Rattle.store.specs.Rows.{allocate-declined, allocate-done}
+use Rattle.store.proofs.Carving.{fit-needs}
 use borrow.Author.Needs.{needs}
 use Rattle.store.proofs.allocation.allocate.Statement.{statement}
 use Rattle.store.proofs.allocation.allocate.Tie as tie
@@ -54,7 +55,7 @@ same-length-2 : tie.Need-same-length-2
 same-length-2 c = search needs
 
 returns : tie.Need-returns
-returns c = allocate-refused _ _ _ _ (sym (c .before .before .before .allocatable .ensures) ∙ c .before .r .given .1)
+returns c = allocate-declined _ _ _ _ (sym (c .before .before .before .allocatable .ensures) ∙ c .before .r .given .1)
 
 same-length-3 : tie.Need-same-length-3
 same-length-3 c = search needs
@@ -63,7 +64,7 @@ same-length-4 : tie.Need-same-length-4
 same-length-4 c = search needs
 
 returns-2 : tie.Need-returns-2
-returns-2 c = allocate-accepted _ (state _ _) _ _ _ _ _ _ _ (accepted (c .before .before .before .before .before .before .before .before .before .before .before)) (exponent (c .before .before .before .before .before .before .before .before .before)) (c .before .before .before .before .before .before .before .carve .ensures) (c .before .before .before .note .ensures .0) (c .before .before .before .note .ensures .1) (c .pack .ensures)
+returns-2 c = allocate-done _ (state _ _) _ _ _ _ _ _ _ (accepted (c .before .before .before .before .before .before .before .before .before .before .before)) (exponent (c .before .before .before .before .before .before .before .before .before)) (c .before .before .before .before .before .before .before .carve .ensures) (c .before .before .before .note .ensures .0) (c .before .before .before .note .ensures .1) (c .pack .ensures)
 
 pub allocate-spec : {M : Type 1} → statement M
 allocate-spec =

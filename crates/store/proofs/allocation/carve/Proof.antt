@@ -3,7 +3,7 @@ use mathlib.Core.Path.{_≡_, sym, _∙_}
 use native.Mathlib.Omega.{arith}
 use Rattle.block.specs.Layout.{extentAt}
 use Rattle.block.specs.LayoutLaws.{extent-field, sound-in, sound-end}
-use Rattle.store.proofs.Carving.{carved-whole, carved-rest}
+use Rattle.store.specs.Written.{carved-whole, carved-rest}
 use borrow.Author.Needs.{needs}
 use Rattle.store.proofs.allocation.carve.Statement.{statement}
 use Rattle.store.proofs.allocation.carve.Tie as tie

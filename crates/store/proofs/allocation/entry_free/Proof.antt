@@ -5,7 +5,7 @@ use native.Mathlib.Omega.{arith}
 use lib.ListN.{length}
 use Rattle.frame.specs.Tags.{wrapper, pointerTo, entryOf}
 use Rattle.frame.specs.TagLaws.{tagged-is-small, tagged-is-large}
-use Rattle.store.proofs.Carving.{free-small, free-large}
+use Rattle.store.specs.Written.{free-small, free-large}
 use borrow.Author.Needs.{needs}
 use Rattle.store.proofs.allocation.entry_free.Statement.{statement}
 use Rattle.store.proofs.allocation.entry_free.Tie as tie

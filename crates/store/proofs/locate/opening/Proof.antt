@@ -1,14 +1,11 @@
 -- `store::opening` meets its contract. Assumes nothing.
-use Prim.Native.Nat.{_≤_, _<_}
-use mathlib.Core.Path.{_≡_, sym, ap, _∙_}
+use mathlib.Core.Path.{sym, ap, _∙_}
 use native.Mathlib.Omega.{arith}
-use lib.ListN.{length}
-use Rattle.frame.specs.Tags.{usedEntries}
-use Rattle.block.specs.Layout.{slotExponent}
 use Rattle.block.specs.LayoutLaws.{superblock-parts, opened-is-good, opened-is-bad}
 use Rattle.store.specs.State.{state}
 use Rattle.store.specs.declared.answer.Answer.the-variants.{Accepted}
-use Rattle.store.proofs.Locating.{not-open, table-short, opens}
+use Rattle.store.specs.CallLaws.{opening-passes}
+use Rattle.store.proofs.Locating.{not-open, table-short}
 use borrow.Author.Needs.{needs}
 use Rattle.store.proofs.locate.opening.Statement.{statement}
 use Rattle.store.proofs.locate.opening.Tie as tie
@@ -44,7 +41,7 @@ returns-3 : tie.Need-returns-3
 returns-3 c =
     let g = opened-is-good _ _ (sym (c .before .before .before .before .before .«open» .ensures) ∙ c .before .before .before .s .given .1) in
     let l = rw (g .1) at (c .before .used-entries .ensures) in
-    ap Accepted (g .1) ∙ opens (state _ _) (g .0) (omega (arith, l, c .if1 .left))
+    ap Accepted (g .1) ∙ sym (opening-passes (state _ _) (g .0) (omega (arith, l, c .if1 .left)))
 
 pub opening-spec : {M : Type 1} → statement M
 opening-spec =

@@ -6,7 +6,7 @@ use mir.Facts.{toZ-ofZ}
 use Rattle.store.specs.State.{state}
 use Rattle.store.specs.Calls.{moveAnswer}
 use Rattle.store.specs.CallLaws.{opening-parts}
-use Rattle.store.proofs.Accessing.{move-shut, move-answer}
+use Rattle.store.specs.Rows.{move-shut, move-answer}
 use borrow.Author.Needs.{needs}
 use Rattle.store.proofs.moving.offset.Statement.{statement}
 use Rattle.store.proofs.moving.offset.Tie as tie

@@ -9,7 +9,8 @@ use Rattle.block.specs.LayoutLaws.{extent-field, sound-in, sound-end, examined-
 use Rattle.block.specs.Walk.{walkTo}
 use Rattle.block.specs.declared.header.Header.{Header}
 use Rattle.block.specs.declared.walk.Met.the-variants as met
-use Rattle.store.proofs.Merging.{before-in, released-last, released-unsound, released-free, released-live, released-lost}
+use Rattle.store.specs.Rows.{released-lost}
+use Rattle.store.proofs.Merging.{before-in, released-last, released-bad, released-free, released-live}
 use borrow.Author.Needs.{needs}
 use Rattle.store.proofs.release.coalesce.Statement.{statement}
 use Rattle.store.proofs.release.coalesce.Tie as tie
@@ -82,7 +83,7 @@ returns-3 c = cc (c .before .before .walk-to .ensures, c .enum-told .given .1, r
 returns-4 : tie.Need-returns-4
 returns-4 c =
     let a = c .before .before .before .before .before .before .before .before .before .before .before .args in
-    cc (meets (c .before .before .before .before .before .before), released-unsound (a .image .now) (a .h) (c .before .before .before .before .before .before .before .before2 .given .0 .0) (a .h + c .before .before .before .before .before .read4 .result) (follows (c .before .before .before .before .before)) (within (c .before .before .before)) (examined-is-unsound _ _ (sym (c .before .before .examine .ensures) ∙ c .enum-told2 .given .1)))
+    cc (meets (c .before .before .before .before .before .before), released-bad (a .image .now) (a .h) (c .before .before .before .before .before .before .before .before2 .given .0 .0) (a .h + c .before .before .before .before .before .read4 .result) (follows (c .before .before .before .before .before)) (within (c .before .before .before)) (examined-is-unsound _ _ (sym (c .before .before .examine .ensures) ∙ c .enum-told2 .given .1)))
 
 returns-5 : tie.Need-returns-5
 returns-5 c =

@@ -8,7 +8,7 @@ use Rattle.store.specs.Calls.{freeRelease}
 use Rattle.store.specs.CallLaws.{Frees, free-parts}
 use Rattle.store.specs.declared.release.Release.the-variants as release
 use Rattle.store.proofs.Carving.{entry-needs}
-use Rattle.store.proofs.Merging.{free-refused, free-merged}
+use Rattle.store.specs.Rows.{free-declined, free-done}
 use borrow.Author.Needs.{needs}
 use Rattle.store.proofs.release.free.Statement.{statement}
 use Rattle.store.proofs.release.free.Tie as tie
@@ -62,7 +62,7 @@ same-length-2 : tie.Need-same-length-2
 same-length-2 c = search needs
 
 returns : tie.Need-returns
-returns c = free-refused _ _ _ (sym (c .before .before .before .releasable .ensures) ∙ c .before .r .given .1)
+returns c = free-declined _ _ _ (sym (c .before .before .before .releasable .ensures) ∙ c .before .r .given .1)
 
 same-length-3 : tie.Need-same-length-3
 same-length-3 c = search needs
@@ -71,7 +71,7 @@ same-length-4 : tie.Need-same-length-4
 same-length-4 c = search needs
 
 returns-2 : tie.Need-returns-2
-returns-2 c = free-merged _ (state _ _) _ _ _ _ _ _ _ (accepted (c .before .before .before .before .before .before .before .before .before .before .before .before)) (exponent (c .before .before .before .before .before .before .before .before .before .before)) (size (c .before .before .before .before .before .before .before .before)) (c .before .before .before .before .before .before .merge .ensures) (c .before .before .note .ensures .1)
+returns-2 c = free-done _ (state _ _) _ _ _ _ _ _ _ (accepted (c .before .before .before .before .before .before .before .before .before .before .before .before)) (exponent (c .before .before .before .before .before .before .before .before .before .before)) (size (c .before .before .before .before .before .before .before .before)) (c .before .before .before .before .before .before .merge .ensures) (c .before .before .note .ensures .1)
 
 pub free-spec : {M : Type 1} → statement M
 free-spec =

@@ -5,11 +5,14 @@ use borrow.Author.Needs.{needs}
 use Rattle.store.proofs.release.merge.Statement.{statement}
 use Rattle.store.proofs.release.merge.Tie as tie
 
-sub-extent : tie.Need-sub-extent
-sub-extent c = search needs
+sub-fill : tie.Need-sub-fill
+sub-fill c = search needs
 
 fill-requires : tie.Need-fill-requires
 fill-requires c κs = search needs
+
+sub-write-free : tie.Need-sub-write-free
+sub-write-free c = search needs
 
 write-free-requires : tie.Need-write-free-requires
 write-free-requires c κs = search needs
@@ -23,4 +26,6 @@ returns c =
     cc (merged-over (a .image .now) (a .from) (a .to) (omega arith) (omega arith))
 
 pub merge-spec : {M : Type 1} → statement M
-merge-spec = tie.close (tie.spec sub-extent fill-requires write-free-requires same-length returns)
+merge-spec =
+    tie.close
+    (tie.spec sub-fill fill-requires sub-write-free write-free-requires same-length returns)

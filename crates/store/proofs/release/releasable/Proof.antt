@@ -9,7 +9,7 @@ use Rattle.store.specs.State.{state}
 use Rattle.store.specs.Calls.{opening, located}
 use Rattle.store.specs.CallLaws.{opening-parts, Located, located-parts}
 use Rattle.store.specs.declared.answer.Answer.the-variants.{Accepted}
-use Rattle.store.proofs.Merging.{not-opened, not-found, not-base, at-base}
+use Rattle.store.specs.Rows.{free-shut, free-refused, free-off-base, free-at-base}
 use borrow.Author.Needs.{needs}
 use Rattle.store.proofs.release.releasable.Statement.{statement}
 use Rattle.store.proofs.release.releasable.Tie as tie
@@ -57,19 +57,19 @@ add-if1 : tie.Need-add-if1
 add-if1 c = let o = opening-parts (state _ _) _ (opened (c .before .before .before .before .before)) in omega (arith, o .short, sound-in _ _ (object c .header .is-sound))
 
 returns : tie.Need-returns
-returns c = not-base _ (state _ _) _ (opened (c .before .before .before .before .before .before .before)) _ (found (c .before .before)) (λ k. c .if1 .taken (ap (λ (p : Pointer). p .address) (c .before .before .before .before .before .before .unpack .ensures) ∙ k))
+returns c = free-off-base _ (state _ _) _ (opened (c .before .before .before .before .before .before .before)) _ (found (c .before .before)) (λ k. c .if1 .taken (ap (λ (p : Pointer). p .address) (c .before .before .before .before .before .before .unpack .ensures) ∙ k))
 
 coalesce-requires : tie.Need-coalesce-requires
 coalesce-requires c κs = object (c .before .before) .header .is-sound
 
 returns-2 : tie.Need-returns-2
-returns-2 c = not-opened _ (state _ _) _ (sym (c .before .before .before .opening .ensures) ∙ c .before .r .given .1)
+returns-2 c = free-shut _ (state _ _) _ (sym (c .before .before .before .opening .ensures) ∙ c .before .r .given .1)
 
 returns-3 : tie.Need-returns-3
-returns-3 c = not-found _ (state _ _) _ (opened (c .before .before .before .before .before)) _ (asked (c .before .before .before) ∙ c .before .r2 .given .1)
+returns-3 c = free-refused _ (state _ _) _ (opened (c .before .before .before .before .before)) _ (asked (c .before .before .before) ∙ c .before .r2 .given .1)
 
 returns-4 : tie.Need-returns-4
-returns-4 c = c .coalesce .ensures ∙ at-base _ (state _ _) _ (opened (c .before .before .before .before .before .before .before .before)) _ (found (c .before .before .before)) (sym (ap (λ (p : Pointer). p .address) (c .before .before .before .before .before .before .before .unpack .ensures)) ∙ c .before .if1 .left)
+returns-4 c = c .coalesce .ensures ∙ free-at-base _ (state _ _) _ (opened (c .before .before .before .before .before .before .before .before)) _ (found (c .before .before .before)) (sym (ap (λ (p : Pointer). p .address) (c .before .before .before .before .before .before .before .unpack .ensures)) ∙ c .before .if1 .left)
 
 pub releasable-spec : {M : Type 1} → statement M
 releasable-spec =

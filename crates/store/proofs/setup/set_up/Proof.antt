@@ -4,7 +4,8 @@ use native.Mathlib.Omega.{arith}
 use Rattle.store.specs.State.{state}
 use Rattle.store.specs.Calls.{setUpAnswer}
 use Rattle.store.specs.declared.answer.Answer.the-variants.{Accepted}
-use Rattle.store.proofs.Fresh.{Settable, settable-parts, set-up-refused, set-up-accepted}
+use Rattle.store.specs.CallLaws.{Settable, settable-parts}
+use Rattle.store.specs.Rows.{set-up-declined, set-up-done}
 use borrow.Author.Needs.{needs}
 use Rattle.store.proofs.setup.set_up.Statement.{statement}
 use Rattle.store.proofs.setup.set_up.Tie as tie
@@ -41,7 +42,7 @@ same-length-2 : tie.Need-same-length-2
 same-length-2 c = search needs
 
 returns : tie.Need-returns
-returns c = sym (set-up-refused _ _ _ (sym (c .before .before .before .settable .ensures) ∙ c .before .r .given .1))
+returns c = sym (set-up-declined _ _ _ (sym (c .before .before .before .settable .ensures) ∙ c .before .r .given .1))
 
 same-length-3 : tie.Need-same-length-3
 same-length-3 c = search needs
@@ -52,7 +53,7 @@ same-length-4 c = search needs
 returns-2 : tie.Need-returns-2
 returns-2 c =
     let a = c .before .before .before .before .before .before .before .before .before .before .before .before .before .before .before .before .args in
-    cc (set-up-accepted (a .s) (state (a .image .now) (a .table .now)) _ (accepted (c .before .before .before .before .before .before .before .before .before)), c .before .before .before .before .before .before .before .before .used-entries .ensures, c .before .before .before .before .before .before .lay-out .ensures, c .before .before .clear-entries .ensures)
+    cc (set-up-done (a .s) (state (a .image .now) (a .table .now)) _ (accepted (c .before .before .before .before .before .before .before .before .before)), c .before .before .before .before .before .before .before .before .used-entries .ensures, c .before .before .before .before .before .before .lay-out .ensures, c .before .before .clear-entries .ensures)
 
 pub set-up-spec : {M : Type 1} → statement M
 set-up-spec =

@@ -3,7 +3,8 @@ use mathlib.Core.Path.{sym}
 use Prim.Native.Nat.{_^_}
 use native.Mathlib.Omega.{arith}
 use lib.ListN.{length}
-use Rattle.store.proofs.Fresh.{within-low, within-high, within-in, refuses-exponent, refuses-length, refuses-few, accepts}
+use Rattle.store.specs.Rows.{set-up-exponent, set-up-length, set-up-few, set-up-passes}
+use Rattle.store.proofs.Fresh.{within-low, within-high, within-in}
 use borrow.Author.Needs.{needs}
 use Rattle.store.proofs.setup.settable.Statement.{statement}
 use Rattle.store.proofs.setup.settable.Tie as tie
@@ -11,22 +12,22 @@ use Rattle.store.proofs.setup.settable.Tie as tie
 returns : tie.Need-returns
 returns c =
     let a = c .before .before .before .args in
-    sym (refuses-exponent _ _ (within-low 6 15 (a .s) (omega arith)))
+    sym (set-up-exponent _ _ (within-low 6 15 (a .s) (omega arith)))
 
 returns-2 : tie.Need-returns-2
 returns-2 c =
     let a = c .before .before .before .before .args in
-    sym (refuses-exponent _ _ (within-high 6 15 (a .s) (omega arith)))
+    sym (set-up-exponent _ _ (within-high 6 15 (a .s) (omega arith)))
 
 returns-3 : tie.Need-returns-3
 returns-3 c =
     let a = c .before .before .before .before .before .args in
-    sym (refuses-length _ _ (within-in 6 15 (a .s) (omega arith) (omega arith)) (within-low 64 (2 ^ 30) (length (a .image .now)) (omega arith)))
+    sym (set-up-length _ _ (within-in 6 15 (a .s) (omega arith) (omega arith)) (within-low 64 (2 ^ 30) (length (a .image .now)) (omega arith)))
 
 returns-4 : tie.Need-returns-4
 returns-4 c =
     let a = c .before .before .before .before .before .before .args in
-    sym (refuses-length _ _ (within-in 6 15 (a .s) (omega arith) (omega arith)) (within-high 64 (2 ^ 30) (length (a .image .now)) (omega arith)))
+    sym (set-up-length _ _ (within-in 6 15 (a .s) (omega arith) (omega arith)) (within-high 64 (2 ^ 30) (length (a .image .now)) (omega arith)))
 
 used-entries-requires : tie.Need-used-entries-requires
 used-entries-requires c κs = search needs
@@ -34,12 +35,12 @@ used-entries-requires c κs = search needs
 returns-5 : tie.Need-returns-5
 returns-5 c =
     let a = c .before .before .before .before .before .before .before .before .args in
-    sym (refuses-few _ _ (within-in 6 15 (a .s) (omega arith) (omega arith)) (within-in 64 (2 ^ 30) (length (a .image .now)) (omega arith) (omega arith)) (omega arith))
+    sym (set-up-few _ _ (within-in 6 15 (a .s) (omega arith) (omega arith)) (within-in 64 (2 ^ 30) (length (a .image .now)) (omega arith) (omega arith)) (omega arith))
 
 returns-6 : tie.Need-returns-6
 returns-6 c =
     let a = c .before .before .before .before .before .before .before .before .args in
-    sym (accepts _ _ (within-in 6 15 (a .s) (omega arith) (omega arith)) (within-in 64 (2 ^ 30) (length (a .image .now)) (omega arith) (omega arith)) (omega arith))
+    sym (set-up-passes _ _ (within-in 6 15 (a .s) (omega arith) (omega arith)) (within-in 64 (2 ^ 30) (length (a .image .now)) (omega arith) (omega arith)) (omega arith))
 
 pub settable-spec : {M : Type 1} → statement M
 settable-spec =

@@ -1,0 +1,43 @@
+-- What C sees of a call: the returned number, the value, and the image and table as they are left. Assumes nothing.
+use Prim.Native.Nat.{ℕ}
+use mathlib.Core.List.{List}
+use Rattle.store.specs.State.{Outcome, returned, value, usageNumber, liveObjects, liveBytes, freeBytes}
+use Rattle.store.specs.declared.counting.Usage.{Usage}
+
+-- What the export of a call that gives no value returns and leaves.
+pub record Left : Type 0 where
+  pub returned : ℕ
+  pub image : List ℕ
+  pub table : List ℕ
+
+abbrev pub left : ℕ → List ℕ → List ℕ → Left
+left r image table = record { returned = r; image = image; table = table }
+
+abbrev pub leftBy : Outcome → Left
+leftBy o = left (returned (o .answer)) (o .after .image) (o .after .table)
+
+-- What the export of one that gives a value returns, gives and leaves.
+pub record Export : Type 0 where
+  pub returned : ℕ
+  pub value : ℕ
+  pub image : List ℕ
+  pub table : List ℕ
+
+abbrev pub export : ℕ → ℕ → List ℕ → List ℕ → Export
+export r v image table = record { returned = r; value = v; image = image; table = table }
+
+abbrev pub exported : Outcome → Export
+exported o = export (returned (o .answer)) (value (o .answer)) (o .after .image) (o .after .table)
+
+-- What the export of tally gives: every value is 0 where it is refused.
+pub record Tallied : Type 0 where
+  pub returned : ℕ
+  pub objects : ℕ
+  pub live : ℕ
+  pub free : ℕ
+
+abbrev pub tallied : ℕ → ℕ → ℕ → ℕ → Tallied
+tallied r objects live free = record { returned = r; objects = objects; live = live; free = free }
+
+abbrev pub exportedUsage : Usage → Tallied
+exportedUsage u = tallied (usageNumber u) (liveObjects u) (liveBytes u) (freeBytes u)

@@ -1,0 +1,145 @@
+// The library as C sees it. Each function returns document 01's refusal number, 0 where the call is accepted; every value
+// given through a pointer is 0 where it is refused.
+ghost use mathlib.Core.Path.{_≡_};
+ghost use Rattle.store.specs.State.{state};
+ghost use Rattle.store.specs.Calls.{setUp, allocate, move, load, store, free, fill, copy, tally};
+ghost use Rattle.capi.specs.Exports.{left, leftBy, export, exported, tallied, exportedUsage};
+use store::Usage;
+
+// A fresh store on the image and table.
+#[no_mangle]
+pub extern "C" fn cue_setup(image: &mut [u8], table: &mut [u64], exponent: u32) -> u32
+    ensures { λ r. ⌜ left r (now (image .exit)) (now (table .exit)) ≡ leftBy (setUp exponent (state (now (image .entry)) (now (table .entry)))) ⌝ }
+{
+    let a = store::set_up(image, table, exponent);
+    a.returned()
+}
+
+// A new object; its tagged base goes to `pointer`.
+#[no_mangle]
+pub extern "C" fn cue_allocate(
+    image: &mut [u8],
+    table: &mut [u64],
+    size: u32,
+    ty: u16,
+    pointer: &mut u64,
+) -> u32
+    ensures { λ r. ⌜ export r (now (pointer .exit)) (now (image .exit)) (now (table .exit)) ≡ exported (allocate size ty (state (now (image .entry)) (now (table .entry)))) ⌝ }
+{
+    let a = store::allocate(image, table, size, ty);
+    *pointer = a.value();
+    a.returned()
+}
+
+// The pointer moved by a distance goes to `moved`.
+#[no_mangle]
+pub extern "C" fn cue_move(
+    image: &[u8],
+    table: &[u64],
+    pointer: u64,
+    distance: i64,
+    moved: &mut u64,
+) -> u32
+    ensures { λ r. ⌜ export r (now (moved .exit)) (now (image .entry)) (now (table .entry)) ≡ exported (move pointer distance (state (now (image .entry)) (now (table .entry)))) ⌝ }
+{
+    let a = store::offset(image, table, pointer, distance);
+    *moved = a.value();
+    a.returned()
+}
+
+// The number in `width` bytes goes to `value`.
+#[no_mangle]
+pub extern "C" fn cue_load(
+    image: &[u8],
+    table: &[u64],
+    pointer: u64,
+    width: u64,
+    value: &mut u64,
+) -> u32
+    ensures { λ r. ⌜ export r (now (value .exit)) (now (image .entry)) (now (table .entry)) ≡ exported (load pointer width (state (now (image .entry)) (now (table .entry)))) ⌝ }
+{
+    let a = store::load(image, table, pointer, width);
+    *value = a.value();
+    a.returned()
+}
+
+// Puts the value into `width` bytes.
+#[no_mangle]
+pub extern "C" fn cue_store(
+    image: &mut [u8],
+    table: &[u64],
+    pointer: u64,
+    width: u64,
+    value: u64,
+) -> u32
+    ensures { λ r. ⌜ left r (now (image .exit)) (now (table .entry)) ≡ leftBy (store pointer width value (state (now (image .entry)) (now (table .entry)))) ⌝ }
+{
+    let a = store::store(image, table, pointer, width, value);
+    a.returned()
+}
+
+// Ends the life of the object whose base pointer this is.
+#[no_mangle]
+pub extern "C" fn cue_free(image: &mut [u8], table: &mut [u64], pointer: u64) -> u32
+    ensures { λ r. ⌜ left r (now (image .exit)) (now (table .exit)) ≡ leftBy (free pointer (state (now (image .entry)) (now (table .entry)))) ⌝ }
+{
+    let a = store::free(image, table, pointer);
+    a.returned()
+}
+
+// Sets `length` bytes to one value.
+#[no_mangle]
+pub extern "C" fn cue_fill(
+    image: &mut [u8],
+    table: &[u64],
+    pointer: u64,
+    length: u32,
+    value: u8,
+) -> u32
+    ensures { λ r. ⌜ left r (now (image .exit)) (now (table .entry)) ≡ leftBy (fill pointer length value (state (now (image .entry)) (now (table .entry)))) ⌝ }
+{
+    let a = store::fill(image, table, pointer, length, value);
+    a.returned()
+}
+
+// Copies `length` bytes, as if all of the source were read first.
+#[no_mangle]
+pub extern "C" fn cue_copy(
+    image: &mut [u8],
+    table: &[u64],
+    target: u64,
+    source: u64,
+    length: u32,
+) -> u32
+    ensures { λ r. ⌜ left r (now (image .exit)) (now (table .entry)) ≡ leftBy (copy target source length (state (now (image .entry)) (now (table .entry)))) ⌝ }
+{
+    let a = store::copy(image, table, target, source, length);
+    a.returned()
+}
+
+// Live objects, live bytes and free bytes.
+#[no_mangle]
+pub extern "C" fn cue_tally(
+    image: &[u8],
+    table: &[u64],
+    objects: &mut u64,
+    live: &mut u64,
+    free: &mut u64,
+) -> u32
+    ensures { λ r. ⌜ tallied r (now (objects .exit)) (now (live .exit)) (now (free .exit)) ≡ exportedUsage (tally (state (now (image .entry)) (now (table .entry)))) ⌝ }
+{
+    match store::tally(image, table) {
+        Usage::Counts(n, used, rest) => {
+            *objects = n;
+            *live = used;
+            *free = rest;
+            0
+        }
+        Usage::Refused(r) => {
+            *objects = 0;
+            *live = 0;
+            *free = 0;
+            r.number()
+        }
+    }
+}

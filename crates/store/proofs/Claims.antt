@@ -1,0 +1,259 @@
+-- What holds of single calls on every image and table. Assumes nothing.
+use Prim.Native.Nat.{ℕ, _+_, _^_, _≤_, _<_}
+use mathlib.Core.Path.{_≡_, refl, sym, ap, _∙_, subst}
+use mathlib.Core.List.{List, _++_}
+use native.Mathlib.Omega.{arith}
+use lib.IntN.{ℤ}
+use lib.ListN.{length, take, drop, replicate, length-append, length-drop, length-replicate}
+use lib.Seq.{drop-at, length-take-le}
+use borrow.Author.Tests.{eq-eqb}
+use Rattle.frame.specs.Pointers.{unpack, pack}
+use Rattle.frame.specs.Tags.{pointerTo, usedEntries}
+use Rattle.frame.specs.TagLaws.{object-entry-used}
+use Rattle.frame.specs.ObjectLaws.{own-pointer}
+use Rattle.block.specs.Bytes.{encode, put}
+use Rattle.block.specs.BytesLaws.{length-encode, length-put}
+use Rattle.block.specs.Layout.{slotExponent, sizeAt, extentAt}
+use Rattle.block.specs.LayoutLaws.{sound-low, sound-end, sound-live-at}
+use Rattle.block.specs.declared.header.Header.{Header}
+use Rattle.store.specs.State.{State, state, Outcome, IsAccepted, returned, value, usageNumber, liveObjects, liveBytes, freeBytes}
+use Rattle.store.specs.Calls.{setUpAnswer, setUp, fresh, allocateAnswer, allocate, carved, noted, freeRelease, free, move, moveAnswer, load, loadAnswer, storeAnswer, store, fillAnswer, fill, copyAnswer, copy, tally}
+use Rattle.store.specs.CallLaws.{refused-some, Settable, settable-parts, Open, Stands, Located, located-object, located-leads, located-at, Allocates, allocate-parts, Frees, free-parts, store-parts, fill-parts, copy-parts}
+use Rattle.store.specs.Claims.{Call, allocates, frees, moves, loads, stores, fills, copies, step, RefusalsKeep, KeepsShape, ShapesKept, PointsBack, LeadsBack}
+use Rattle.store.specs.Rows.{set-up-declined, set-up-done, allocate-declined, allocate-done, free-declined, free-done, load-leaves, move-leaves, store-declined, store-done, fill-declined, fill-done, copy-declined, copy-done}
+use Rattle.store.specs.Written.{length-fresh, length-noted, noted-beyond, noted-entry, length-carved, carved-exponent, CarvedHeader, carved-header, length-merged}
+use Rattle.store.specs.declared.answer.Answer.{Answer}
+use Rattle.store.specs.declared.answer.Answer.the-variants.{Accepted, Refused}
+use Rattle.store.specs.declared.release.Release.{Release}
+use Rattle.store.specs.declared.release.Release.the-variants as release
+use Rattle.store.specs.declared.counting.Usage.{Usage}
+use Rattle.store.specs.declared.counting.Usage.the-variants as usage
+
+-- how a call ends: refused with nothing changed, or accepted with the shape kept
+data Ended (s : ℕ) (x : State) (r : Outcome) : Type 0 where
+  refused : r .after ≡ x → value (r .answer) ≡ 0 → Ended s x r
+  accepted : IsAccepted r → KeepsShape s x (r .after) → Ended s x r
+
+-- shapes that are kept
+
+-- nothing is written
+kept : (s : ℕ) (x : State) → KeepsShape s x x
+unfolding KeepsShape
+kept s x = (refl, refl, refl)
+
+-- bytes are written in the image
+written : (s : ℕ) (x : State) (at : ℕ) (bytes : List ℕ) → at + length bytes ≤ length (x .image) → KeepsShape s x (state (put (x .image) at bytes) (x .table))
+unfolding KeepsShape
+written s x at bytes l = (length-put (x .image) at bytes l, refl, refl)
+
+-- an entry is noted for an object in the image
+entered : (s : ℕ) (x : State) (image : List ℕ) (h size entry : ℕ) → Open x s → h + 16 + size ≤ length (x .image) → length image ≡ length (x .image)
+    → KeepsShape s x (state image (noted s h size entry (x .table)))
+unfolding KeepsShape
+entered s x image h size entry o l e = (
+  e,
+  length-noted s h size entry (x .table),
+  noted-beyond s h size entry (x .table) (usedEntries s (length (x .image))) (object-entry-used s (length (x .image)) h size l (o .short)),
+)
+
+-- all is set up
+cleared : (s : ℕ) (x : State) → Settable s x
+    → KeepsShape s x (state (fresh s (length (x .image))) (replicate (usedEntries s (length (x .image))) 0 ++ drop (usedEntries s (length (x .image))) (x .table)))
+unfolding KeepsShape
+cleared s x t =
+    let used : ℕ = usedEntries s (length (x .image)) in (
+      length-fresh s (length (x .image)) (omega (arith, t .length-low)),
+      simp (length-append, length-replicate, length-drop) (omega (arith, t .entries)),
+      drop-at (replicate used 0) (drop used (x .table)) used (length-replicate used 0),
+    )
+
+-- how each call ends
+
+-- set-up
+ended-set-up : (s : ℕ) (x : State) → Ended s x (setUp s x)
+ended-set-up s x = go (setUpAnswer s x) refl
+  where
+    go : (a : Answer) → setUpAnswer s x ≡ a → Ended s x (setUp s x)
+    go (Refused r) e = subst (Ended s x) (sym (set-up-declined s x r e)) (refused refl refl)
+    go (Accepted v) e = subst (Ended s x) (sym (set-up-done s x v e)) (accepted refl (cleared s x (settable-parts s x v e)))
+
+-- a call that only answers
+ended-answer : (s : ℕ) (x : State) (a : Answer) → Ended s x (record { answer = a; after = x })
+ended-answer s x (Accepted v) = accepted refl (kept s x)
+ended-answer s x (Refused r) = refused refl refl
+
+module _ (x : State) where
+  -- the slot exponent
+  exponent : ℕ
+  exponent = slotExponent (x .image)
+
+  -- allocate
+  ended-allocate : (size type : ℕ) → Ended exponent x (allocate size type x)
+  unfolding exponent
+  ended-allocate size type = go (allocateAnswer size x) refl
+    where
+      go : (a : Answer) → allocateAnswer size x ≡ a → Ended exponent x (allocate size type x)
+      go (Refused r) e = subst (Ended exponent x) (allocate-declined size x type r e) (refused refl refl)
+      go (Accepted h) e =
+          let a : Allocates size x h = allocate-parts size x h e in
+          subst (Ended exponent x) (allocate-done size x type h exponent _ _ _ _ e refl refl refl refl refl)
+          (accepted refl
+          (entered exponent x _ h size h (a .opens) (a .inside)
+          (length-carved (x .image) h size type (a .lowest .fits-in) (sound-end (x .image) h (a .lowest .is-sound)))))
+
+  -- free
+  ended-free : (word : ℕ) → Ended exponent x (free word x)
+  unfolding exponent
+  ended-free word = go (freeRelease word x) refl
+    where
+      go : (a : Release) → freeRelease word x ≡ a → Ended exponent x (free word x)
+      go (release.Refused r) e = subst (Ended exponent x) (free-declined word x r e) (refused refl refl)
+      go (release.Merges h from to) e =
+          let f : Frees word x h from to = free-parts word x h from to e in
+          subst (Ended exponent x) (free-done word x h from to exponent _ _ _ e refl refl refl refl)
+          (accepted refl
+          (entered exponent x _ h (sizeAt (x .image) h) 0 (f .opens) (f .inside) (length-merged (x .image) from to (f .room) (f .high))))
+
+  -- move
+  ended-move : (word : ℕ) (d : ℤ) → Ended exponent x (move word d x)
+  ended-move word d = subst (Ended exponent x) (sym (move-leaves word d x)) (ended-answer exponent x (moveAnswer word d x))
+
+  -- load
+  ended-load : (word width : ℕ) → Ended exponent x (load word width x)
+  ended-load word width = subst (Ended exponent x) (sym (load-leaves word width x)) (ended-answer exponent x (loadAnswer word width x))
+
+  -- store
+  ended-store : (word width v : ℕ) → Ended exponent x (store word width v x)
+  ended-store word width v = go (storeAnswer word width v x) refl
+    where
+      go : (a : Answer) → storeAnswer word width v x ≡ a → Ended exponent x (store word width v x)
+      go (Refused r) e = subst (Ended exponent x) (store-declined word width v x r e) (refused refl refl)
+      go (Accepted a) e =
+          let (s, h, o, w, l, k) = store-parts word width v x a e in
+          subst (Ended exponent x) (store-done word width v x a e)
+          (accepted refl (written exponent x a (encode width v) (omega (arith, length-encode width v, k .inside))))
+
+  -- fill
+  ended-fill : (word n byte : ℕ) → Ended exponent x (fill word n byte x)
+  ended-fill word n byte = go (fillAnswer word n x) refl
+    where
+      go : (a : Answer) → fillAnswer word n x ≡ a → Ended exponent x (fill word n byte x)
+      go (Refused r) e = subst (Ended exponent x) (fill-declined word n byte x r e) (refused refl refl)
+      go (Accepted a) e =
+          let (s, h, o, l, k) = fill-parts word n x a e in
+          let m : length (replicate n byte) ≡ n = length-replicate n byte in
+          subst (Ended exponent x) (fill-done word n byte x a e) (accepted refl (written exponent x a (replicate n byte) (omega (arith, k .inside))))
+
+  -- copy
+  ended-copy : (target source n : ℕ) → Ended exponent x (copy target source n x)
+  ended-copy target source n = go (copyAnswer target source n x) refl
+    where
+      go : (a : Answer) → copyAnswer target source n x ≡ a → Ended exponent x (copy target source n x)
+      go (Refused r) e = subst (Ended exponent x) (copy-declined target source n x r e) (refused refl refl)
+      go (Accepted a) e =
+          let (s, h, k, o, l, i, j) = copy-parts target source n x a e in
+          let m : length (take n (drop a (x .image))) ≡ n = length-take-le n (drop a (x .image)) (simp length-drop (omega (arith, j .inside))) in
+          subst (Ended exponent x) (copy-done target source n x a e)
+          (accepted refl (written exponent x (unpack target .address) (take n (drop a (x .image))) (omega (arith, i .inside))))
+
+  -- every call
+  ended : (c : Call) → Ended exponent x (step c x)
+  ended (allocates size type) = ended-allocate size type
+  ended (frees p) = ended-free p
+  ended (moves p d) = ended-move p d
+  ended (loads p width) = ended-load p width
+  ended (stores p width v) = ended-store p width v
+  ended (fills p n byte) = ended-fill p n byte
+  ended (copies t p n) = ended-copy t p n
+
+-- what that says of a refusal, and of every shape
+
+-- a refused call changed nothing
+ended-keeps : (s : ℕ) (x : State) (r : Outcome) → Ended s x r → (IsAccepted r → ⊥) → (r .after ≡ x) × (value (r .answer) ≡ 0)
+ended-keeps s x r (refused e f) n = (e, f)
+ended-keeps s x r (accepted a k) n = absurd (n a)
+
+-- every call kept the shape
+ended-shape : (s : ℕ) (x : State) (r : Outcome) → Ended s x r → KeepsShape s x (r .after)
+ended-shape s x r (refused e f) = subst (KeepsShape s x) (sym e) (kept s x)
+ended-shape s x r (accepted a k) = k
+
+-- a refused tally gives no values
+usage-refused : (u : Usage) → (usageNumber u ≡ 0 → ⊥) → (liveObjects u ≡ 0) × (liveBytes u ≡ 0) × (freeBytes u ≡ 0)
+usage-refused (usage.Counts objects live free) n = absurd (n refl)
+usage-refused (usage.Refused r) n = (refl, refl, refl)
+
+-- The claims.
+
+-- demand 1
+pub refusals-keep : RefusalsKeep
+refusals-keep =
+    record {
+      set-up = λ s x n. ended-keeps s x (setUp s x) (ended-set-up s x) n;
+      calls = λ c x n. ended-keeps (exponent x) x (step c x) (ended x c) n;
+      counts = λ x n. usage-refused (tally x) n;
+    }
+
+-- no length and no entry beyond the used ones is changed
+pub shapes-kept : ShapesKept
+unfolding exponent
+shapes-kept =
+    record {
+      set-up = λ s x. ended-shape s x (setUp s x) (ended-set-up s x);
+      calls = λ c x. ended-shape (exponent x) x (step c x) (ended x c);
+    }
+
+-- the object that allocate carves at h stands there, on what allocate leaves
+carved-stands : (size type : ℕ) (x : State) (h : ℕ) → type < 2 ^ 16 → Allocates size x h
+    → Stands (slotExponent (x .image)) (state (carved (x .image) h size type) (noted (slotExponent (x .image)) h size h (x .table))) h size
+carved-stands size type x h fits a =
+    let room : 16 + size ≤ extentAt (x .image) h = a .lowest .fits-in in
+    let ends : h + extentAt (x .image) h ≤ length (x .image) = sound-end (x .image) h (a .lowest .is-sound) in
+    let long : length (carved (x .image) h size type) ≡ length (x .image) = length-carved (x .image) h size type room ends in
+    let c : CarvedHeader (x .image) h size type room ends = carved-header (x .image) h size type room ends (a .opens .short) fits in
+    record {
+      exponent = a .opens .high;
+      inside = omega (arith, a .inside);
+      short = omega (arith, a .opens .short);
+      is-sound =
+          sound-live-at (carved (x .image) h size type) h (c .extent) type size (c .is-header) (sound-low (x .image) h (a .lowest .is-sound))
+          (omega (arith, c .ends)) (a .some-size) (c .holds) (c .tight);
+      is-live = eq-eqb _ _ (ap (λ (d : Header). d .kind) (c .is-header));
+      size-is = ap (λ (d : Header). d .size) (c .is-header);
+      entry = noted-entry (slotExponent (x .image)) h size h (x .table) (a .indexed);
+    }
+
+-- and its pointer leads to it
+carved-leads : (size type : ℕ) (x : State) (h : ℕ) → type < 2 ^ 16 → Allocates size x h
+    → PointsBack size x (state (carved (x .image) h size type) (noted (slotExponent (x .image)) h size h (x .table)))
+    (pack (pointerTo (slotExponent (x .image)) h size))
+carved-leads size type x h fits a =
+    let s : ℕ = slotExponent (x .image) in
+    let y : State = state (carved (x .image) h size type) (noted s h size h (x .table)) in
+    let p : ℕ = pack (pointerTo s h size) in
+    let o : Stands s y h size = carved-stands size type x h fits a in
+    let l : Located s (unpack p) y h = located-object s y h size p o (own-pointer s h size (a .opens .high) (omega (arith, a .inside, a .opens .short))) in
+    record {
+      exponent-kept =
+          carved-exponent (x .image) h size type (a .lowest .fits-in) (sound-end (x .image) h (a .lowest .is-sound))
+          (sound-low (x .image) h (a .lowest .is-sound));
+      place = h;
+      found = a .found;
+      pointer = refl;
+      good-tag = l .good;
+      leads = located-leads s (unpack p) y h l;
+      header = sym (l .place);
+      read = located-at s (unpack p) y h l;
+      size-kept = o .size-is;
+    }
+
+-- demand 2, of allocate
+pub leads-back : LeadsBack
+unfolding LeadsBack
+leads-back size type x fits e = go (allocateAnswer size x) refl
+  where
+    go : (a : Answer) → allocateAnswer size x ≡ a → PointsBack size x (allocate size type x .after) (value (allocate size type x .answer))
+    go (Refused r) q = absurd (refused-some r (ap (λ (o : Outcome). returned (o .answer)) (allocate-declined size x type r q) ∙ e))
+    go (Accepted h) q =
+        subst (λ (o : Outcome). PointsBack size x (o .after) (value (o .answer)))
+        (allocate-done size x type h (slotExponent (x .image)) _ _ _ _ q refl refl refl refl refl) (carved-leads size type x h fits (allocate-parts size x h q))

@@ -1,0 +1,72 @@
+-- What holds of single calls on every image and table, damaged ones too: demand 1, and of demand 2 the pointer that allocate gives.
+-- Assumes nothing.
+use Prim.Native.Nat.{ℕ, _+_, _^_, _<_}
+use mathlib.Core.Path.{_≡_}
+use mathlib.Core.Bool.{true}
+use lib.ListN.{length, drop}
+use lib.IntN.{ℤ}
+use Rattle.frame.specs.Pointers.{unpack, pack, goodTag}
+use Rattle.frame.specs.Tags.{pointerTo, usedEntries}
+use Rattle.block.specs.Layout.{slotExponent, sizeAt}
+use Rattle.block.specs.Walk.{firstFit}
+use Rattle.block.specs.declared.walk.Fit.the-variants as fit
+use Rattle.store.specs.State.{State, Outcome, IsAccepted, value, usageNumber, liveObjects, liveBytes, freeBytes}
+use Rattle.store.specs.Calls.{setUp, allocate, move, load, store, free, fill, copy, tally, leadsBack, headerPlace, located}
+use Rattle.store.specs.declared.answer.Answer.the-variants.{Accepted}
+
+-- a call with its arguments
+pub data Call : Type 0 where
+  allocates : (size type : ℕ) → Call
+  frees : (pointer : ℕ) → Call
+  moves : (pointer : ℕ) (distance : ℤ) → Call
+  loads : (pointer width : ℕ) → Call
+  stores : (pointer width value : ℕ) → Call
+  fills : (pointer n byte : ℕ) → Call
+  copies : (target source n : ℕ) → Call
+
+-- what it answers and leaves
+abbrev pub step : Call → State → Outcome
+step (allocates size type) x = allocate size type x
+step (frees p) x = free p x
+step (moves p d) x = move p d x
+step (loads p width) x = load p width x
+step (stores p width v) x = store p width v x
+step (fills p n byte) x = fill p n byte x
+step (copies t p n) x = copy t p n x
+
+-- Demand 1: a refusal leaves image and table as they were, and every value is 0.
+pub record RefusalsKeep : Type 0 where
+  pub set-up : (s : ℕ) (x : State) → (IsAccepted (setUp s x) → ⊥) → (setUp s x .after ≡ x) × (value (setUp s x .answer) ≡ 0)
+  pub calls : (c : Call) (x : State) → (IsAccepted (step c x) → ⊥) → (step c x .after ≡ x) × (value (step c x .answer) ≡ 0)
+  pub counts :
+      (x : State) → (usageNumber (tally x) ≡ 0 → ⊥)
+      → (liveObjects (tally x) ≡ 0) × (liveBytes (tally x) ≡ 0) × (freeBytes (tally x) ≡ 0)
+
+-- y has the lengths of x, and its table entries beyond the used ones
+unfoldable pub KeepsShape : ℕ → State → State → Type 0
+KeepsShape s x y =
+    (length (y .image) ≡ length (x .image)) × (length (y .table) ≡ length (x .table))
+    × (drop (usedEntries s (length (x .image))) (y .table) ≡ drop (usedEntries s (length (x .image))) (x .table))
+
+-- No call changes a length, or writes a table entry beyond the used ones.
+pub record ShapesKept : Type 0 where
+  pub set-up : (s : ℕ) (x : State) → KeepsShape s x (setUp s x .after)
+  pub calls : (c : Call) (x : State) → KeepsShape (slotExponent (x .image)) x (step c x .after)
+
+-- p is the pointer to an object of `size` bytes in the block that first fit finds in x, and on y reading its tag leads back to that header
+pub record PointsBack (size : ℕ) (x y : State) (p : ℕ) : Type 0 where
+  pub exponent-kept : slotExponent (y .image) ≡ slotExponent (x .image)
+  pub place : ℕ
+  pub found : firstFit (x .image) (16 + size) ≡ fit.At place
+  pub pointer : p ≡ pack (pointerTo (slotExponent (x .image)) place size)
+  pub good-tag : goodTag (slotExponent (x .image)) (unpack p) ≡ true
+  pub leads : leadsBack (slotExponent (x .image)) (unpack p) y ≡ true
+  pub header : headerPlace (slotExponent (x .image)) (unpack p) (y .table) ≡ place
+  pub read : located (slotExponent (x .image)) (unpack p) y ≡ Accepted place
+  pub size-kept : sizeAt (y .image) place ≡ size
+
+-- Demand 2: an accepted allocate gives such a pointer, for the image and table that it leaves.
+unfoldable pub LeadsBack : Type 0
+LeadsBack =
+    (size type : ℕ) (x : State) → type < 2 ^ 16 → IsAccepted (allocate size type x)
+    → PointsBack size x (allocate size type x .after) (value (allocate size type x .answer))

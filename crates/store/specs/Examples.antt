@@ -1,0 +1,100 @@
+-- The marked cases of document 01, "Arithmetic by example", at the slot exponent 6: one theorem over one list, by computation. Assumes nothing.
+use Prim.Native.Nat.{ℕ, _-_}
+use mathlib.Core.Bool.{Bool, true, false, cond, not, _&&_}
+use mathlib.Core.List.{List, [], _∷_}
+use lib.Dec.{T, eqb}
+use lib.ListN.{replicate, getD}
+use lib.IntN.{ℤ, pos, negsuc}
+use Rattle.frame.specs.Frame.{frameNumber, frameNumberIn}
+use Rattle.frame.specs.Pointers.{unpack, pack, goodTag, reach, landed, moved}
+use Rattle.frame.specs.Tags.{lastHeld, wrapper, isSmall, tagNumber, pointerTo, usedEntries, entryAt, entryOf}
+use Rattle.block.specs.Bytes.{encode, decode, field, put}
+use Rattle.block.specs.Layout.{superblock, superblockGood, header, headerAt, wellFormed, sound, isFree, extentAt}
+use Rattle.block.specs.Walk.{walkIn, walkFrom, walk, fitOf, firstFit}
+use Rattle.store.specs.State.{State, state, Outcome, returned, value}
+use Rattle.store.specs.Calls.{setUpAnswer, fresh, setUp, opening, entryFree, fitAnswer, allocateAnswer, carved, noted, allocate, movedAnswer, moveAnswer, move}
+
+-- A case: what it starts from, and what document 01 says of it. An image of L bytes is set up, and the sizes `before` are allocated.
+pub data Case : Type 0 where
+  -- a further object of that size: its header place, its e, its wrapper frame's exponent N, its pointer
+  object : (L : ℕ) (before : List ℕ) (size h e N pointer : ℕ) → Case
+  -- it is small-framed (true) or large-framed
+  framed : (L : ℕ) (before : List ℕ) (size : ℕ) (small : Bool) → Case
+  -- it is large-framed, and its table entry holds its header place
+  entry : (L : ℕ) (before : List ℕ) (size index h : ℕ) → Case
+  -- it takes that extent
+  takes : (L : ℕ) (before : List ℕ) (size extent : ℕ) → Case
+  -- it leaves a free block of that extent at that place
+  leaves : (L : ℕ) (before : List ℕ) (size place extent : ℕ) → Case
+  -- it is refused with that number
+  declined : (L : ℕ) (before : List ℕ) (size number : ℕ) → Case
+  -- a pointer moved by a distance: the returned number, and the value
+  moves : (L : ℕ) (before : List ℕ) (pointer : ℕ) (distance : ℤ) (number value : ℕ) → Case
+
+-- a store set up on an image and table that were full of other bytes
+abbrev begun : ℕ → State
+begun L = setUp 6 (state (replicate L 7) (replicate 400 9)) .after
+
+abbrev placed : List ℕ → State → State
+placed [] x = x
+placed (size ∷ sizes) x = placed sizes (allocate size 0 x .after)
+
+-- the outcome of one allocation more
+abbrev further : ℕ → List ℕ → ℕ → Outcome
+further L before size = allocate size 0 (placed before (begun L))
+
+-- the header place of the object that it gives
+abbrev given : Outcome → ℕ
+given o = unpack (value (o .answer)) .address - 16
+
+abbrev same : Bool → Bool → Bool
+same a b = cond a b (not b)
+
+-- the definitions give what the case says
+abbrev pub holds : Case → Bool
+holds (object L before size h e N pointer) =
+    let o : Outcome = further L before size in
+    eqb (returned (o .answer)) 0
+    && (eqb (value (o .answer)) pointer && (eqb (given o) h && (eqb (lastHeld (given o) size) e && eqb (wrapper (given o) size) N)))
+holds (framed L before size small) = same (isSmall 6 (given (further L before size)) size) small
+holds (entry L before size index h) =
+    let o : Outcome = further L before size in
+    same (isSmall 6 (given o) size) false && (eqb (entryOf 6 (given o) size) index && (eqb (getD (o .after .table) index 0) h && eqb (given o) h))
+holds (takes L before size extent) = let o : Outcome = further L before size in eqb (extentAt (o .after .image) (given o)) extent
+holds (leaves L before size place extent) =
+    let o : Outcome = further L before size in
+    sound (o .after .image) place && (isFree (o .after .image) place && eqb (extentAt (o .after .image) place) extent)
+holds (declined L before size number) = eqb (returned (further L before size .answer)) number
+holds (moves L before pointer d number v) =
+    let o : Outcome = move pointer d (placed before (begun L)) in
+    eqb (returned (o .answer)) number && eqb (value (o .answer)) v
+
+abbrev pub all : List Case → Bool
+all [] = true
+all (c ∷ cs) = holds c && all cs
+
+abbrev pub cases : List Case
+cases =
+    object 1024 [] 10 16 42 6 0x8010000000000020
+    ∷ object 1024 (10 ∷ []) 20 42 78 7 0x000700000000003A
+    ∷ entry 1024 (10 ∷ []) 20 0 42
+    ∷ object 1024 (10 ∷ 20 ∷ []) 32 78 126 6 0x800E00000000005E
+    ∷ object 1024 (10 ∷ 20 ∷ 32 ∷ []) 1 126 143 8 0x000800000000008E
+    ∷ entry 1024 (10 ∷ 20 ∷ 32 ∷ []) 1 1 126
+    ∷ object 1024 [] 31 16 63 6 0x8010000000000020
+    ∷ framed 1024 [] 31 true
+    ∷ object 1024 [] 32 16 64 7 0x0007000000000020
+    ∷ framed 1024 [] 32 false
+    ∷ moves 1024 (10 ∷ []) 0x8010000000000020 (pos 31) 0 0x801000000000003F
+    ∷ moves 1024 (10 ∷ []) 0x8010000000000020 (pos 32) 12 0
+    ∷ moves 1024 (10 ∷ []) 0x8010000000000020 (negsuc 31) 0 0x8010000000000000
+    ∷ takes 64 [] 16 32
+    ∷ leaves 64 [] 16 48 16
+    ∷ takes 64 [] 17 48
+    ∷ object 64 [] 32 16 64 7 0x0007000000000020
+    ∷ declined 64 [] 33 8
+    ∷ []
+
+pub worked : T (all cases)
+unfolding frameNumber frameNumberIn unpack pack goodTag reach landed moved wrapper tagNumber pointerTo usedEntries entryAt encode decode field put superblock superblockGood header headerAt wellFormed sound walkIn walkFrom walk fitOf firstFit setUpAnswer fresh setUp opening entryFree fitAnswer allocateAnswer carved noted allocate movedAnswer moveAnswer move
+worked = tt
