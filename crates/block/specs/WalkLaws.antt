@@ -71,6 +71,11 @@ module _ {A : Type 0} (s : Search A) (image : List ℕ) where
 
   -- the walk from h on, step by step
 
+  -- the walk over the whole image starts behind the superblock
+  pub walk-begins : (a : A) → walkFrom s image a 16 ≡ walk s image a
+  unfolding walk
+  walk-begins a = refl
+
   -- at the end of the image
   pub walk-ended : (a : A) (h : ℕ) → h ≡ length image → walkFrom s image a h ≡ ended a
   unfolding walkFrom
@@ -248,6 +253,11 @@ met-after image target before (stopped a h) r e =
 met-after image target before (unsound h) r e = let z : _≡_ {A = ℕ} 0 1 = cc in absurd (omega arith)
 met-after image target before (ended a) r e = let z : _≡_ {A = ℕ} 0 1 = cc in absurd (omega arith)
 
+-- a walk that stops at the target meets it
+pub walk-to-stopped : (image : List ℕ) (target before : ℕ) → walk (reaching target) image 0 ≡ stopped before target → walkTo image target ≡ met.After before
+unfolding walkTo metOf
+walk-to-stopped image target before e = rw (e, eq-eqb target target refl) refl
+
 -- the block that was met is on the walk, behind the one named
 pub walk-to-meets : (image : List ℕ) (target before : ℕ) → walkTo image target ≡ met.After before → MeetsBlock image target before
 unfolding walkTo Follows
@@ -258,11 +268,9 @@ walk-to-meets image target before e =
 
 -- every sound block on the walk is met
 pub walk-to-block : (image : List ℕ) (target : ℕ) → OnWalk image target → sound image target ≡ true → (before : ℕ) × (walkTo image target ≡ met.After before)
-unfolding walkTo metOf
 walk-to-block image target w o =
     let r = walk-reaches (reaching target) image 0 target (λ k l. lt-leb target k l) target w (omega arith) in
-    let e : walk (reaching target) image 0 ≡ stopped (r .0) target = sym (r .1) ∙ walk-stopped (reaching target) image (r .0) target o (le-leb target target (omega arith)) in
-    (r .0, rw (e, eq-eqb target target refl) refl)
+    (r .0, walk-to-stopped image target (r .0) (sym (r .1) ∙ walk-stopped (reaching target) image (r .0) target o (le-leb target target (omega arith))))
 
 -- counting
 
@@ -293,6 +301,17 @@ count-ended (ended a) n b e =
     let x : a .objects ≡ n = cc in
     let y : a .bytes ≡ b = cc in
     ap ended (λ i. record { objects = x i; bytes = y i })
+
+count-ends : (image : List ℕ) (a : Usage) (w : Walked Usage) → walk counting image a ≡ w → countOf w ≡ counted.Unsound → (h : ℕ) × MeetsUnsound image h
+unfolding countOf
+count-ends image a (stopped b h) q e = absurd (true-false (walk-stop counting image a b h q .2) refl)
+count-ends image a (unsound h) q e = (h, walk-meets-unsound counting image a h q)
+count-ends image a (ended b) q e = let z : _≡_ {A = ℕ} 0 1 = cc in absurd (omega arith)
+
+-- a count that fails has met an unsound header
+pub count-unsound : (image : List ℕ) → countBlocks image ≡ counted.Unsound → (h : ℕ) × MeetsUnsound image h
+unfolding countBlocks
+count-unsound image e = count-ends image _ _ refl e
 
 -- live headers and bytes fit behind the superblock
 pub count-bound : (image : List ℕ) (n b : ℕ) → countBlocks image ≡ counted.Counts n b → 16 + 16 * n + b ≤ length image

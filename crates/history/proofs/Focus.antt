@@ -14,7 +14,7 @@ use Rattle.block.specs.Tests.{byBool, true-false, and-false}
 use Rattle.block.specs.Layout.{extentAt, isFree, sound}
 use Rattle.block.specs.LayoutLaws.{sound-in}
 use Rattle.block.specs.Walk.{walkFrom, walk, reaching, OnWalk, first, next, MeetsUnsound}
-use Rattle.block.specs.WalkLaws.{walk-next}
+use Rattle.block.specs.WalkLaws.{walk-begins, walk-next}
 use Rattle.history.proofs.Gaps.{Block, extent, Layout, last, item, render, size, Ok, lookup, blockAt, Placed, Remade}
 use Rattle.history.proofs.Looks.{gap, look-rest, look-inside, look-early, look-under, clash}
 use Rattle.history.proofs.Rendered.{Part, length-render, gap-sound, gap-extent, block-sound, block-not-free, block-extent, part-next, over-item}
@@ -82,7 +82,6 @@ pub record Focus (image : List ℕ) (l : Layout) (k : ℕ) (m : Layout) : Type 0
 
 -- the whole
 pub focus-whole : (image : List ℕ) (l : Layout) → Placed image l → Focus image l 16 l
-unfolding walk
 focus-whole image l p =
     record {
       placed = p;
@@ -90,7 +89,7 @@ focus-whole image l p =
       on-walk = first;
       before = 0;
       settled = refl;
-      reach = λ t le. refl;
+      reach = λ t le. walk-begins (reaching t) image 0;
       fill = λ n. n;
       okay = λ n k. k;
       same = λ n e. e;

@@ -10,8 +10,8 @@ use lib.Dec.{leb, eqb}
 use borrow.Author.Tests.{le-leb, eq-eqb, eqb-true, eqb-false}
 use Rattle.block.specs.Tests.{byBool}
 use Rattle.block.specs.Layout.{freeHeader, sound, isFree, extentAt}
-use Rattle.block.specs.Walk.{stopped, walk, reaching, metOf, walkTo}
-use Rattle.block.specs.WalkLaws.{walk-stopped}
+use Rattle.block.specs.Walk.{stopped, walk, reaching, walkTo}
+use Rattle.block.specs.WalkLaws.{walk-stopped, walk-to-stopped}
 use Rattle.block.specs.declared.walk.Met.the-variants as met
 use Rattle.store.specs.Calls.{released, mergeStart, mergeEnd, merged}
 use Rattle.store.specs.Rows.{merge-start-here, merge-start-free, merge-end-last, merge-end-free, merge-end-live, released-merges}
@@ -60,8 +60,7 @@ module _ (image : List ℕ) (l : Layout) (k g : ℕ) (b : Block) (m : Layout) (f
 
   -- and so meets it
   meets : walkTo image (k + g) ≡ met.After (crossed .latest)
-  unfolding walkTo metOf
-  meets = ap (metOf (k + g)) walked ∙ rw (eq-eqb (k + g) (k + g) refl)
+  meets = walk-to-stopped image (k + g) (crossed .latest) walked
 
   -- the merging starts with the block's gap
   merge-start : mergeStart image (crossed .latest) (k + g) ≡ k

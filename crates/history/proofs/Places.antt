@@ -10,8 +10,8 @@ use lib.Seq.{getD-drop, drop-length}
 use Rattle.block.specs.Tests.{true-false}
 use Rattle.block.specs.Layout.{freeHeader, sound, isFree, isLive, extentAt, sizeAt}
 use Rattle.block.specs.LayoutLaws.{length-header, sound-in}
-use Rattle.block.specs.Walk.{Walked, stopped, unsound, ended, walk, Usage, counting, countOf, countBlocks, walkTo, MeetsBlock}
-use Rattle.block.specs.WalkLaws.{walk-stop, walk-meets-unsound, walk-to-meets}
+use Rattle.block.specs.Walk.{countBlocks, walkTo, MeetsBlock}
+use Rattle.block.specs.WalkLaws.{walk-to-meets, count-unsound}
 use Rattle.block.specs.declared.walk.Counted.the-variants as counted
 use Rattle.block.specs.declared.walk.Met.{Met}
 use Rattle.block.specs.declared.walk.Met.the-variants as met
@@ -92,14 +92,6 @@ module _ (image : List ℕ) (l : Layout) where
       absurd (standing-looked h (standing image l p h (m .on-walk)) e (m .is-sound) r)
   not-met p h e r met.Lost q = released-lost image h
 
-  -- by how the walk ended
-  count-sound : Placed image l → (a : Usage) (w : Walked Usage) → walk counting image a ≡ w → countOf w ≡ counted.Unsound → ⊥
-  unfolding countOf
-  count-sound p a (stopped b h) q e = true-false (walk-stop counting image a b h q .2) refl
-  count-sound p a (unsound h) q e = no-unsound image l p h (walk-meets-unsound counting image a h q)
-  count-sound p a (ended b) q e = let z : _≡_ {A = ℕ} 0 1 = cc in omega arith
-
   -- a count does not end at an unsound header
   pub counts-sound : Placed image l → countBlocks image ≡ counted.Unsound → ⊥
-  unfolding countBlocks
-  counts-sound p e = count-sound p _ _ refl e
+  counts-sound p e = let m = count-unsound image e in no-unsound image l p (m .0) (m .1)

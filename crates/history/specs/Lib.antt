@@ -2,3 +2,5 @@
 pub mod Heap
 -- claims
 pub mod History
+-- worked example
+pub mod Examples

@@ -16,9 +16,7 @@ frame-start-requires : tie.Need-frame-start-requires
 frame-start-requires c κs = search needs
 
 sub-t9 : tie.Need-sub-t9
-sub-t9 c =
-    let a = c .before .before .before .args in
-    omega (arith, c .frame-start .ensures, div-mul-le-self (a .h) (2 ^ a .s))
+sub-t9 c = rw (c .frame-start .ensures) (div-mul-le-self _ _)
 
 add-t10 : tie.Need-add-t10
 add-t10 c = search needs

@@ -1,0 +1,51 @@
+-- A list of calls that demand 3 admits, and what it leaves, by computation: the claim is about lists such as this one. Assumes nothing.
+use Prim.Native.Nat.{ℕ}
+use mathlib.Core.Path.{_≡_, refl}
+use mathlib.Core.Bool.{true}
+use mathlib.Core.List.{List, [], _∷_}
+use lib.ListN.{replicate}
+use lib.IntN.{pos}
+use Rattle.frame.specs.Frame.{frameNumber, frameNumberIn}
+use Rattle.frame.specs.Pointers.{unpack, pack, goodTag, reach, landed, moved}
+use Rattle.frame.specs.Tags.{wrapper, tagNumber, pointerTo, tagMatches, usedEntries, entryAt}
+use Rattle.block.specs.Bytes.{encode, decode, field, put}
+use Rattle.block.specs.Layout.{superblock, superblockGood, header, headerAt, wellFormed, sound}
+use Rattle.block.specs.Walk.{walkIn, walkFrom, walk, fitOf, firstFit, metOf, walkTo}
+use Rattle.store.specs.State.{State, state}
+use Rattle.store.specs.Calls.{setUpAnswer, fresh, setUp, opening, entryFree, fitAnswer, allocateAnswer, carved, noted, allocate, headerPlace, verified, leadsBack, located, inBody, accessed, movedAnswer, moveAnswer, move, loadAnswer, load, storeAnswer, store, fillAnswer, fill, copyAnswer, copy, mergeEnd, mergeStart, released, releaseFound, freeRelease, merged, freed, free}
+use Rattle.store.specs.Claims.{Call, allocates, frees, moves, loads, stores, fills, copies}
+use Rattle.history.specs.Heap.{Heap, Object, member, ownerOf, inside, change, without, write, copied, hear}
+use Rattle.history.specs.History.{Configuration, begun, after, allAdmitted, known}
+
+-- an image of 128 bytes and a table, full of other bytes, set up at the slot exponent 6
+abbrev start : Configuration
+start = begun 6 (state (replicate 128 7) (replicate 60 9))
+
+-- two objects; one is written through a moved pointer, copied to the other, and freed; some calls are refused
+abbrev pub calls : List Call
+calls =
+    allocates 10 1
+    ∷ allocates 4 2
+    ∷ moves 0x8010000000000020 (pos 6)
+    ∷ moves 0x8010000000000020 (pos 32)
+    ∷ stores 0x8010000000000026 4 0x04030201
+    ∷ stores 0x8010000000000026 8 0
+    ∷ fills 0x8010000000000020 3 5
+    ∷ copies 0x802A00000000003A 0x8010000000000026 4
+    ∷ loads 0x802A00000000003A 4
+    ∷ loads 0x123456789 4
+    ∷ allocates 1000 1
+    ∷ frees 0x8010000000000026
+    ∷ frees 0x8010000000000020
+    ∷ frees 0x8010000000000020
+    ∷ []
+
+-- each of them is admitted
+pub admitted-calls : allAdmitted calls start ≡ true
+unfolding frameNumber frameNumberIn unpack pack goodTag reach landed moved wrapper tagNumber pointerTo tagMatches usedEntries entryAt encode decode field put superblock superblockGood header headerAt wellFormed sound walkIn walkFrom walk fitOf firstFit metOf walkTo setUpAnswer fresh setUp opening entryFree fitAnswer allocateAnswer carved noted allocate headerPlace verified leadsBack located inBody accessed movedAnswer moveAnswer move loadAnswer load storeAnswer store fillAnswer fill copyAnswer copy mergeEnd mergeStart released releaseFound freeRelease merged freed free member ownerOf inside change without write copied hear after allAdmitted known
+admitted-calls = refl
+
+-- and the abstract heap is left with the second object, which holds what was copied to it
+pub left : after calls start .heap ≡ record { answer = 0x802A00000000003A; size = 4; pointers = 0x802A00000000003A ∷ []; bytes = 1 ∷ 2 ∷ 3 ∷ 4 ∷ [] } ∷ []
+unfolding frameNumber frameNumberIn unpack pack goodTag reach landed moved wrapper tagNumber pointerTo tagMatches usedEntries entryAt encode decode field put superblock superblockGood header headerAt wellFormed sound walkIn walkFrom walk fitOf firstFit metOf walkTo setUpAnswer fresh setUp opening entryFree fitAnswer allocateAnswer carved noted allocate headerPlace verified leadsBack located inBody accessed movedAnswer moveAnswer move loadAnswer load storeAnswer store fillAnswer fill copyAnswer copy mergeEnd mergeStart released releaseFound freeRelease merged freed free member ownerOf inside change without write copied hear after
+left = refl
