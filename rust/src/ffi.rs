@@ -1,0 +1,26 @@
+//! The exports of `libcapi.a`, as `include/cueledger.h` has them.
+//!
+//! Each returns document 01's refusal number, 0 where the call is accepted; a refused call gives 0 for every value.
+//! Image, table and values must be valid for the call and must not overlap. No pointer is kept.
+
+#![allow(missing_docs)]
+
+extern "C" {
+    pub fn cue_setup(image: *mut u8, image_len: usize, table: *mut u64, table_len: usize, slot_exponent: u32) -> u32;
+    pub fn cue_allocate(image: *mut u8, image_len: usize, table: *mut u64, table_len: usize, size: u32, r#type: u16, pointer: *mut u64) -> u32;
+    pub fn cue_move(image: *const u8, image_len: usize, table: *const u64, table_len: usize, pointer: u64, distance: i64, moved: *mut u64) -> u32;
+    pub fn cue_load(image: *const u8, image_len: usize, table: *const u64, table_len: usize, pointer: u64, width: u64, value: *mut u64) -> u32;
+    pub fn cue_store(image: *mut u8, image_len: usize, table: *const u64, table_len: usize, pointer: u64, width: u64, value: u64) -> u32;
+    pub fn cue_free(image: *mut u8, image_len: usize, table: *mut u64, table_len: usize, pointer: u64) -> u32;
+    pub fn cue_fill(image: *mut u8, image_len: usize, table: *const u64, table_len: usize, pointer: u64, length: u32, value: u8) -> u32;
+    pub fn cue_copy(image: *mut u8, image_len: usize, table: *const u64, table_len: usize, target: u64, source: u64, length: u32) -> u32;
+    pub fn cue_tally(
+        image: *const u8,
+        image_len: usize,
+        table: *const u64,
+        table_len: usize,
+        objects: *mut u64,
+        live_bytes: *mut u64,
+        free_bytes: *mut u64,
+    ) -> u32;
+}

@@ -1,0 +1,115 @@
+use core::fmt;
+
+/// Why a call was declined: document 01's table, under the names of the proved library. A refused call has changed no byte of image or table.
+#[derive(Clone, Copy, Debug, PartialEq, Eq, Hash)]
+#[repr(u8)]
+pub enum Refusal {
+    /// 1, set-up: the slot exponent is outside 6..=15.
+    BadExponent = 1,
+    /// 2, set-up: the image's length is outside 64..=2^30.
+    BadLength = 2,
+    /// 3, set-up: the table is shorter than the used entries.
+    TooFewEntries = 3,
+    /// 4: the image is under 16 bytes, or its superblock is not as laid out, out of range, or for another length.
+    BadSuperblock = 4,
+    /// 5: the table is shorter than the used entries.
+    ShortTable = 5,
+    /// 6: the size or length is 0.
+    Empty = 6,
+    /// 7: the walk met an unsound header; free: it passed the object's header without meeting it, or the next one is unsound.
+    Unsound = 7,
+    /// 8: the walk reached the image's end and no free block fits.
+    NoSpace = 8,
+    /// 9: the new object's table entry is not zero.
+    EntryTaken = 9,
+    /// 10: the pointer's tag number is out of range.
+    BadTag = 10,
+    /// 11: the tag leads to no live header that has this tag.
+    Dangling = 11,
+    /// 12: the move leaves the slot, the frame or 48 bits.
+    Leaves = 12,
+    /// 13: the bytes are not all inside the body.
+    OutOfBounds = 13,
+    /// 14: the width is not 1, 2, 4 or 8.
+    BadWidth = 14,
+    /// 15, free: the address is not the object's base.
+    NotBase = 15,
+    /// 16, store: the value is too large for the width.
+    TooLarge = 16,
+}
+
+impl Refusal {
+    /// Every refusal, in the order of its number.
+    pub const ALL: [Refusal; 16] = [
+        Refusal::BadExponent,
+        Refusal::BadLength,
+        Refusal::TooFewEntries,
+        Refusal::BadSuperblock,
+        Refusal::ShortTable,
+        Refusal::Empty,
+        Refusal::Unsound,
+        Refusal::NoSpace,
+        Refusal::EntryTaken,
+        Refusal::BadTag,
+        Refusal::Dangling,
+        Refusal::Leaves,
+        Refusal::OutOfBounds,
+        Refusal::BadWidth,
+        Refusal::NotBase,
+        Refusal::TooLarge,
+    ];
+
+    /// Document 01's number, 1 to 16.
+    pub const fn number(self) -> u32 {
+        self as u32
+    }
+
+    /// The refusal with this number, if there is one.
+    pub const fn from_number(number: u32) -> Option<Refusal> {
+        if 1 <= number && number <= 16 {
+            Some(Self::ALL[number as usize - 1])
+        } else {
+            None
+        }
+    }
+}
+
+impl fmt::Display for Refusal {
+    fn fmt(&self, f: &mut fmt::Formatter<'_>) -> fmt::Result {
+        let reason = match self {
+            Refusal::BadExponent => "slot exponent outside 6..=15",
+            Refusal::BadLength => "image length outside 64..=2^30",
+            Refusal::TooFewEntries => "table too short to set up",
+            Refusal::BadSuperblock => "superblock not as laid out",
+            Refusal::ShortTable => "table shorter than the used entries",
+            Refusal::Empty => "size or length 0",
+            Refusal::Unsound => "walk meets an unsound header",
+            Refusal::NoSpace => "no free block fits",
+            Refusal::EntryTaken => "table entry not zero",
+            Refusal::BadTag => "tag number out of range",
+            Refusal::Dangling => "tag leads to no live object",
+            Refusal::Leaves => "move leaves slot, frame or 48 bits",
+            Refusal::OutOfBounds => "bytes not all inside the body",
+            Refusal::BadWidth => "width not 1, 2, 4 or 8",
+            Refusal::NotBase => "address is not the base",
+            Refusal::TooLarge => "value too large for the width",
+        };
+        write!(f, "{} ({})", reason, self.number())
+    }
+}
+
+impl core::error::Error for Refusal {}
+
+#[cfg(test)]
+mod tests {
+    use super::Refusal;
+
+    #[test]
+    fn numbers() {
+        for number in 1..=16 {
+            assert_eq!(Refusal::from_number(number).unwrap().number(), number);
+        }
+        assert_eq!(Refusal::from_number(0), None);
+        assert_eq!(Refusal::from_number(17), None);
+    }
+}

@@ -1,0 +1,330 @@
+//! A case: two buffers, and a list of steps on them. It is run on two stores at once, each with buffers of its own.
+
+use crate::model::{self, Pointer};
+use crate::random::Random;
+use crate::store::{Answer, Call, Store};
+use std::collections::HashMap;
+use std::fmt;
+
+/// Where a step takes a number from. Steps are named by their number in the list as it was generated, so that a
+/// list with steps taken out still means something: the answer of a step that is gone, or was refused, is 0.
+#[derive(Clone, Copy, Debug, PartialEq, Eq)]
+pub enum Arg {
+    Number(u64),
+    /// An earlier step's answer, with its address moved and then bits flipped.
+    Answer {
+        step: u32,
+        add: i64,
+        flip: u64,
+    },
+    /// The pointer that allocate would give for a header this far behind an earlier answer's address.
+    Header {
+        step: u32,
+        offset: u64,
+        size: u32,
+    },
+}
+
+impl Arg {
+    pub fn of(step: u32) -> Arg {
+        Arg::Answer { step, add: 0, flip: 0 }
+    }
+}
+
+/// What is written behind the store's back.
+#[derive(Clone, Copy, Debug, PartialEq, Eq)]
+pub enum Damage {
+    /// Bytes of the image from the argument's address on.
+    Image { at: Arg, bytes: [u8; 16], count: usize },
+    /// One entry.
+    Entry { index: u64, value: u64 },
+    /// The entry of a large-framed pointer; without a value, the place 16 bytes before its address.
+    EntryOf { of: Arg, value: Option<u64> },
+}
+
+#[derive(Clone, Copy, Debug, PartialEq, Eq)]
+pub enum Action {
+    Call(Call<Arg>),
+    Damage(Damage),
+    /// From here on the calls get slices of these lengths.
+    Lend {
+        image: usize,
+        table: usize,
+    },
+}
+
+#[derive(Clone, Copy, Debug, PartialEq, Eq)]
+pub struct Step {
+    pub number: u32,
+    pub action: Action,
+}
+
+/// The buffers, with their content before the first step: random from `content`.
+#[derive(Clone, Copy, Debug)]
+pub struct Buffers {
+    pub image: usize,
+    pub table: usize,
+    pub lent_image: usize,
+    pub lent_table: usize,
+    pub content: u64,
+    /// A history begun by set-up, on which 9 never occurs.
+    pub history: bool,
+}
+
+#[derive(Clone, Debug)]
+pub struct Case {
+    pub buffers: Buffers,
+    pub steps: Vec<Step>,
+}
+
+/// How the two stores differ, or how the expected one breaks a promise of its own.
+#[derive(Clone, Debug)]
+pub enum Mismatch {
+    Answer { expected: Answer, got: Answer },
+    Image { at: usize, expected: u8, got: u8 },
+    Table { at: usize, expected: u64, got: u64 },
+    RefusalWrote,
+    EntryTakenInHistory,
+}
+
+impl fmt::Display for Mismatch {
+    fn fmt(&self, f: &mut fmt::Formatter<'_>) -> fmt::Result {
+        match self {
+            Mismatch::Answer { expected, got } => write!(f, "answer: expected {}, got {}", show_answer(expected), show_answer(got)),
+            Mismatch::Image { at, expected, got } => write!(f, "image byte {at}: expected {expected:#04x}, got {got:#04x}"),
+            Mismatch::Table { at, expected, got } => write!(f, "table entry {at}: expected {expected:#x}, got {got:#x}"),
+            Mismatch::RefusalWrote => write!(f, "the expected store wrote something although it refused"),
+            Mismatch::EntryTakenInHistory => write!(f, "the expected store answered 9 on a history begun by set-up"),
+        }
+    }
+}
+
+fn show_answer(answer: &Answer) -> String {
+    let [a, b, c] = answer.values;
+    match (answer.refusal, b, c) {
+        (0, 0, 0) if a == 0 => "accepted".to_string(),
+        (0, 0, 0) => format!("accepted, {a:#018x}"),
+        (0, ..) => format!("accepted, {a}, {b}, {c}"),
+        (n, ..) if answer.values == [0; 3] => format!("refusal {n}"),
+        (n, ..) => format!("refusal {n} with values {a:#x}, {b:#x}, {c:#x}"),
+    }
+}
+
+/// How often each refusal, and each call, occurred.
+#[derive(Clone, Debug, Default)]
+pub struct Counts {
+    pub calls: u64,
+    /// By refusal number; 0 is accepted.
+    pub rows: [u64; 17],
+    /// By call and refusal number.
+    pub by_call: [[u64; 17]; 9],
+    pub cases: u64,
+    /// Cases with an image of 64 KiB and more.
+    pub large_images: u64,
+    pub largest_image: usize,
+    /// Cases by slot exponent.
+    pub slot_exponents: [u64; 16],
+    /// Accepted accesses and frees by small- and large-framed pointers.
+    pub framed: [u64; 2],
+}
+
+impl Counts {
+    fn add(&mut self, call: &Call<u64>, refusal: u32) {
+        self.calls += 1;
+        self.rows[refusal.min(16) as usize] += 1;
+        self.by_call[call.kind()][refusal.min(16) as usize] += 1;
+        match *call {
+            Call::Load { pointer, .. } | Call::Store { pointer, .. } | Call::Free { pointer } | Call::Fill { pointer, .. } if refusal == 0 => {
+                self.framed[usize::from(pointer >> 63 == 0)] += 1;
+            }
+            _ => {}
+        }
+    }
+}
+
+struct Side<'a, S> {
+    store: &'a S,
+    image: Vec<u8>,
+    table: Vec<u64>,
+}
+
+/// A case as it runs.
+pub struct Run<'a, A, B> {
+    expected: Side<'a, A>,
+    tested: Side<'a, B>,
+    // the expected side before the call
+    before: (Vec<u8>, Vec<u64>),
+    lent_image: usize,
+    lent_table: usize,
+    history: bool,
+    slot_exponent: u32,
+    answers: HashMap<u32, u64>,
+}
+
+impl<'a, A: Store, B: Store> Run<'a, A, B> {
+    pub fn new(expected: &'a A, tested: &'a B, buffers: &Buffers) -> Self {
+        let mut random = Random::new(buffers.content);
+        let mut image = vec![0u8; buffers.image];
+        for chunk in image.chunks_mut(8) {
+            chunk.copy_from_slice(&random.word().to_le_bytes()[..chunk.len()]);
+        }
+        let table: Vec<u64> = (0..buffers.table).map(|_| random.word()).collect();
+        Run {
+            before: (image.clone(), table.clone()),
+            tested: Side { store: tested, image: image.clone(), table: table.clone() },
+            expected: Side { store: expected, image, table },
+            lent_image: buffers.lent_image,
+            lent_table: buffers.lent_table,
+            history: buffers.history,
+            slot_exponent: 6,
+            answers: HashMap::new(),
+        }
+    }
+
+    /// The image that calls get, as the expected store left it.
+    pub fn image(&self) -> &[u8] {
+        &self.expected.image[..self.lent_image]
+    }
+
+    /// The slot exponent of the last set-up that was accepted.
+    pub fn slot_exponent(&self) -> u32 {
+        self.slot_exponent
+    }
+
+    pub fn resolve(&self, arg: Arg) -> u64 {
+        let answer = |step| self.answers.get(&step).copied().unwrap_or(0);
+        match arg {
+            Arg::Number(number) => number,
+            Arg::Answer { step, add, flip } => {
+                let p = Pointer::unpack(answer(step));
+                Pointer { address: p.address.wrapping_add(add as u64) & 0xffff_ffff_ffff, ..p }.pack() ^ flip
+            }
+            Arg::Header { step, offset, size } => {
+                let h = Pointer::unpack(answer(step)).address + offset;
+                Pointer::to(self.slot_exponent, h, u64::from(size)).pack()
+            }
+        }
+    }
+
+    /// Takes one step on both sides; `Ok` has the answer where the step is a call.
+    pub fn step(&mut self, step: &Step, counts: &mut Counts) -> Result<Option<Answer>, Mismatch> {
+        match step.action {
+            Action::Lend { image, table } => {
+                self.lent_image = image.min(self.expected.image.len());
+                self.lent_table = table.min(self.expected.table.len());
+                Ok(None)
+            }
+            Action::Damage(damage) => {
+                self.damage(damage);
+                Ok(None)
+            }
+            Action::Call(call) => self.call(step.number, call.map(|arg| self.resolve(arg)), counts).map(Some),
+        }
+    }
+
+    fn damage(&mut self, damage: Damage) {
+        match damage {
+            Damage::Image { at, bytes, count } => {
+                let at = (self.resolve(at) & 0xffff_ffff_ffff) as usize;
+                let end = at.saturating_add(count).min(self.before.0.len());
+                if at < end {
+                    for image in [&mut self.expected.image, &mut self.tested.image, &mut self.before.0] {
+                        image[at..end].copy_from_slice(&bytes[..end - at]);
+                    }
+                }
+            }
+            Damage::Entry { index, value } => self.set_entry(index, value),
+            Damage::EntryOf { of, value } => {
+                let p = Pointer::unpack(self.resolve(of));
+                let s = self.slot_exponent;
+                if !p.small && u64::from(s) < p.tag && p.tag <= 31 {
+                    self.set_entry(model::entry(s, p.tag as u32, p.address), value.unwrap_or(p.address.wrapping_sub(16)));
+                }
+            }
+        }
+    }
+
+    fn set_entry(&mut self, index: u64, value: u64) {
+        if index < self.before.1.len() as u64 {
+            for table in [&mut self.expected.table, &mut self.tested.table, &mut self.before.1] {
+                table[index as usize] = value;
+            }
+        }
+    }
+
+    fn call(&mut self, number: u32, call: Call<u64>, counts: &mut Counts) -> Result<Answer, Mismatch> {
+        let (n, m) = (self.lent_image, self.lent_table);
+        let (e, t) = (&mut self.expected, &mut self.tested);
+        let expected = e.store.call(&mut e.image[..n], &mut e.table[..m], call);
+        let got = t.store.call(&mut t.image[..n], &mut t.table[..m], call);
+        counts.add(&call, expected.refusal);
+        if expected != got {
+            return Err(Mismatch::Answer { expected, got });
+        }
+        // whole buffers, what was not lent included
+        if e.image != t.image {
+            let at = (0..e.image.len()).find(|&i| e.image[i] != t.image[i]).unwrap();
+            return Err(Mismatch::Image { at, expected: e.image[at], got: t.image[at] });
+        }
+        if e.table != t.table {
+            let at = (0..e.table.len()).find(|&i| e.table[i] != t.table[i]).unwrap();
+            return Err(Mismatch::Table { at, expected: e.table[at], got: t.table[at] });
+        }
+        let reads_only = matches!(call, Call::Move { .. } | Call::Load { .. } | Call::Tally);
+        if expected.accepted() && !reads_only {
+            self.before.0.copy_from_slice(&e.image);
+            self.before.1.copy_from_slice(&e.table);
+        } else if self.before.0 != e.image || self.before.1 != e.table {
+            return Err(Mismatch::RefusalWrote);
+        }
+        if self.history && expected.refusal == 9 {
+            return Err(Mismatch::EntryTakenInHistory);
+        }
+        if expected.accepted() {
+            if let Call::SetUp { slot_exponent } = call {
+                self.slot_exponent = slot_exponent;
+            }
+            if matches!(call, Call::Allocate { .. } | Call::Move { .. }) {
+                self.answers.insert(number, expected.values[0]);
+            }
+        }
+        Ok(expected)
+    }
+}
+
+impl Case {
+    /// Runs the whole list; the first step that fails, with how.
+    pub fn run(&self, expected: &impl Store, tested: &impl Store) -> Result<(), (usize, Mismatch)> {
+        let mut run = Run::new(expected, tested, &self.buffers);
+        let mut counts = Counts::default();
+        for (i, step) in self.steps.iter().enumerate() {
+            run.step(step, &mut counts).map_err(|mismatch| (i, mismatch))?;
+        }
+        Ok(())
+    }
+
+    /// The list with its numbers, one line for each step, and the mismatch at its end.
+    pub fn describe(&self, expected: &impl Store, tested: &impl Store) -> String {
+        let mut text = format!("image of {} bytes, table of {} entries\n", self.buffers.lent_image, self.buffers.lent_table);
+        let mut run = Run::new(expected, tested, &self.buffers);
+        let mut counts = Counts::default();
+        for step in &self.steps {
+            let shown = match step.action {
+                Action::Call(call) => call.map(|arg| run.resolve(arg)).to_string(),
+                Action::Damage(Damage::Image { at, bytes, count }) => {
+                    format!("damage: image from {} on: {:02x?}", run.resolve(at) & 0xffff_ffff_ffff, &bytes[..count])
+                }
+                Action::Damage(Damage::Entry { index, value }) => format!("damage: entry {index} = {value:#x}"),
+                Action::Damage(Damage::EntryOf { of, value }) => format!("damage: entry of {:#x} = {value:x?}", run.resolve(of)),
+                Action::Lend { image, table } => format!("lend {image} bytes, {table} entries"),
+            };
+            let result = match run.step(step, &mut counts) {
+                Ok(None) => String::new(),
+                Ok(Some(answer)) => format!(" -> {}", show_answer(&answer)),
+                Err(mismatch) => format!(" -> MISMATCH, {mismatch}"),
+            };
+            text += &format!("  {:>4}  {shown}{result}\n", step.number);
+        }
+        text
+    }
+}

@@ -1,0 +1,415 @@
+//! A model of document 01, written from its text alone. It works in place; every check comes before the first
+//! write, so that a refusal changes nothing.
+//!
+//! Places and numbers are u64 throughout: fields have at most 4 bytes and addresses 48 bits, so that only a table
+//! entry, which may be any number, needs care.
+
+/// The value of an accepted call, 0 where it has none, or the refusal's number.
+pub type Answer = Result<u64, u32>;
+
+/// Objects, live bytes and free bytes, or the refusal's number.
+pub type TallyAnswer = Result<[u64; 3], u32>;
+
+pub const SUPERBLOCK: u64 = 16;
+pub const HEADER: u64 = 16;
+const FREE: u16 = 1;
+const LIVE: u16 = 2;
+const ENTRIES_PER_DIVISION: u64 = 48;
+const MAX_LENGTH: u64 = 1 << 30;
+const ADDRESS_BITS: u32 = 48;
+
+// ---- bytes
+
+fn le16(image: &[u8], at: usize) -> u16 {
+    u16::from_le_bytes(image[at..at + 2].try_into().unwrap())
+}
+
+fn le32(image: &[u8], at: usize) -> u32 {
+    u32::from_le_bytes(image[at..at + 4].try_into().unwrap())
+}
+
+/// The sixteen bytes of a header, or of the superblock: both have fields of 4, 2, 2, 4 and 4 bytes.
+#[derive(Clone, Copy, Debug, PartialEq, Eq)]
+pub struct Header {
+    pub extent: u32,
+    pub kind: u16,
+    pub type_number: u16,
+    pub size: u32,
+    pub zero: u32,
+}
+
+impl Header {
+    pub fn free(extent: u64) -> Header {
+        Header { extent: extent as u32, kind: FREE, type_number: 0, size: 0, zero: 0 }
+    }
+
+    pub fn live(extent: u64, type_number: u16, size: u32) -> Header {
+        Header { extent: extent as u32, kind: LIVE, type_number, size, zero: 0 }
+    }
+
+    /// The sixteen bytes at `at`, which must be inside the image.
+    pub fn read(image: &[u8], at: u64) -> Header {
+        let bytes = &image[at as usize..at as usize + 16];
+        Header { extent: le32(bytes, 0), kind: le16(bytes, 4), type_number: le16(bytes, 6), size: le32(bytes, 8), zero: le32(bytes, 12) }
+    }
+
+    pub fn bytes(self) -> [u8; 16] {
+        let mut bytes = [0; 16];
+        bytes[0..4].copy_from_slice(&self.extent.to_le_bytes());
+        bytes[4..6].copy_from_slice(&self.kind.to_le_bytes());
+        bytes[6..8].copy_from_slice(&self.type_number.to_le_bytes());
+        bytes[8..12].copy_from_slice(&self.size.to_le_bytes());
+        bytes[12..16].copy_from_slice(&self.zero.to_le_bytes());
+        bytes
+    }
+
+    fn write(self, image: &mut [u8], at: u64) {
+        image[at as usize..at as usize + 16].copy_from_slice(&self.bytes());
+    }
+
+    fn is_free(self) -> bool {
+        self.kind == FREE
+    }
+
+    fn is_live(self) -> bool {
+        self.kind == LIVE
+    }
+}
+
+/// The header at `h` if it is sound. The image has at least 64 bytes; `h` may be any number.
+pub fn sound(image: &[u8], h: u64) -> Option<Header> {
+    let length = image.len() as u64;
+    if h < SUPERBLOCK || h > length - HEADER {
+        return None;
+    }
+    let header = Header::read(image, h);
+    let (extent, size) = (u64::from(header.extent), u64::from(header.size));
+    if extent < HEADER || extent > length - h || header.zero != 0 {
+        return None;
+    }
+    let fits_kind = match header.kind {
+        FREE => header.type_number == 0 && size == 0,
+        LIVE => size >= 1 && HEADER + size <= extent && extent <= 31 + size,
+        _ => false,
+    };
+    fits_kind.then_some(header)
+}
+
+// ---- frames, tags, pointers
+
+/// How often a and b must be halved until they are equal.
+pub fn frame_number(a: u64, b: u64) -> u32 {
+    u64::BITS - (a ^ b).leading_zeros()
+}
+
+fn same_frame(exponent: u32, a: u64, b: u64) -> bool {
+    a >> exponent == b >> exponent
+}
+
+fn frame_start(exponent: u32, a: u64) -> u64 {
+    a >> exponent << exponent
+}
+
+/// A pointer taken apart.
+#[derive(Clone, Copy, Debug, PartialEq, Eq)]
+pub struct Pointer {
+    pub small: bool,
+    pub tag: u64,
+    pub address: u64,
+}
+
+impl Pointer {
+    pub fn unpack(pointer: u64) -> Pointer {
+        Pointer { small: pointer >> 63 == 1, tag: (pointer >> ADDRESS_BITS) & 0x7fff, address: pointer & 0xffff_ffff_ffff }
+    }
+
+    pub fn pack(self) -> u64 {
+        (u64::from(self.small) << 63) | (self.tag << ADDRESS_BITS) | self.address
+    }
+
+    /// Allocate's pointer for an object of `size` bytes whose header is at `h`.
+    pub fn to(s: u32, h: u64, size: u64) -> Pointer {
+        let wrapper = frame_number(h, h + HEADER + size);
+        let small = wrapper <= s;
+        let tag = if small { h - frame_start(s, h) } else { u64::from(wrapper) };
+        Pointer { small, tag, address: h + HEADER }
+    }
+
+    fn tag_in_range(self, s: u32) -> bool {
+        if self.small {
+            self.tag < 1 << s
+        } else {
+            u64::from(s) < self.tag && self.tag <= 31
+        }
+    }
+
+    /// The exponent of the slot or frame that the pointer stays in; its tag is in range.
+    fn reach(self, s: u32) -> u32 {
+        if self.small {
+            s
+        } else {
+            self.tag as u32
+        }
+    }
+}
+
+pub fn used_entries(s: u32, length: u64) -> u64 {
+    ENTRIES_PER_DIVISION * (((length - 1) >> (s + 1)) + 1)
+}
+
+/// The table entry of the frame of 2^exponent bytes that holds `a`; the exponent is above s.
+pub fn entry(s: u32, exponent: u32, a: u64) -> u64 {
+    ENTRIES_PER_DIVISION * (frame_start(exponent, a) >> (s + 1)) + u64::from(exponent - s - 1)
+}
+
+// ---- the checks that calls share
+
+/// 4, 5; gives the slot exponent.
+fn open(image: &[u8], table: &[u64]) -> Result<u32, u32> {
+    if image.len() < 16 {
+        return Err(4);
+    }
+    let length = image.len() as u64;
+    let lead = Header::read(image, 0);
+    let (s, stated) = (u32::from(lead.type_number), u64::from(lead.size));
+    let laid_out = lead.extent == 16 && lead.kind == 3 && lead.zero == 0;
+    if !laid_out || !(6..=15).contains(&s) || !(64..=MAX_LENGTH).contains(&stated) || stated != length {
+        return Err(4);
+    }
+    if (table.len() as u64) < used_entries(s, length) {
+        return Err(5);
+    }
+    Ok(s)
+}
+
+/// 10, 11; gives the header's place and the header.
+fn read_tag(image: &[u8], table: &[u64], s: u32, p: Pointer) -> Result<(u64, Header), u32> {
+    if !p.tag_in_range(s) {
+        return Err(10);
+    }
+    let reach = p.reach(s);
+    let start = frame_start(reach, p.address);
+    if start >= image.len() as u64 {
+        return Err(11);
+    }
+    let h = if p.small { start + p.tag } else { table[entry(s, reach, p.address) as usize] };
+    let header = sound(image, h).ok_or(11u32)?;
+    if !header.is_live() || !same_frame(reach, h, p.address) {
+        return Err(11);
+    }
+    let afresh = Pointer::to(s, h, u64::from(header.size));
+    if (afresh.small, afresh.tag) != (p.small, p.tag) {
+        return Err(11);
+    }
+    Ok((h, header))
+}
+
+/// 10, 11, 13; gives the place of the first byte.
+fn access(image: &[u8], table: &[u64], s: u32, pointer: u64, bytes: u64) -> Result<usize, u32> {
+    let p = Pointer::unpack(pointer);
+    let (h, header) = read_tag(image, table, s, p)?;
+    let base = h + HEADER;
+    if p.address < base || p.address + bytes > base + u64::from(header.size) {
+        return Err(13);
+    }
+    Ok(p.address as usize)
+}
+
+// ---- the calls
+
+pub fn set_up(image: &mut [u8], table: &mut [u64], s: u32) -> Answer {
+    let length = image.len() as u64;
+    if !(6..=15).contains(&s) {
+        return Err(1);
+    }
+    if !(64..=MAX_LENGTH).contains(&length) {
+        return Err(2);
+    }
+    let used = used_entries(s, length);
+    if (table.len() as u64) < used {
+        return Err(3);
+    }
+    image.fill(0);
+    Header { extent: 16, kind: 3, type_number: s as u16, size: length as u32, zero: 0 }.write(image, 0);
+    Header::free(length - SUPERBLOCK).write(image, SUPERBLOCK);
+    table[..used as usize].fill(0);
+    Ok(0)
+}
+
+pub fn allocate(image: &mut [u8], table: &mut [u64], size: u32, type_number: u16) -> Answer {
+    let s = open(image, table)?;
+    if size == 0 {
+        return Err(6);
+    }
+    let need = HEADER + u64::from(size);
+    let mut h = SUPERBLOCK;
+    let extent = loop {
+        if h == image.len() as u64 {
+            return Err(8);
+        }
+        let header = sound(image, h).ok_or(7u32)?;
+        let extent = u64::from(header.extent);
+        if header.is_free() && extent >= need {
+            break extent;
+        }
+        h += extent;
+    };
+    let pointer = Pointer::to(s, h, u64::from(size));
+    if !pointer.small {
+        let held = &mut table[entry(s, pointer.tag as u32, h) as usize];
+        if *held != 0 {
+            return Err(9);
+        }
+        *held = h;
+    }
+    if extent - need < HEADER {
+        Header::live(extent, type_number, size).write(image, h);
+    } else {
+        Header::live(need, type_number, size).write(image, h);
+        Header::free(extent - need).write(image, h + need);
+    }
+    Ok(pointer.pack())
+}
+
+pub fn offset(image: &[u8], table: &[u64], pointer: u64, distance: i64) -> Answer {
+    let s = open(image, table)?;
+    let p = Pointer::unpack(pointer);
+    if !p.tag_in_range(s) {
+        return Err(10);
+    }
+    let moved = i128::from(p.address) + i128::from(distance);
+    if !(0..1i128 << ADDRESS_BITS).contains(&moved) || !same_frame(p.reach(s), moved as u64, p.address) {
+        return Err(12);
+    }
+    Ok(Pointer { address: moved as u64, ..p }.pack())
+}
+
+pub fn load(image: &[u8], table: &[u64], pointer: u64, width: u64) -> Answer {
+    let s = open(image, table)?;
+    if !matches!(width, 1 | 2 | 4 | 8) {
+        return Err(14);
+    }
+    let at = access(image, table, s, pointer, width)?;
+    Ok(match width {
+        1 => u64::from(image[at]),
+        2 => u64::from(le16(image, at)),
+        4 => u64::from(le32(image, at)),
+        _ => u64::from_le_bytes(image[at..at + 8].try_into().unwrap()),
+    })
+}
+
+pub fn store(image: &mut [u8], table: &[u64], pointer: u64, width: u64, value: u64) -> Answer {
+    let s = open(image, table)?;
+    if !matches!(width, 1 | 2 | 4 | 8) {
+        return Err(14);
+    }
+    if width < 8 && value >> (8 * width) != 0 {
+        return Err(16);
+    }
+    let at = access(image, table, s, pointer, width)?;
+    match width {
+        1 => image[at] = value as u8,
+        2 => image[at..at + 2].copy_from_slice(&(value as u16).to_le_bytes()),
+        4 => image[at..at + 4].copy_from_slice(&(value as u32).to_le_bytes()),
+        _ => image[at..at + 8].copy_from_slice(&value.to_le_bytes()),
+    }
+    Ok(0)
+}
+
+pub fn free(image: &mut [u8], table: &mut [u64], pointer: u64) -> Answer {
+    let s = open(image, table)?;
+    let length = image.len() as u64;
+    let p = Pointer::unpack(pointer);
+    let (h, header) = read_tag(image, table, s, p)?;
+    if p.address != h + HEADER {
+        return Err(15);
+    }
+    // the place to merge from: h, or the block directly before it if that one is free
+    let mut from = h;
+    let mut at = SUPERBLOCK;
+    while at != h {
+        if at > h {
+            return Err(7);
+        }
+        let passed = sound(image, at).ok_or(7u32)?;
+        from = if passed.is_free() { at } else { h };
+        at += u64::from(passed.extent);
+    }
+    let mut to = h + u64::from(header.extent);
+    if to < length {
+        let next = sound(image, to).ok_or(7u32)?;
+        if next.is_free() {
+            to += u64::from(next.extent);
+        }
+    }
+    image[from as usize..to as usize].fill(0);
+    Header::free(to - from).write(image, from);
+    if !p.small {
+        table[entry(s, p.tag as u32, h) as usize] = 0;
+    }
+    Ok(0)
+}
+
+pub fn fill(image: &mut [u8], table: &[u64], pointer: u64, length: u32, value: u8) -> Answer {
+    let s = open(image, table)?;
+    if length == 0 {
+        return Err(6);
+    }
+    let at = access(image, table, s, pointer, u64::from(length))?;
+    image[at..at + length as usize].fill(value);
+    Ok(0)
+}
+
+pub fn copy(image: &mut [u8], table: &[u64], target: u64, source: u64, length: u32) -> Answer {
+    let s = open(image, table)?;
+    if length == 0 {
+        return Err(6);
+    }
+    let to = access(image, table, s, target, u64::from(length))?;
+    let from = access(image, table, s, source, u64::from(length))?;
+    image.copy_within(from..from + length as usize, to);
+    Ok(0)
+}
+
+pub fn tally(image: &[u8], table: &[u64]) -> TallyAnswer {
+    open(image, table)?;
+    let length = image.len() as u64;
+    let (mut objects, mut live_bytes) = (0, 0);
+    let mut at = SUPERBLOCK;
+    while at != length {
+        let header = sound(image, at).ok_or(7u32)?;
+        if header.is_live() {
+            objects += 1;
+            live_bytes += u64::from(header.size);
+        }
+        at += u64::from(header.extent);
+    }
+    Ok([objects, live_bytes, length - SUPERBLOCK - live_bytes])
+}
+
+#[cfg(test)]
+mod tests {
+    use super::frame_number;
+
+    // document 01's words
+    fn by_halves(a: u64, b: u64) -> u32 {
+        if a == b {
+            0
+        } else {
+            1 + by_halves(a / 2, b / 2)
+        }
+    }
+
+    #[test]
+    fn frame_number_is_the_number_of_halvings() {
+        for a in 0..300 {
+            for b in 0..300 {
+                assert_eq!(frame_number(a, b), by_halves(a, b), "{a} {b}");
+            }
+        }
+        for a in [0, 1, 16, (1 << 30) - 17, (1 << 30) - 1] {
+            assert_eq!(frame_number(a, 1 << 30), by_halves(a, 1 << 30));
+        }
+        assert_eq!(frame_number(16, 1 << 30), 31);
+    }
+}

@@ -1,0 +1,227 @@
+//! The driver itself: it passes the model, and finds and shortens each of these faults.
+
+use cueledger_tests::case::Mismatch;
+use cueledger_tests::driver::{compare, missing, Failure};
+use cueledger_tests::model::{self, Pointer};
+use cueledger_tests::store::{Answer, Call, Model, Store};
+
+type Behaviour = fn(&mut [u8], &mut [u64], Call<u64>) -> Answer;
+
+/// The model with one fault.
+struct Faulty(Behaviour);
+
+impl Store for Faulty {
+    fn call(&self, image: &mut [u8], table: &mut [u64], call: Call<u64>) -> Answer {
+        (self.0)(image, table, call)
+    }
+}
+
+fn right(image: &mut [u8], table: &mut [u64], call: Call<u64>) -> Answer {
+    Model.call(image, table, call)
+}
+
+/// The place of the header that a pointer's tag leads to; the pointer was accepted, or refused later than by 11.
+fn header_place(image: &[u8], table: &[u64], pointer: u64) -> u64 {
+    let s = u32::from(image[6]);
+    let p = Pointer::unpack(pointer);
+    if p.small {
+        (p.address >> s << s) + p.tag
+    } else {
+        table[model::entry(s, p.tag as u32, p.address) as usize]
+    }
+}
+
+fn find(fault: Behaviour) -> Box<Failure> {
+    let failure = compare(&Model, &Faulty(fault), 1_000_000, 1).expect_err("the fault was not found");
+    let (at, _) = failure.case.run(&Model, &Faulty(fault)).unwrap_err();
+    assert_eq!(at + 1, failure.case.steps.len(), "the last step is the one that fails");
+    for i in 0..failure.case.steps.len() {
+        let mut shorter = failure.case.clone();
+        shorter.steps.remove(i);
+        assert!(shorter.run(&Model, &Faulty(fault)).is_ok(), "step {i} is not needed:\n{failure}");
+    }
+    println!("{failure}");
+    failure
+}
+
+#[test]
+fn model_against_itself() {
+    let counts = compare(&Model, &Model, 200_000, 7).unwrap_or_else(|failure| panic!("{failure}"));
+    assert_eq!(missing(&counts), [0; 0]);
+    assert!(counts.by_call.iter().all(|answers| answers[0] > 0), "each call was accepted at times");
+}
+
+#[test]
+fn the_same_seed_gives_the_same_calls() {
+    let rows = |seed| compare(&Model, &Model, 5_000, seed).unwrap_or_else(|failure| panic!("{failure}")).by_call;
+    assert_eq!(rows(3), rows(3));
+    assert_ne!(rows(3), rows(4000));
+}
+
+#[test]
+fn free_that_leaves_a_merged_header() {
+    let failure = find(|image, table, call| {
+        let before = image.to_vec();
+        let answer = right(image, table, call);
+        if let (Call::Free { pointer }, 0) = (call, answer.refusal) {
+            let h = (Pointer::unpack(pointer).address - 16) as usize;
+            // merged with the block before: no header stands at h now
+            if image[h..h + 16] == [0; 16] {
+                image[h..h + 16].copy_from_slice(&before[h..h + 16]);
+            }
+        }
+        answer
+    });
+    // set-up, two objects, both freed
+    assert_eq!(failure.case.steps.len(), 5, "{failure}");
+    assert!(failure.text.contains("MISMATCH, image byte"), "{failure}");
+}
+
+#[test]
+fn free_that_keeps_the_entry() {
+    let failure = find(|image, table, call| {
+        let before = table.to_vec();
+        let answer = right(image, table, call);
+        if let Call::Free { .. } = call {
+            table.copy_from_slice(&before);
+        }
+        answer
+    });
+    assert_eq!(failure.case.steps.len(), 3, "{failure}");
+}
+
+#[test]
+fn free_that_merges_twice() {
+    // shows only where free blocks stand side by side, on damaged images
+    find(|image, table, call| {
+        let answer = right(image, table, call);
+        if let (Call::Free { .. }, 0) = (call, answer.refusal) {
+            let mut at = 16;
+            while let Some(header) = model::sound(image, at) {
+                let next = at + u64::from(header.extent);
+                match model::sound(image, next).filter(|next| header.kind == 1 && next.kind == 1) {
+                    Some(second) => {
+                        let all = header.extent + second.extent;
+                        image[next as usize..next as usize + 16].fill(0);
+                        image[at as usize..at as usize + 4].copy_from_slice(&all.to_le_bytes());
+                        break;
+                    }
+                    None => at = next,
+                }
+            }
+        }
+        answer
+    });
+}
+
+#[test]
+fn store_that_tests_overflow_only() {
+    let failure = find(|image, table, call| {
+        let answer = right(image, table, call);
+        if let (Call::Store { pointer, width, value }, 13) = (call, answer.refusal) {
+            let (at, base) = (Pointer::unpack(pointer).address, header_place(image, table, pointer) + 16);
+            if at < base {
+                image[at as usize..(at + width) as usize].copy_from_slice(&value.to_le_bytes()[..width as usize]);
+                return Ok(0).into();
+            }
+        }
+        answer
+    });
+    assert!(failure.case.steps.len() <= 4, "{failure}");
+}
+
+#[test]
+fn store_that_writes_one_byte_less() {
+    find(|image, table, call| {
+        let before = image.to_vec();
+        let answer = right(image, table, call);
+        if let (Call::Store { pointer, width: 8, .. }, 0) = (call, answer.refusal) {
+            let last = Pointer::unpack(pointer).address as usize + 7;
+            image[last] = before[last];
+        }
+        answer
+    });
+}
+
+#[test]
+fn refusals_in_another_order() {
+    let failure = find(|image, table, call| match (call, right(image, table, call)) {
+        (Call::Store { width: 0..8, value, .. }, Answer { refusal: 14, .. }) if value > u64::from(u32::MAX) => Err::<u64, u32>(16).into(),
+        (_, answer) => answer,
+    });
+    assert_eq!(failure.case.steps.len(), 2, "{failure}");
+}
+
+#[test]
+fn width_cut_to_32_bits() {
+    find(|image, table, call| match call {
+        Call::Load { pointer, width } => right(image, table, Call::Load { pointer, width: width & 0xffff_ffff }),
+        call => right(image, table, call),
+    });
+}
+
+#[test]
+fn set_up_that_clears_the_whole_table() {
+    let failure = find(|image, table, call| {
+        let answer = right(image, table, call);
+        if let (Call::SetUp { .. }, 0) = (call, answer.refusal) {
+            table.fill(0);
+        }
+        answer
+    });
+    assert_eq!(failure.case.steps.len(), 1, "{failure}");
+}
+
+#[test]
+fn entry_near_the_end_of_64_bits() {
+    // as if h + 16 <= L were tested in 64 bits
+    find(|image, table, call| {
+        let answer = right(image, table, call);
+        if let (Call::Load { pointer, .. }, 11) = (call, answer.refusal) {
+            let p = Pointer::unpack(pointer);
+            if !p.small && p.address >> p.tag << p.tag < image.len() as u64 && header_place(image, table, pointer) >= u64::MAX - 15 {
+                return Ok(0).into();
+            }
+        }
+        answer
+    });
+}
+
+#[test]
+fn value_beside_a_refusal() {
+    find(|image, table, call| match (call, right(image, table, call)) {
+        (Call::Move { pointer, .. }, Answer { refusal: 12, .. }) => Answer { refusal: 12, values: [pointer, 0, 0] },
+        (_, answer) => answer,
+    });
+}
+
+#[test]
+fn copy_byte_by_byte_upwards() {
+    find(|image, table, call| {
+        let before = image.to_vec();
+        let answer = right(image, table, call);
+        if let (Call::Copy { target, source, length }, 0) = (call, answer.refusal) {
+            image.copy_from_slice(&before);
+            let (to, from) = (Pointer::unpack(target).address as usize, Pointer::unpack(source).address as usize);
+            for i in 0..length as usize {
+                image[to + i] = image[from + i];
+            }
+        }
+        answer
+    });
+}
+
+#[test]
+fn expected_store_that_writes_on_refusal() {
+    // both sides the same: only the driver's own check can find it
+    let fault: Behaviour = |image, table, call| {
+        let answer = right(image, table, call);
+        if answer.refusal == 16 {
+            image[20] ^= 1;
+        }
+        answer
+    };
+    let failure = compare(&Faulty(fault), &Faulty(fault), 100_000, 1).expect_err("the fault was not found");
+    let (_, mismatch) = failure.case.run(&Faulty(fault), &Faulty(fault)).unwrap_err();
+    assert!(matches!(mismatch, Mismatch::RefusalWrote));
+}

@@ -1,0 +1,224 @@
+//! Document 01, "Arithmetic by example", on the model and on the library.
+
+use cueledger_tests::library::{Exports, Library};
+use cueledger_tests::model::{self, Header};
+use cueledger_tests::store::{Answer, Call, Model, Store};
+use std::alloc::{alloc_zeroed, dealloc, Layout};
+use std::slice;
+
+struct Lent<S> {
+    store: S,
+    image: Vec<u8>,
+    table: Vec<u64>,
+}
+
+impl<S: Store> Lent<S> {
+    /// Freshly set up with s = 6; neither buffer was clear before.
+    fn fresh(store: S, length: usize) -> Lent<S> {
+        let mut lent = Lent { store, image: vec![7; length], table: vec![9; 48 * 8 + 1] };
+        assert_eq!(lent.refusal(Call::SetUp { slot_exponent: 6 }), 0);
+        lent
+    }
+
+    fn call(&mut self, call: Call<u64>) -> Answer {
+        self.store.call(&mut self.image, &mut self.table, call)
+    }
+
+    fn refusal(&mut self, call: Call<u64>) -> u32 {
+        self.call(call).refusal
+    }
+
+    fn allocate(&mut self, size: u32) -> u64 {
+        let answer = self.call(Call::Allocate { size, type_number: 0 });
+        assert_eq!(answer.refusal, 0, "size {size}");
+        answer.values[0]
+    }
+
+    fn moved(&mut self, pointer: u64, distance: i64) -> Result<u64, u32> {
+        let answer = self.call(Call::Move { pointer, distance });
+        if answer.accepted() {
+            Ok(answer.values[0])
+        } else {
+            Err(answer.refusal)
+        }
+    }
+}
+
+fn set_up<S: Store>(store: S) {
+    let mut lent = Lent::fresh(store, 1024);
+    assert_eq!(lent.image[..16], [16, 0, 0, 0, 3, 0, 6, 0, 0, 4, 0, 0, 0, 0, 0, 0]);
+    assert_eq!(lent.image[16..32], [0xf0, 3, 0, 0, 1, 0, 0, 0, 0, 0, 0, 0, 0, 0, 0, 0]);
+    assert!(lent.image[32..].iter().all(|&byte| byte == 0));
+    assert!(lent.table[..384].iter().all(|&entry| entry == 0));
+    assert_eq!(lent.table[384], 9);
+    assert_eq!(lent.call(Call::Tally), Answer { refusal: 0, values: [0, 0, 1008] });
+
+    for (length, entries, slot_exponent, refusal) in [(1024, 384, 5, 1), (1024, 384, 16, 1), (63, 384, 6, 2), (63, 0, 16, 1), (63, 0, 6, 2), (1024, 383, 6, 3)]
+    {
+        let (mut image, mut table) = (vec![7; length], vec![9; entries]);
+        let answer = lent.store.call(&mut image, &mut table, Call::SetUp { slot_exponent });
+        assert_eq!(answer, Answer { refusal, values: [0; 3] });
+        assert!(image.iter().all(|&byte| byte == 7) && table.iter().all(|&entry| entry == 9));
+    }
+}
+
+fn in_succession<S: Store>(store: S) {
+    let mut lent = Lent::fresh(store, 1024);
+    for (size, h, e, wrapper, pointer, entry) in [
+        (10, 16, 42, 6, 0x8010000000000020, None),
+        (20, 42, 78, 7, 0x000700000000003A, Some(0)),
+        (32, 78, 126, 6, 0x800E00000000005E, None),
+        (1, 126, 143, 8, 0x000800000000008E, Some(1)),
+    ] {
+        assert_eq!(lent.allocate(size), pointer);
+        assert_eq!(model::sound(&lent.image, h), Some(Header::live(e - h, 0, size)));
+        assert_eq!(model::frame_number(h, e), wrapper);
+        if let Some(entry) = entry {
+            assert_eq!(lent.table[entry], h);
+        }
+    }
+    assert_eq!(lent.table.iter().filter(|&&entry| entry != 0).count(), 3, "two entries, and one beyond the used ones");
+    assert_eq!(lent.call(Call::Tally), Answer { refusal: 0, values: [4, 63, 945] });
+}
+
+fn largest_small<S: Store + Copy>(store: S) {
+    assert_eq!(Lent::fresh(store, 1024).allocate(31) >> 63, 1);
+    let mut lent = Lent::fresh(store, 1024);
+    assert_eq!(lent.allocate(32), 0x0007000000000020);
+    assert_eq!(lent.table[0], 16);
+}
+
+fn moves<S: Store>(store: S) {
+    let mut lent = Lent::fresh(store, 1024);
+    let pointer = lent.allocate(10);
+    assert_eq!(pointer, 0x8010000000000020);
+    assert_eq!(lent.moved(pointer, 31), Ok(0x801000000000003F));
+    assert_eq!(lent.moved(pointer, 32), Err(12));
+    assert_eq!(lent.moved(pointer, -32), Ok(0x8010000000000000));
+    assert_eq!(lent.moved(pointer, -33), Err(12));
+    assert_eq!(lent.moved(pointer, 0), Ok(pointer));
+    assert_eq!(lent.moved(pointer, i64::MIN), Err(12));
+    assert_eq!(lent.moved(pointer, i64::MAX), Err(12));
+}
+
+fn bounds<S: Store>(store: S) {
+    let mut lent = Lent::fresh(store, 1024);
+    let start = lent.allocate(10);
+    for (at, refusal) in [(34, 0), (35, 13)] {
+        let pointer = lent.moved(start, at - 32).unwrap();
+        assert_eq!(lent.refusal(Call::Load { pointer, width: 8 }), refusal);
+        assert_eq!(lent.refusal(Call::Store { pointer, width: 8, value: 1 }), refusal);
+        assert_eq!(lent.refusal(Call::Fill { pointer, length: 8, value: 1 }), refusal);
+        assert_eq!(lent.refusal(Call::Copy { target: pointer, source: start, length: 8 }), refusal);
+        assert_eq!(lent.refusal(Call::Copy { target: start, source: pointer, length: 8 }), refusal);
+    }
+}
+
+fn smallest_image<S: Store + Copy>(store: S) {
+    let mut lent = Lent::fresh(store, 64);
+    lent.allocate(16);
+    assert_eq!(model::sound(&lent.image, 16), Some(Header::live(32, 0, 16)));
+    assert_eq!(model::sound(&lent.image, 48), Some(Header::free(16)));
+
+    let mut lent = Lent::fresh(store, 64);
+    lent.allocate(17);
+    assert_eq!(model::sound(&lent.image, 16), Some(Header::live(48, 0, 17)));
+
+    let mut lent = Lent::fresh(store, 64);
+    assert_eq!(lent.allocate(32), 0x0007000000000020);
+    assert_eq!(model::frame_number(16, 64), 7);
+
+    let mut lent = Lent::fresh(store, 64);
+    assert_eq!(lent.call(Call::Allocate { size: 33, type_number: 0 }), Answer { refusal: 8, values: [0; 3] });
+}
+
+/// 2^30 bytes, where N reaches 31.
+fn largest_image<S: Store>(store: S) {
+    let mut lent = Lent { store, image: vec![0; 1 << 30], table: vec![9; 48 << 14] };
+    assert_eq!(lent.refusal(Call::SetUp { slot_exponent: 15 }), 0);
+    let pointer = lent.allocate((1 << 30) - 32);
+    assert_eq!(pointer, 0x001F000000000020);
+    assert_eq!(lent.table[31 - 15 - 1], 16);
+    let last = lent.moved(pointer, (1 << 30) - 40).unwrap();
+    assert_eq!(lent.refusal(Call::Store { pointer: last, width: 8, value: u64::MAX }), 0);
+    assert_eq!(lent.call(Call::Load { pointer: last, width: 8 }).values[0], u64::MAX);
+    // e may be pointed to, but not read
+    let end = lent.moved(pointer, (1 << 30) - 32).unwrap();
+    assert_eq!(lent.refusal(Call::Load { pointer: end, width: 1 }), 13);
+    assert_eq!(lent.call(Call::Tally).values, [1, (1 << 30) - 32, 16]);
+    assert_eq!(lent.refusal(Call::Free { pointer }), 0);
+    assert_eq!(lent.table[31 - 15 - 1], 0);
+    assert_eq!(lent.call(Call::Tally).values, [0, 0, (1 << 30) - 16]);
+    assert_eq!(lent.refusal(Call::Load { pointer, width: 1 }), 11);
+}
+
+#[test]
+#[ignore = "needs 1 GiB of memory"]
+fn largest_image_on_the_model() {
+    largest_image(Model);
+}
+
+#[test]
+#[ignore = "needs 1 GiB of memory"]
+fn largest_image_on_the_library() {
+    largest_image(Library);
+}
+
+/// Above 2^30 nothing but the superblock may be looked at; the pages of this buffer are never touched otherwise.
+fn past_the_largest_image<S: Store>(store: S) {
+    let length = (1usize << 30) + 1;
+    let mut image = vec![0u8; length];
+    let mut table = vec![0u64; 8];
+    assert_eq!(store.call(&mut image, &mut table, Call::SetUp { slot_exponent: 6 }).refusal, 2);
+    image[..16].copy_from_slice(&Header { extent: 16, kind: 3, type_number: 6, size: length as u32, zero: 0 }.bytes());
+    assert_eq!(store.call(&mut image, &mut table, Call::Tally).refusal, 4);
+    image[8..12].copy_from_slice(&(1u32 << 30).to_le_bytes());
+    assert_eq!(store.call(&mut image, &mut table, Call::Tally).refusal, 4);
+    image.truncate(1 << 30);
+    assert_eq!(store.call(&mut image, &mut table, Call::Tally).refusal, 5);
+    assert_eq!(store.call(&mut image, &mut table, Call::SetUp { slot_exponent: 6 }).refusal, 3);
+}
+
+/// Lengths that are good ones when cut to 32 bits. The system may decline so much memory; then nothing is tested.
+fn past_32_bits<S: Store>(store: S) {
+    let length = (1usize << 32) + 1024;
+    let layout = Layout::array::<u8>(length).unwrap();
+    // SAFETY: the layout is not empty; zeroed memory is a valid slice of bytes, given back below.
+    unsafe {
+        let memory = alloc_zeroed(layout);
+        if memory.is_null() {
+            return;
+        }
+        let image = slice::from_raw_parts_mut(memory, length);
+        let mut table = vec![0u64; 384];
+        assert_eq!(store.call(image, &mut table, Call::SetUp { slot_exponent: 6 }).refusal, 2);
+        assert_eq!(image[..32], [0; 32]);
+        assert_eq!(store.call(&mut image[..1024], &mut table, Call::SetUp { slot_exponent: 6 }).refusal, 0);
+        assert_eq!(store.call(&mut image[..1024], &mut table, Call::Tally).refusal, 0);
+        assert_eq!(store.call(image, &mut table, Call::Tally).refusal, 4);
+        assert_eq!(store.call(image, &mut table, Call::Allocate { size: 1, type_number: 0 }).refusal, 4);
+        dealloc(memory, layout);
+    }
+}
+
+macro_rules! on_each_store {
+    ($($name:ident)*) => {$(
+        mod $name {
+            use super::*;
+            #[test]
+            fn model() {
+                super::$name(Model);
+            }
+            #[test]
+            fn library() {
+                super::$name(Library);
+            }
+            #[test]
+            fn exports() {
+                super::$name(Exports);
+            }
+        }
+    )*};
+}
+
+on_each_store!(set_up in_succession largest_small moves bounds smallest_image past_the_largest_image past_32_bits);
