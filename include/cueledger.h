@@ -4,7 +4,8 @@
  * Each function returns 0 where the call is accepted, otherwise document 01's refusal number; then no byte of image
  * or table has changed, and every value given through a pointer is 0. Every call ends properly on all images, tables,
  * pointers and numbers. Lengths count bytes of the image and 64-bit entries of the table. Image, table and values must
- * be valid for the call and must not overlap. No pointer is kept.
+ * be valid for the call (not null, also where a length is 0, and aligned as their types ask) and must not overlap. No
+ * pointer is kept.
  *
  *  1  slot exponent outside 6..15              9  the new object's table entry is not zero
  *  2  image length outside 64..2^30           10  tag number out of range
