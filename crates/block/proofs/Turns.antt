@@ -9,15 +9,15 @@ use borrow.Author.Tests.{eq-eqb, ne-eqb}
 use Rattle.block.specs.Tests.{and-false}
 use Rattle.block.specs.Layout.{examined}
 use Rattle.block.specs.LayoutLaws.{Live, sound-live, sound-extent, sound-end, examined-is-sound, examined-is-unsound}
-use Rattle.block.specs.Walk.{stopped, unsound, Search, walkFrom, fitting, metOf, Usage, counting}
+use Rattle.block.specs.Walk.{stopped, unsound, Search, walkFrom, fitting, metOf, Gathered, counting}
 use Rattle.block.specs.WalkLaws.{walk-unsound, walk-stopped, walk-next, used-live, used-other}
 use Rattle.block.specs.declared.header.Header.{Header}
 use Rattle.block.specs.declared.header.Examined.the-variants as examining
 use Rattle.block.specs.declared.walk.Met.the-variants as met
 
 -- what is counted so far: o objects with n bytes
-abbrev pub usage : ℕ → ℕ → Usage
-usage o n = record { objects = o; bytes = n }
+abbrev pub gathered : ℕ → ℕ → Gathered
+gathered o n = record { objects = o; bytes = n }
 
 module _ {A : Type 0} (s : Search A) (image : List ℕ) (a : A) (h : ℕ) where
   -- an unsound header ends the walk
@@ -53,11 +53,11 @@ module _ (image : List ℕ) (h : ℕ) (d : Header) (e : examined image h ≡ exa
       l .holds
 
   -- a live block is counted, another passed
-  pub count-live : (o n : ℕ) → d .kind ≡ 2 → walkFrom counting image (usage o n) h ≡ walkFrom counting image (usage (o + 1) (n + d .size)) (h + d .extent)
-  count-live o n k = turn-next counting image (usage o n) h d e refl ∙ ap (λ (x : Usage). walkFrom counting image x (h + d .extent)) (used-live (usage o n) d k)
+  pub count-live : (o n : ℕ) → d .kind ≡ 2 → walkFrom counting image (gathered o n) h ≡ walkFrom counting image (gathered (o + 1) (n + d .size)) (h + d .extent)
+  count-live o n k = turn-next counting image (gathered o n) h d e refl ∙ ap (λ (x : Gathered). walkFrom counting image x (h + d .extent)) (used-live (gathered o n) d k)
 
-  pub count-other : (o n : ℕ) → (d .kind ≡ 2 → ⊥) → walkFrom counting image (usage o n) h ≡ walkFrom counting image (usage o n) (h + d .extent)
-  count-other o n k = turn-next counting image (usage o n) h d e refl ∙ ap (λ (x : Usage). walkFrom counting image x (h + d .extent)) (used-other (usage o n) d k)
+  pub count-other : (o n : ℕ) → (d .kind ≡ 2 → ⊥) → walkFrom counting image (gathered o n) h ≡ walkFrom counting image (gathered o n) (h + d .extent)
+  count-other o n k = turn-next counting image (gathered o n) h d e refl ∙ ap (λ (x : Gathered). walkFrom counting image x (h + d .extent)) (used-other (gathered o n) d k)
 
 -- how the walk to a block ends where it stops
 module _ (target a h : ℕ) where

@@ -6,11 +6,8 @@ use Prim.Native.Nat.{ℕ, zero, suc, _+_, _-_, _*_, _/_, _^_, _≤_, _<_}
 use native.Mathlib.Nat.{pow-suc, add-suc, add-zero}
 use native.Mathlib.Numerals.{add-one}
 use native.Mathlib.Omega.{arith}
-use lib.ListN.{length, getD, set, take, drop, length-append, length-take, length-drop, length-set, take-append-drop, List·getD-append}
-use lib.Seq.{sets, sets-eq, take-at, drop-at, drop-drop, drop-append-add, take-take, take-nil, length-take-le, getD-append-add, getD-take, getD-drop, take-suc-set, take-set-lt, set-append-left}
-use lib.Dec.{ltb}
-use borrow.Author.Tests.{ltb-true, ltb-false}
-use Rattle.block.specs.Tests.{byBool}
+use lib.ListN.{length, getD, set, take, drop, length-append, length-take, length-drop, length-set, take-append-drop}
+use lib.Seq.{sets, sets-eq, take-at, drop-at, drop-drop, take-nil, length-take-le, getD-append-add, getD-take, getD-drop, take-suc-set, take-set-lt, set-append-left}
 use Rattle.block.specs.Bytes.{encode, decode, field, put, Bytes}
 
 -- encoding
@@ -28,12 +25,6 @@ decode-encode zero v h = omega arith
 decode-encode (suc w) v h =
     let p : v / 256 < 256 ^ w = omega (arith, rw pow-suc at h) in
     rw (decode-encode w (v / 256) p) (omega arith)
-
--- bytes of that many are below that power of 256
-pub decode-bound : (bs : List ℕ) → Bytes bs → decode bs < 256 ^ length bs
-unfolding decode
-decode-bound [] h = omega arith
-decode-bound (b ∷ bs) h = omega (arith, pow-suc 256 (length bs), decode-bound bs (λ k. h (suc k)), h 0)
 
 -- fields
 
@@ -115,10 +106,6 @@ module _ (image : List ℕ) (at : ℕ) (bs : List ℕ) (fits : at + length bs �
   getD-put-from : (i : ℕ) → getD (put image at bs) (at + i) 0 ≡ getD (bs ++ drop (at + length bs) image) i 0
   getD-put-from i = sym (getD-drop at (put image at bs) i 0) ∙ rw drop-put refl
 
-  -- a byte of the run
-  pub getD-put-in : (i : ℕ) → i < length bs → getD (put image at bs) (at + i) 0 ≡ getD bs i 0
-  getD-put-in i l = getD-put-from i ∙ List·getD-append bs (drop (at + length bs) image) 0 i l
-
   -- a byte above the run
   pub getD-put-above : (k : ℕ) → at + length bs ≤ k → getD (put image at bs) k 0 ≡ getD image k 0
   getD-put-above k l =
@@ -130,35 +117,6 @@ module _ (image : List ℕ) (at : ℕ) (bs : List ℕ) (fits : at + length bs �
       ∙ getD-append-add bs (drop (at + length bs) image) j 0
       ∙ getD-drop (at + length bs) image j 0
       ∙ ap (λ (n : ℕ). getD image n 0) (sym f)
-
-  -- the bytes up to a place below the run
-  pub take-put-below : (k : ℕ) → k ≤ at → take k (put image at bs) ≡ take k image
-  take-put-below k l = sym (take-take k at (put image at bs) l) ∙ ap (take k) take-put ∙ take-take k at image l
-
-  -- the bytes from a place above the run on
-  pub drop-put-above : (k : ℕ) → at + length bs ≤ k → drop k (put image at bs) ≡ drop k image
-  drop-put-above k l =
-      let j : ℕ = k - (at + length bs) in
-      let e : k ≡ at + (length bs + j) = omega arith in
-      let f : at + length bs + j ≡ k = omega arith in
-      ap (λ (n : ℕ). drop n (put image at bs)) e
-      ∙ sym (drop-drop (length bs + j) at (put image at bs))
-      ∙ ap (drop (length bs + j)) drop-put
-      ∙ drop-append-add bs (drop (at + length bs) image) j
-      ∙ drop-drop j (at + length bs) image
-      ∙ ap (λ (n : ℕ). drop n image) f
-
-  -- bytes stay bytes
-  pub Bytes-put : Bytes image → Bytes bs → Bytes (put image at bs)
-  Bytes-put a b k =
-      byBool (ltb k at)
-      (λ e. let l : k < at = ltb-true _ _ e in rw (getD-put-below k l) (a k))
-      (λ e. let l : at ≤ k = ltb-false _ _ e in
-      let f : k ≡ at + (k - at) = omega arith in
-      byBool (ltb k (at + length bs))
-      (λ t. let m : k < at + length bs = ltb-true _ _ t in
-      omega (arith, ap (λ (n : ℕ). getD (put image at bs) n 0) f, getD-put-in (k - at) (omega arith), b (k - at)))
-      (λ t. rw (getD-put-above k (ltb-false _ _ t)) (a k)))
 
   -- a field elsewhere is as it was
   pub field-put-other : (at′ w : ℕ) → (at′ + w ≤ at) ⊎ (at + length bs ≤ at′) → field (put image at bs) at′ w ≡ field image at′ w
@@ -228,13 +186,6 @@ set-put-end image at b n bs e fits =
 pub put-nil : (image : List ℕ) (at : ℕ) → put image at [] ≡ image
 unfolding put
 put-nil image at = rw (add-zero at) (take-append-drop at image)
-
--- encoded numbers are bytes
-pub Bytes-encode : (w v : ℕ) → Bytes (encode w v)
-unfolding encode
-Bytes-encode zero v k = omega arith
-Bytes-encode (suc w) v zero = omega arith
-Bytes-encode (suc w) v (suc k) = Bytes-encode w (v / 256) k
 
 -- an image with a run in it, in parts
 put-parts : (image : List ℕ) (at : ℕ) (bs : List ℕ) → at + length bs ≤ length image → put image at bs ≡ take at image ++ (bs ++ drop (at + length bs) image)

@@ -99,7 +99,7 @@ isLive image h = eqb (kindAt image h) 2
 abbrev pub freeFormed : Header → Bool
 freeFormed d = eqb (d .ty) 0 && eqb (d .size) 0
 
--- a live block's extent is its header and size, and at most 15 bytes more
+-- a live block has kind 2, a size of at least 1, and an extent of its header and size and at most 15 bytes more
 abbrev pub liveFormed : Header → Bool
 liveFormed d = eqb (d .kind) 2 && (leb 1 (d .size) && (leb (16 + d .size) (d .extent) && leb (d .extent) (31 + d .size)))
 

@@ -3,7 +3,7 @@ use mathlib.Core.Path.{_≡_, refl, sym, ap, _∙_}
 use mathlib.Core.List.{List, _++_}
 use mathlib.Core.Bool.{Bool, true, false, cond}
 use mathlib.Core.Logic.{_⊎_, ⊎-elim, inl, inr}
-use Prim.Native.Nat.{ℕ, _+_, _-_, _^_, _≤_, _<_}
+use Prim.Native.Nat.{ℕ, _+_, _^_, _≤_, _<_}
 use native.Mathlib.Nat.{add-zero}
 use native.Mathlib.Omega.{arith}
 use lib.ListN.{length, getD, drop, length-append}
@@ -12,7 +12,7 @@ use borrow.Author.Tests.{le-leb, lt-leb, eq-eqb, ne-eqb, leb-true, eqb-true}
 use Rattle.block.specs.Bytes.{encode, field, put, Bytes}
 use Rattle.block.specs.BytesLaws.{decode-encode, field-bound, field-ext, field-drop, length-put, drop-put, getD-put-below, getD-put-above}
 use Rattle.block.specs.Tests.{byBool, refuted, and-false, and-both, and-left, and-right}
-use Rattle.block.specs.Layout.{superblock, slotExponent, goodExponent, goodLength, superblockGood, opened, header, fields, headerAt, extentAt, kindAt, typeAt, sizeAt, isFree, isLive, freeFormed, liveFormed, wellFormed, sound, examined}
+use Rattle.block.specs.Layout.{superblock, slotExponent, goodExponent, goodLength, superblockGood, opened, header, fields, headerAt, extentAt, kindAt, typeAt, sizeAt, isLive, freeFormed, liveFormed, wellFormed, sound, examined}
 use Rattle.block.specs.declared.header.Header.{Header}
 use Rattle.block.specs.declared.header.Examined.the-variants as examining
 use Rattle.block.specs.declared.superblock.Opened.the-variants as opening
@@ -210,12 +210,6 @@ module _ (image : List ℕ) (h : ℕ) (e : sound image h ≡ true) where
   pub sound-kinds : Free (headerAt image h) ⊎ Live (headerAt image h)
   sound-kinds = sound-formed .kinds
 
-  -- a free block has type and size 0
-  pub sound-free : isFree image h ≡ true → Free (headerAt image h)
-  sound-free k =
-      let f : kindAt image h ≡ 1 = eqb-true _ _ k in
-      ⊎-elim (λ x. x) (λ (x : Live (headerAt image h)). let z = x .is-kind in absurd (omega arith)) sound-kinds
-
   -- a live block has its size in its extent, and at most 15 bytes more
   pub sound-live : isLive image h ≡ true → Live (headerAt image h)
   sound-live k =
@@ -251,11 +245,6 @@ module _ (image : List ℕ) (h : ℕ) where
   pub unsound-past : length image < h + 16 → sound image h ≡ false
   unfolding sound
   unsound-past p = simp (and-false, lt-leb _ _ p)
-
--- soundness depends on the length and the header alone
-pub sound-same : (a b : List ℕ) (h : ℕ) → length a ≡ length b → headerAt a h ≡ headerAt b h → sound a h ≡ sound b h
-unfolding sound
-sound-same a b h l e = rw (l, e)
 
 -- what examining answers
 pub examined-sound : (image : List ℕ) (h : ℕ) → sound image h ≡ true → examined image h ≡ examining.Sound (headerAt image h)

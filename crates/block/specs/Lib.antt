@@ -1,7 +1,9 @@
-pub mod Tests
+-- definitions
 pub mod Bytes
-pub mod BytesLaws
 pub mod Layout
-pub mod LayoutLaws
 pub mod Walk
+-- laws
+pub mod Tests
+pub mod BytesLaws
+pub mod LayoutLaws
 pub mod WalkLaws

@@ -76,21 +76,21 @@ metOf target (ended a) = met.Lost
 unfoldable pub walkTo : List ℕ → ℕ → Met
 walkTo image target = metOf target (walk (reaching target) image 0)
 
--- live objects, and the sum of their raw sizes in bytes
-pub record Usage : Type 0 where
+-- what a count gathers: the live objects passed, and the sum of their raw sizes in bytes
+pub record Gathered : Type 0 where
   pub objects : ℕ
   pub bytes : ℕ
 
 -- what a block adds
-abbrev pub used : Usage → Header → Usage
+abbrev pub used : Gathered → Header → Gathered
 used a d = cond (eqb (d .kind) 2) (record { objects = a .objects + 1; bytes = a .bytes + d .size }) a
 
 -- every block is passed
-abbrev pub counting : Search Usage
+abbrev pub counting : Search Gathered
 counting = record { stops = λ h d. false; passes = λ a h d. used a d }
 
 -- the answer of a count; its walk never stops before the end
-unfoldable pub countOf : Walked Usage → Counted
+unfoldable pub countOf : Walked Gathered → Counted
 countOf (stopped a h) = counted.Unsound
 countOf (unsound h) = counted.Unsound
 countOf (ended a) = counted.Counts (a .objects) (a .bytes)

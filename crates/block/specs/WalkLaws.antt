@@ -10,7 +10,7 @@ use borrow.Author.Tests.{le-leb, lt-leb, eq-eqb, ne-eqb, leb-true, eqb-true, eqb
 use Rattle.block.specs.Tests.{byBool, true-false, and-both, and-left, and-right}
 use Rattle.block.specs.Layout.{headerAt, extentAt, isFree, isLive, sound}
 use Rattle.block.specs.LayoutLaws.{Live, sound-in, sound-extent, sound-live, unsound-past}
-use Rattle.block.specs.Walk.{Walked, stopped, unsound, ended, Search, walkIn, walkFrom, walk, fitting, fitOf, firstFit, reaching, metOf, walkTo, Usage, used, counting, countOf, countBlocks, OnWalk, first, next, Behind, at-first, at-later, LowestFit, TakesLowest, MeetsUnsound, MeetsBlock}
+use Rattle.block.specs.Walk.{Walked, stopped, unsound, ended, Search, walkIn, walkFrom, walk, fitting, fitOf, firstFit, reaching, metOf, walkTo, Gathered, used, counting, countOf, countBlocks, OnWalk, first, next, Behind, at-first, at-later, LowestFit, TakesLowest, MeetsUnsound, MeetsBlock}
 use Rattle.block.specs.declared.header.Header.{Header}
 use Rattle.block.specs.declared.walk.Fit.the-variants as fit
 use Rattle.block.specs.declared.walk.Met.the-variants as met
@@ -168,13 +168,6 @@ module _ {A : Type 0} (s : Search A) (image : List ℕ) where
       let r = subst (Ends s image (λ _ k. OnWalk image k)) e (walk-carries (λ _ k. OnWalk image k) (λ _ k w o t. next k w o) a first) in
       record { on-walk = r .0 .1; before-end = r .1; is-unsound = r .2 }
 
--- places on the walk
-
--- no place on the walk lies in the superblock
-pub on-walk-low : (image : List ℕ) (h : ℕ) → OnWalk image h → 16 ≤ h
-on-walk-low image _ first = omega arith
-on-walk-low image _ (next h w o) = omega (arith, on-walk-low image h w)
-
 -- first fit
 
 fit-at : (w : Walked Unit) (h : ℕ) → fitOf w ≡ fit.At h → w ≡ stopped tt h
@@ -275,25 +268,25 @@ walk-to-block image target w o =
 -- counting
 
 -- a live block adds one object and its raw size
-pub used-live : (a : Usage) (d : Header) → d .kind ≡ 2 → used a d ≡ record { objects = a .objects + 1; bytes = a .bytes + d .size }
+pub used-live : (a : Gathered) (d : Header) → d .kind ≡ 2 → used a d ≡ record { objects = a .objects + 1; bytes = a .bytes + d .size }
 used-live a d k = simp (eq-eqb _ _ k)
 
 -- another block adds nothing
-pub used-other : (a : Usage) (d : Header) → (d .kind ≡ 2 → ⊥) → used a d ≡ a
+pub used-other : (a : Gathered) (d : Header) → (d .kind ≡ 2 → ⊥) → used a d ≡ a
 used-other a d k = simp (ne-eqb _ _ k)
 
 -- headers and raw sizes of the live blocks lie below h
-abbrev pub Below : Usage → ℕ → Type 0
+abbrev pub Below : Gathered → ℕ → Type 0
 Below a h = 16 + 16 * a .objects + a .bytes ≤ h
 
 -- passing a sound block keeps that
-pub used-below : (image : List ℕ) (a : Usage) (h : ℕ) → Below a h → sound image h ≡ true → Below (used a (headerAt image h)) (h + extentAt image h)
+pub used-below : (image : List ℕ) (a : Gathered) (h : ℕ) → Below a h → sound image h ≡ true → Below (used a (headerAt image h)) (h + extentAt image h)
 used-below image a h p o =
     byBool (isLive image h)
     (λ t. let l : Live (headerAt image h) = sound-live image h o t in rw (used-live a (headerAt image h) (eqb-true _ _ t)) (omega (arith, l .holds)))
     (λ t. rw (used-other a (headerAt image h) (eqb-false _ _ t)) (omega arith))
 
-count-ended : (w : Walked Usage) (n b : ℕ) → countOf w ≡ counted.Counts n b → w ≡ ended (record { objects = n; bytes = b })
+count-ended : (w : Walked Gathered) (n b : ℕ) → countOf w ≡ counted.Counts n b → w ≡ ended (record { objects = n; bytes = b })
 unfolding countOf
 count-ended (stopped a h) n b e = let z : _≡_ {A = ℕ} 0 1 = cc in absurd (omega arith)
 count-ended (unsound h) n b e = let z : _≡_ {A = ℕ} 0 1 = cc in absurd (omega arith)
@@ -302,7 +295,7 @@ count-ended (ended a) n b e =
     let y : a .bytes ≡ b = cc in
     ap ended (λ i. record { objects = x i; bytes = y i })
 
-count-ends : (image : List ℕ) (a : Usage) (w : Walked Usage) → walk counting image a ≡ w → countOf w ≡ counted.Unsound → (h : ℕ) × MeetsUnsound image h
+count-ends : (image : List ℕ) (a : Gathered) (w : Walked Gathered) → walk counting image a ≡ w → countOf w ≡ counted.Unsound → (h : ℕ) × MeetsUnsound image h
 unfolding countOf
 count-ends image a (stopped b h) q e = absurd (true-false (walk-stop counting image a b h q .2) refl)
 count-ends image a (unsound h) q e = (h, walk-meets-unsound counting image a h q)

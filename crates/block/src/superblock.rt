@@ -4,7 +4,7 @@ use super::bytes::read4;
 use super::bytes::write2;
 use super::bytes::write4;
 ghost use mathlib.Core.Path.{_≡_};
-ghost use Prim.Native.Nat.{_≤_, _<_, _^_};
+ghost use Prim.Native.Nat.{_≤_, _<_};
 ghost use lib.ListN.{length};
 ghost use Rattle.block.specs.Bytes.{put};
 ghost use Rattle.block.specs.Layout.{superblock, opened};

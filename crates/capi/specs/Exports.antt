@@ -10,34 +10,40 @@ pub record Left : Type 0 where
   pub image : List ℕ
   pub table : List ℕ
 
+-- made of a returned number, an image and a table
 abbrev pub left : ℕ → List ℕ → List ℕ → Left
 left r image table = record { returned = r; image = image; table = table }
 
+-- what C sees of an outcome whose value is not given
 abbrev pub leftBy : Outcome → Left
 leftBy o = left (returned (o .answer)) (o .after .image) (o .after .table)
 
--- What the export of one that gives a value returns, gives and leaves.
+-- What the export of a call that gives a value returns, gives and leaves.
 pub record Export : Type 0 where
   pub returned : ℕ
   pub value : ℕ
   pub image : List ℕ
   pub table : List ℕ
 
+-- made of a returned number, a value, an image and a table
 abbrev pub export : ℕ → ℕ → List ℕ → List ℕ → Export
 export r v image table = record { returned = r; value = v; image = image; table = table }
 
+-- what C sees of an outcome with its value
 abbrev pub exported : Outcome → Export
 exported o = export (returned (o .answer)) (value (o .answer)) (o .after .image) (o .after .table)
 
--- What the export of tally gives: every value is 0 where it is refused.
+-- What the export of tally returns and gives: every value is 0 where it is refused.
 pub record Tallied : Type 0 where
   pub returned : ℕ
   pub objects : ℕ
   pub live : ℕ
   pub free : ℕ
 
+-- made of a returned number and three values
 abbrev pub tallied : ℕ → ℕ → ℕ → ℕ → Tallied
 tallied r objects live free = record { returned = r; objects = objects; live = live; free = free }
 
+-- what C sees of tally's answer
 abbrev pub exportedUsage : Usage → Tallied
 exportedUsage u = tallied (usageNumber u) (liveObjects u) (liveBytes u) (freeBytes u)

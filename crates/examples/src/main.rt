@@ -2,7 +2,9 @@
 // refusal table at least once. The slot exponent is 6.
 use libc::STDOUT_FILENO;
 use store::Answer;
+use store::Usage;
 
+// Writes text to standard output.
 fn text(t: &[u8]) {
     io::write_all(STDOUT_FILENO, t);
 }
@@ -17,41 +19,72 @@ fn line(name: &[u8], a: Answer) {
     text(b"\n");
 }
 
-// Each call with its line.
-
+// Set-up, with its line; so for each call below.
 fn set_up(name: &[u8], image: &mut [u8], table: &mut [u64], s: u32) {
     line(name, store::set_up(image, table, s));
 }
 
+// Allocate, of type 1.
 fn allocate(name: &[u8], image: &mut [u8], table: &mut [u64], size: u32) {
     line(name, store::allocate(image, table, size, 1));
 }
 
+// Free.
 fn free(name: &[u8], image: &mut [u8], table: &mut [u64], pointer: u64) {
     line(name, store::free(image, table, pointer));
 }
 
+// Move.
 fn offset(name: &[u8], image: &[u8], table: &[u64], pointer: u64, distance: i64) {
     line(name, store::offset(image, table, pointer, distance));
 }
 
+// Load.
 fn load(name: &[u8], image: &[u8], table: &[u64], pointer: u64, width: u64) {
     line(name, store::load(image, table, pointer, width));
 }
 
+// Store.
 fn put(name: &[u8], image: &mut [u8], table: &[u64], pointer: u64, width: u64, value: u64) {
     line(name, store::store(image, table, pointer, width, value));
 }
 
+// Fill, with 7.
 fn fill(name: &[u8], image: &mut [u8], table: &[u64], pointer: u64, length: u32) {
     line(name, store::fill(image, table, pointer, length, 7));
 }
 
+// Copy.
 fn copy(name: &[u8], image: &mut [u8], table: &[u64], target: u64, source: u64, length: u32) {
     line(name, store::copy(image, table, target, source, length));
 }
 
-// Rows 1, 2 and 3.
+// Writes a blank and a number.
+fn number(n: u64) {
+    text(b" ");
+    io::print_decimal(STDOUT_FILENO, n);
+}
+
+// Tally: the returned number, live objects, live bytes and free bytes.
+fn usage(name: &[u8], image: &[u8], table: &[u64]) {
+    text(name);
+    text(b":");
+    match store::tally(image, table) {
+        Usage::Counts(objects, live, free) => {
+            number(0);
+            number(objects);
+            number(live);
+            number(free);
+        }
+        Usage::Refused(r) => {
+            number(r.number() as u64);
+            text(b" 0 0 0");
+        }
+    }
+    text(b"\n");
+}
+
+// Row 1.
 fn set_ups(image: &mut [u8], table: &mut [u64]) {
     set_up(b"set-up, s = 5", image, table, 5);
     set_up(b"set-up, s = 16", image, table, 16);
@@ -71,17 +104,20 @@ fn set_up_few(name: &[u8], image: &mut [u8], table: &mut [u64], entries: usize) 
     }
 }
 
+// Rows 2 and 3.
 fn short(image: &mut [u8], table: &mut [u64]) {
     set_up_part(b"set-up, L = 63", image, table, 63);
     set_up_few(b"set-up, 383 entries", image, table, 383);
 }
 
+// A fresh store, and an object of 10 bytes at 32.
 fn fresh(image: &mut [u8], table: &mut [u64]) {
     set_up(b"set-up, 384 entries", image, table, 6);
     allocate(b"allocate of 10", image, table, 10);
+    usage(b"tally with the object of 10", image, table);
 }
 
-// The object of 10 bytes at 32.
+// Loads of that object: rows 13 and 14.
 fn loads(image: &[u8], table: &[u64]) {
     load(b"load of 8 at 34", image, table, 0x8010_0000_0000_0022, 8);
     load(b"load of 8 at 35", image, table, 0x8010_0000_0000_0023, 8);
@@ -89,6 +125,7 @@ fn loads(image: &[u8], table: &[u64]) {
     load(b"load of 3 at 32", image, table, 0x8010_0000_0000_0020, 3);
 }
 
+// Stores and a fill: rows 13 and 16.
 fn stores(image: &mut [u8], table: &[u64]) {
     put(
         b"store of 256 in 1 at 41",
@@ -118,7 +155,7 @@ fn stores(image: &mut [u8], table: &[u64]) {
     load(b"load of 2 at 40", image, table, 0x8010_0000_0000_0028, 2);
 }
 
-// Copies inside that object, overlapping both ways.
+// A copy upwards, overlapping.
 fn copies_up(image: &mut [u8], table: &[u64]) {
     put(
         b"store of 0x04030201 in 4 at 32",
@@ -139,6 +176,7 @@ fn copies_up(image: &mut [u8], table: &[u64]) {
     load(b"load of 8 at 32", image, table, 0x8010_0000_0000_0020, 8);
 }
 
+// A copy downwards, overlapping; rows 6 and 13.
 fn copies_down(image: &mut [u8], table: &[u64]) {
     copy(
         b"copy of 4 from 34 to 33",
@@ -305,22 +343,25 @@ fn frees(image: &mut [u8], table: &mut [u64]) {
         0x0007_0000_0000_0020,
     );
     free(b"free at 32", image, table, 0x8010_0000_0000_0020);
+    usage(b"tally with no object", image, table);
     free(b"free at 32 again", image, table, 0x8010_0000_0000_0020);
 }
 
-// Rows 4 and 5.
+// A load from the first bytes of the image alone.
 fn load_part(name: &[u8], image: &[u8], table: &[u64], bytes: usize) {
     if bytes <= image.len() {
         load(name, &image[..bytes], table, 0x8010_0000_0000_0020, 1);
     }
 }
 
+// A load with the first entries of the table alone.
 fn load_few(name: &[u8], image: &[u8], table: &[u64], entries: usize) {
     if entries <= table.len() {
         load(name, image, &table[..entries], 0x8010_0000_0000_0020, 1);
     }
 }
 
+// Rows 4 and 5.
 fn closed(image: &[u8], table: &[u64]) {
     load_part(b"load in 15 bytes", image, table, 15);
     load_part(b"load in 1023 bytes", image, table, 1023);
@@ -334,13 +375,14 @@ fn sizes(image: &mut [u8], table: &mut [u64]) {
     allocate(b"allocate of 2^32-1", image, table, 4294967295);
 }
 
-// Row 9, and a header place near 2^64.
+// Sets the first table entry.
 fn note(table: &mut [u64], entry: u64) {
     if 0 < table.len() {
         table[0] = entry;
     }
 }
 
+// Row 9, and a header place near 2^64.
 fn taken(image: &mut [u8], table: &mut [u64]) {
     note(table, 18446744073709551615);
     allocate(b"allocate of 32, entry 0 not zero", image, table, 32);
@@ -353,24 +395,28 @@ fn taken(image: &mut [u8], table: &mut [u64]) {
     );
 }
 
-// Row 7: a header of kind 9.
+// Overwrites a byte of the image.
 fn damage(image: &mut [u8], at: usize, byte: u8) {
     if at < image.len() {
         image[at] = byte;
     }
 }
 
+// Row 7: a header of kind 9.
 fn damaged(image: &mut [u8], table: &mut [u64]) {
     damage(image, 20, 9);
     allocate(b"allocate of 10, unsound header", image, table, 10);
+    usage(b"tally, unsound header", image, table);
 }
 
+// Set-up.
 fn begin(image: &mut [u8], table: &mut [u64]) {
     set_ups(image, table);
     short(image, table);
     fresh(image, table);
 }
 
+// Reading and writing.
 fn access(image: &mut [u8], table: &[u64]) {
     loads(image, table);
     stores(image, table);
@@ -378,6 +424,7 @@ fn access(image: &mut [u8], table: &[u64]) {
     copies_down(image, table);
 }
 
+// Freeing, and what is left to refuse.
 fn end(image: &mut [u8], table: &mut [u64]) {
     frees(image, table);
     sizes(image, table);

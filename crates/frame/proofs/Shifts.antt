@@ -1,5 +1,5 @@
 -- What shifts and masks are, as arithmetic. Assumes nothing.
-use Prim.Native.Nat.{ℕ, _+_, _-_, _*_, _/_, _%_, _^_, _≤_, _<_}
+use Prim.Native.Nat.{ℕ, _+_, _*_, _/_, _%_, _^_, _<_}
 use mathlib.Core.Path.{_≡_}
 use mathlib.Core.Bool.{Bool, true, false}
 use native.Mathlib.Nat.{div-mul-le-self, lt-of-le-of-lt, mod-eq-of-lt, one-mul}

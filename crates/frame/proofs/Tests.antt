@@ -1,12 +1,12 @@
 -- The ways through the test of a tag. Assumes nothing.
 use Prim.Native.Nat.{ℕ, _-_}
-use mathlib.Core.Path.{_≡_, refl, sym, _∙_}
+use mathlib.Core.Path.{_≡_}
 use mathlib.Core.Bool.{true, false, not}
 use lib.Dec.{eqb}
 use Rattle.frame.specs.Frame.{frameStart, sameFrame}
 use Rattle.frame.specs.Pointers.{goodTag}
 use Rattle.frame.specs.Tags.{firstHeld, lastHeld, tagMatches}
-use Rattle.frame.specs.TagLaws.{tagTest, tag-test}
+use Rattle.frame.specs.TagLaws.{tag-test}
 use Rattle.frame.specs.declared.parts.Pointer.{Pointer}
 
 module _ (s h size : ℕ) (p : Pointer) (good : goodTag s p ≡ true) where

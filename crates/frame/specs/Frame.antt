@@ -3,6 +3,8 @@ use Prim.Native.Nat.{ℕ, zero, suc, _+_, _*_, _/_, _^_}
 use mathlib.Core.Bool.{Bool, true, false}
 use lib.Dec.{eqb}
 
+-- A frame is 2^n bytes, starting at a multiple of 2^n.
+
 -- the frame number of a and b, found in at most `steps` halvings
 unfoldable pub frameNumberIn : ℕ → ℕ → ℕ → ℕ
 frameNumberIn zero a b = zero

@@ -58,10 +58,6 @@ pub pack-unpack : (word : ℕ) → word < 2 ^ 64 → pack (unpack word) ≡ word
 unfolding unpack pack
 pack-unpack word h = let b = flag-bit (word / 2 ^ 63) (omega arith) in omega arith
 
-pub pack-word : (p : Pointer) → InRange p → pack p < 2 ^ 64
-unfolding pack
-pack-word p r = let b = bit-small (p .flag) in let t = r .tag in let a = r .address in omega arith
-
 -- The address says nothing about the tag.
 
 pub good-at : (s : ℕ) (p : Pointer) (a : ℕ) → goodTag s (at p a) ≡ goodTag s p
@@ -74,19 +70,11 @@ reach-at s p a = refl
 
 -- A good tag number, taken apart.
 
-pub good-small : (s : ℕ) (p : Pointer) → p .flag ≡ true → goodTag s p ≡ true → p .tag < 2 ^ s
-unfolding goodTag
-good-small s p f g = ltb-true _ _ (rw f at g)
-
 pub good-large : (s : ℕ) (p : Pointer) → p .flag ≡ false → goodTag s p ≡ true → (s < p .tag) × (p .tag ≤ 31)
 unfolding goodTag
 good-large s p f g =
     let e : ltb s (p .tag) && leb (p .tag) 31 ≡ true = rw f at g in
     (ltb-true _ _ (and-left _ (leb (p .tag) 31) e), leb-true _ _ (and-right (ltb s (p .tag)) _ e))
-
-pub reach-small : (s : ℕ) (p : Pointer) → p .flag ≡ true → reach s p ≡ s
-unfolding reach
-reach-small s p f = rw f
 
 pub reach-large : (s : ℕ) (p : Pointer) → p .flag ≡ false → reach s p ≡ p .tag
 unfolding reach

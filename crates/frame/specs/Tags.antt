@@ -1,6 +1,6 @@
 -- The tag of an object and its table entry: document 01, "Frame arithmetic", after document 003, section 3.3. Assumes nothing.
 use Prim.Native.Nat.{ℕ, _+_, _-_, _*_, _/_, _^_}
-use mathlib.Core.Bool.{Bool, true, false, cond, _&&_, not}
+use mathlib.Core.Bool.{Bool, cond, _&&_, not}
 use lib.Dec.{leb, eqb}
 use Rattle.frame.specs.Frame.{frameNumber, frameStart}
 use Rattle.frame.specs.declared.parts.Pointer.{Pointer}

@@ -1,6 +1,6 @@
 // Tagged pointers: 64 bits, taken apart into flag, tag number and address.
 ghost use mathlib.Core.Path.{_≡_};
-ghost use Prim.Native.Nat.{_+_, _<_, _≤_, _^_};
+ghost use Prim.Native.Nat.{_+_, _<_};
 ghost use Rattle.frame.specs.Frame.{frameStart};
 ghost use Rattle.frame.specs.Pointers.{unpack, pack, InRange, moved, reachOf};
 

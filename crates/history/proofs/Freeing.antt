@@ -7,7 +7,7 @@ use mathlib.Core.Option.{none}
 use native.Mathlib.Omega.{arith}
 use lib.ListN.{length, take, drop}
 use lib.Dec.{leb, eqb}
-use borrow.Author.Tests.{le-leb, eq-eqb, eqb-true, eqb-false}
+use borrow.Author.Tests.{le-leb, eqb-true, eqb-false}
 use Rattle.block.specs.Tests.{byBool}
 use Rattle.block.specs.Layout.{freeHeader, sound, isFree, extentAt}
 use Rattle.block.specs.Walk.{stopped, walk, reaching, walkTo}

@@ -1,9 +1,9 @@
 -- Laws of the abstract heap, by header places. Assumes nothing.
-use Prim.Native.Nat.{ℕ, zero, suc, _+_, _-_, _<_}
+use Prim.Native.Nat.{ℕ, zero, suc, _-_, _<_}
 use mathlib.Core.Path.{_≡_, refl, sym, ap, _∙_}
 use mathlib.Core.Bool.{Bool, true, false, cond}
 use mathlib.Core.List.{[], _∷_, _++_, List·Memᴰ·head, List·Memᴰ·tail, List·Memᴰ·not-nil, List·Memᴰ·cases-cons}
-use mathlib.Core.Logic.{_⊎_, ⊎-elim}
+use mathlib.Core.Logic.{⊎-elim}
 use mathlib.Core.Option.{Option, none, some}
 use native.Mathlib.Omega.{arith}
 use lib.ListN.{length, getD}
@@ -12,7 +12,7 @@ use borrow.Author.Tests.{eq-eqb, ne-eqb, eqb-true, eqb-false}
 use Rattle.block.specs.Tests.{byBool}
 use Rattle.frame.specs.Pointers.{unpack}
 use Rattle.history.specs.Heap.{Object, Heap, holds, ownerOf, change, without}
-use Rattle.history.specs.History.{In, Two, headerOf, known}
+use Rattle.history.specs.History.{In, Pairwise, headerOf, known}
 
 -- the first object with its header at k
 unfoldable pub find : Heap → ℕ → Option Object
@@ -77,7 +77,7 @@ getD-in (x ∷ xs) zero d l = List·Memᴰ·head refl
 getD-in (x ∷ xs) (suc i) d l = List·Memᴰ·tail (getD-in xs i d (omega arith))
 
 -- two places of the list have two header places
-pub places-apart : (heap : Heap) → Distinct heap → Two heap (λ o o′. headerOf o ≡ headerOf o′ → ⊥)
+pub places-apart : (heap : Heap) → Distinct heap → Pairwise heap (λ o o′. headerOf o ≡ headerOf o′ → ⊥)
 places-apart [] c i j d l u e = absurd (omega arith)
 places-apart (x ∷ xs) c zero zero d l u e = absurd (omega arith)
 places-apart (x ∷ xs) c (suc i) zero d l u e = absurd (omega arith)
@@ -87,7 +87,7 @@ places-apart (x ∷ xs) c (suc i) (suc j) d l u e = places-apart xs (c .1) i j d
 
 -- so what holds of any two live objects with two header places holds of any two places of the list
 pub two-places : (heap : Heap) (P : Object → Object → Type 0) → Distinct heap
-    → ((o o′ : Object) → find heap (headerOf o) ≡ some o → find heap (headerOf o′) ≡ some o′ → (headerOf o ≡ headerOf o′ → ⊥) → P o o′) → Two heap P
+    → ((o o′ : Object) → find heap (headerOf o) ≡ some o → find heap (headerOf o′) ≡ some o′ → (headerOf o ≡ headerOf o′ → ⊥) → P o o′) → Pairwise heap P
 two-places heap P c f i j d l u =
     f (getD heap i d) (getD heap j d) (in-find heap (getD heap i d) c (getD-in heap i d (omega arith)))
     (in-find heap (getD heap j d) c (getD-in heap j d u)) (places-apart heap c i j d l u)

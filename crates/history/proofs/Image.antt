@@ -1,22 +1,19 @@
 -- What the definitions over bytes come to on an image with a layout. Assumes nothing.
-use Prim.Native.Nat.{ℕ, zero, suc, _+_, _-_, _*_, _^_, _≤_, _<_}
+use Prim.Native.Nat.{ℕ, _+_, _-_, _^_, _≤_, _<_}
 use mathlib.Core.Path.{_≡_, refl}
-use mathlib.Core.Bool.{Bool, true, false, cond}
-use mathlib.Core.List.{List, [], _∷_, _++_}
-use mathlib.Core.Logic.{_⊎_}
-use mathlib.Core.Option.{Option, none, some}
+use mathlib.Core.Bool.{true, false, cond}
+use mathlib.Core.List.{List}
+use mathlib.Core.Option.{none, some}
 use native.Mathlib.Omega.{arith}
 use lib.ListN.{length, take, drop, replicate, getD}
 use lib.Dec.{eqb}
 use Rattle.block.specs.Bytes.{put}
 use Rattle.block.specs.Layout.{fields, headerAt, sound, isFree, isLive, extentAt, sizeAt}
 use Rattle.block.specs.Walk.{firstFit, walkTo, countBlocks, OnWalk}
-use Rattle.block.specs.declared.walk.Fit.{Fit}
 use Rattle.block.specs.declared.walk.Fit.the-variants as fit
 use Rattle.block.specs.declared.walk.Counted.the-variants as counted
 use Rattle.store.specs.Calls.{fresh, carved, released, merged}
 use Rattle.store.specs.declared.answer.Refusal.the-variants.{Unsound}
-use Rattle.store.specs.declared.release.Release.{Release}
 use Rattle.store.specs.declared.release.Release.the-variants as release
 use Rattle.history.proofs.Gaps.{Block, extent, Layout, last, item, blockAt, BlockOk, Placed, Remade, Clear, patched}
 use Rattle.history.proofs.Looks.{gap, regap, look-apart, look-swap}
@@ -86,7 +83,6 @@ pub record Carved (image : List ℕ) (l : Layout) (n type h : ℕ) : Type 0 wher
   pub clear : Clear image l h (16 + n)
   pub vacant : blockAt l h ≡ none
   pub block : Block
-  pub typed : block .type ≡ type
   pub zeroed : block .body ≡ replicate n 0
   pub next : Layout
   pub remade : Remade image (carved image h n type) next
@@ -109,7 +105,6 @@ fitted image l p n type least fits = go (first-fit image l p (16 + n) (omega ari
           clear = carve-clear image l h m f n type (r .room);
           vacant = carve-vacant image l h m f n type (r .room);
           block = new n type (gap m);
-          typed = refl;
           zeroed = refl;
           next = f .fill (placed-in n type m);
           remade = carve-remade image l h m f n type (r .room) least fits;

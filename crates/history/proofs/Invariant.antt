@@ -14,7 +14,7 @@ use Rattle.block.specs.Layout.{superblock, superblockGood, slotExponent, isLive
 use Rattle.block.specs.LayoutLaws.{superblock-front, exponent-front}
 use Rattle.block.specs.declared.header.Header.{Header}
 use Rattle.store.specs.State.{State, state, demand}
-use Rattle.store.specs.Calls.{fresh, opening, headerPlace, leadsBack, located, accessed}
+use Rattle.store.specs.Calls.{fresh, cleared, opening, headerPlace, leadsBack, located, accessed}
 use Rattle.store.specs.CallLaws.{Settable, opening-passes, Stands, Located, located-object, located-leads, located-at, accessed-at}
 use Rattle.store.specs.Written.{fresh-front}
 use Rattle.store.specs.declared.answer.Answer.the-variants.{Accepted}
@@ -223,7 +223,7 @@ module _ {s L : ℕ} {x : State} {heap : Heap} (i : Invariant s L x heap) where
 -- what it leaves has the invariant, with no object
 pub begins-with : (s : ℕ) (x : State) (u : Settable s x)
     → Invariant s (length (x .image))
-    (state (fresh s (length (x .image))) (replicate (usedEntries s (length (x .image))) 0 ++ drop (usedEntries s (length (x .image))) (x .table))) []
+    (state (fresh s (length (x .image))) (cleared s (length (x .image)) (x .table))) []
 unfolding find lookup
 begins-with s x u =
     let L : ℕ = length (x .image) in

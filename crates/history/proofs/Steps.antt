@@ -20,15 +20,15 @@ use Rattle.block.specs.Tests.{byBool, and-true, and-false, and-left, and-right}
 use Rattle.block.specs.Bytes.{encode, put}
 use Rattle.block.specs.BytesLaws.{length-encode, length-put}
 use Rattle.block.specs.Layout.{sizeAt}
-use Rattle.store.specs.State.{State, state, Outcome, outcome, returned, demand}
-use Rattle.store.specs.Calls.{entryFree, carved, noted, merged, located, movedAnswer, goodWidth, allocate, move, load, store, fill, copy, free}
+use Rattle.store.specs.State.{State, state, Outcome, outcome, returned, refuse}
+use Rattle.store.specs.Calls.{entryFree, carved, noted, merged, located, movedBy, goodWidth, allocate, move, load, store, fill, copy, free}
 use Rattle.store.specs.CallLaws.{Located, located-parts}
 use Rattle.store.specs.Claims.{allocates, frees, moves, loads, stores, fills, copies}
 use Rattle.store.specs.Rows.{load-leaves, moved-bad, moved-out, moved-in}
 use Rattle.store.specs.Written.{entry-is-free}
-use Rattle.store.specs.Outcomes.{refuse, through, allocate-empty, allocate-full, allocate-at, move-answer, store-through, store-width, store-large, fill-through, fill-empty, copy-through, copy-empty, free-unread, free-off-base, free-lost, free-merges}
+use Rattle.store.specs.Outcomes.{through, allocate-empty, allocate-full, allocate-at, move-answer, store-through, store-width, store-large, fill-through, fill-empty, copy-through, copy-empty, free-unread, free-off-base, free-lost, free-merges}
 use Rattle.store.specs.declared.answer.Refusal.{Refusal}
-use Rattle.store.specs.declared.answer.Refusal.the-variants.{Empty, Unsound, NoSpace, BadTag, NotBase}
+use Rattle.store.specs.declared.answer.Refusal.the-variants.{Empty, Unsound, NoSpace, NotBase}
 use Rattle.store.specs.declared.answer.Answer.{Answer}
 use Rattle.store.specs.declared.answer.Answer.the-variants.{Accepted, Refused}
 use Rattle.history.specs.Heap.{Object, Heap, start, member, ownerOf, offset, inside, bytesAt, written, pointed, newObject, change, without, write, copied, hear}
@@ -287,7 +287,7 @@ module _ {s L : ℕ} {x : State} {heap : Heap} (i : Invariant s L x heap) where
       (λ k. byBool (eqb k (headerOf o)) (λ t. rw t (ap (blockAt (i .laid .layout)) (eqb-true k (headerOf o) t) ∙ n .there)) (λ t. rw t))
 
   move-to : (p : ℕ) (d : ℤ) → goodTag s (unpack p) ≡ true → (r : Moved) → moved (unpack p) (reach s (unpack p)) d ≡ r
-      → Invariant s L x (hear heap (moves p d) (demand (goodTag s (unpack p)) BadTag (movedAnswer (moved (unpack p) (reach s (unpack p)) d))))
+      → Invariant s L x (hear heap (moves p d) (movedBy s (unpack p) d))
   unfolding hear
   move-to p d t Outside m = rw (← moved-out s (unpack p) d t m) i
   move-to p d t (To q) m = rw (← moved-in s (unpack p) d q t m) (go (ownerOf heap p) refl)
@@ -297,7 +297,7 @@ module _ {s L : ℕ} {x : State} {heap : Heap} (i : Invariant s L x heap) where
       go (some o) e = move-owned p o d q e m
 
   move-refused : (p : ℕ) (d : ℤ) → goodTag s (unpack p) ≡ false
-      → Invariant s L x (hear heap (moves p d) (demand (goodTag s (unpack p)) BadTag (movedAnswer (moved (unpack p) (reach s (unpack p)) d))))
+      → Invariant s L x (hear heap (moves p d) (movedBy s (unpack p) d))
   unfolding hear
   move-refused p d t = rw (← moved-bad s (unpack p) d t) i
 

@@ -1,5 +1,4 @@
 -- A list of calls that demand 3 admits, and what it leaves, by computation: the claim is about lists such as this one. Assumes nothing.
-use Prim.Native.Nat.{ℕ}
 use mathlib.Core.Path.{_≡_, refl}
 use mathlib.Core.Bool.{true}
 use mathlib.Core.List.{List, [], _∷_}
@@ -11,15 +10,15 @@ use Rattle.frame.specs.Tags.{wrapper, tagNumber, pointerTo, tagMatches, usedEnt
 use Rattle.block.specs.Bytes.{encode, decode, field, put}
 use Rattle.block.specs.Layout.{superblock, superblockGood, header, headerAt, wellFormed, sound}
 use Rattle.block.specs.Walk.{walkIn, walkFrom, walk, fitOf, firstFit, metOf, walkTo}
-use Rattle.store.specs.State.{State, state}
-use Rattle.store.specs.Calls.{setUpAnswer, fresh, setUp, opening, entryFree, fitAnswer, allocateAnswer, carved, noted, allocate, headerPlace, verified, leadsBack, located, inBody, accessed, movedAnswer, moveAnswer, move, loadAnswer, load, storeAnswer, store, fillAnswer, fill, copyAnswer, copy, mergeEnd, mergeStart, released, releaseFound, freeRelease, merged, freed, free}
+use Rattle.store.specs.State.{state}
+use Rattle.store.specs.Calls.{setUpChecks, fresh, setUp, opening, entryFree, fitAnswer, allocateChecks, carved, noted, allocate, headerPlace, verified, leadsBack, located, inBody, accessed, movedAnswer, moveAnswer, move, loadAnswer, load, storeChecks, store, fillChecks, fill, copyChecks, copy, mergeEnd, mergeStart, released, freeChecks, releasedAt, freeRelease, merged, freed, free}
 use Rattle.store.specs.Claims.{Call, allocates, frees, moves, loads, stores, fills, copies}
-use Rattle.history.specs.Heap.{Heap, Object, member, ownerOf, inside, change, without, write, copied, hear}
+use Rattle.history.specs.Heap.{member, ownerOf, inside, change, without, write, copied, hear}
 use Rattle.history.specs.History.{Configuration, begun, after, allAdmitted, known}
 
 -- an image of 128 bytes and a table, full of other bytes, set up at the slot exponent 6
-abbrev start : Configuration
-start = begun 6 (state (replicate 128 7) (replicate 60 9))
+abbrev fresh6 : Configuration
+fresh6 = begun 6 (state (replicate 128 7) (replicate 60 9))
 
 -- two objects; one is written through a moved pointer, copied to the other, and freed; some calls are refused
 abbrev pub calls : List Call
@@ -40,12 +39,8 @@ calls =
     ∷ frees 0x8010000000000020
     ∷ []
 
--- each of them is admitted
-pub admitted-calls : allAdmitted calls start ≡ true
-unfolding frameNumber frameNumberIn unpack pack goodTag reach landed moved wrapper tagNumber pointerTo tagMatches usedEntries entryAt encode decode field put superblock superblockGood header headerAt wellFormed sound walkIn walkFrom walk fitOf firstFit metOf walkTo setUpAnswer fresh setUp opening entryFree fitAnswer allocateAnswer carved noted allocate headerPlace verified leadsBack located inBody accessed movedAnswer moveAnswer move loadAnswer load storeAnswer store fillAnswer fill copyAnswer copy mergeEnd mergeStart released releaseFound freeRelease merged freed free member ownerOf inside change without write copied hear after allAdmitted known
-admitted-calls = refl
-
--- and the abstract heap is left with the second object, which holds what was copied to it
-pub left : after calls start .heap ≡ record { answer = 0x802A00000000003A; size = 4; pointers = 0x802A00000000003A ∷ []; bytes = 1 ∷ 2 ∷ 3 ∷ 4 ∷ [] } ∷ []
-unfolding frameNumber frameNumberIn unpack pack goodTag reach landed moved wrapper tagNumber pointerTo tagMatches usedEntries entryAt encode decode field put superblock superblockGood header headerAt wellFormed sound walkIn walkFrom walk fitOf firstFit metOf walkTo setUpAnswer fresh setUp opening entryFree fitAnswer allocateAnswer carved noted allocate headerPlace verified leadsBack located inBody accessed movedAnswer moveAnswer move loadAnswer load storeAnswer store fillAnswer fill copyAnswer copy mergeEnd mergeStart released releaseFound freeRelease merged freed free member ownerOf inside change without write copied hear after
-left = refl
+-- each of them is admitted; the abstract heap is left with the second object, which holds what was copied to it
+pub admitted-calls : (allAdmitted calls fresh6 ≡ true)
+    × (after calls fresh6 .heap ≡ record { answer = 0x802A00000000003A; size = 4; pointers = 0x802A00000000003A ∷ []; bytes = 1 ∷ 2 ∷ 3 ∷ 4 ∷ [] } ∷ [])
+unfolding frameNumber frameNumberIn unpack pack goodTag reach landed moved wrapper tagNumber pointerTo tagMatches usedEntries entryAt encode decode field put superblock superblockGood header headerAt wellFormed sound walkIn walkFrom walk fitOf firstFit metOf walkTo setUpChecks fresh setUp opening entryFree fitAnswer allocateChecks carved noted allocate headerPlace verified leadsBack located inBody accessed movedAnswer moveAnswer move loadAnswer load storeChecks store fillChecks fill copyChecks copy mergeEnd mergeStart released freeChecks releasedAt freeRelease merged freed free member ownerOf inside change without write copied hear after allAdmitted known
+admitted-calls = (refl, refl)

@@ -68,9 +68,9 @@ begun s x = record { state = setUp s x .after; heap = [] }
 
 -- What holds after a list.
 
--- any two different places in the heap
-abbrev pub Two : Heap → (Object → Object → Type 0) → Type 0
-Two heap P = (i j : ℕ) (d : Object) → i < j → j < length heap → P (getD heap i d) (getD heap j d)
+-- a relation of any two objects at different places in the heap, the earlier one first
+abbrev pub Pairwise : Heap → (Object → Object → Type 0) → Type 0
+Pairwise heap P = (i j : ℕ) (d : Object) → i < j → j < length heap → P (getD heap i d) (getD heap j d)
 
 -- the object lives
 abbrev pub In : Object → Heap → Type 0
@@ -92,13 +92,13 @@ pub record Holds (s : ℕ) (x : Configuration) : Type 0 where
   pub slot-exponent : slotExponent (x .state .image) ≡ s
   pub byte-counts : (o : Object) → In o (x .heap) → length (o .bytes) ≡ o .size
   -- no two live objects share a header place, a table entry or a pointer
-  pub header-places : Two (x .heap) (λ o o′. headerOf o ≡ headerOf o′ → ⊥)
+  pub header-places : Pairwise (x .heap) (λ o o′. headerOf o ≡ headerOf o′ → ⊥)
   pub entries :
-      Two (x .heap)
+      Pairwise (x .heap)
       (λ o o′.
       isSmall s (headerOf o) (o .size) ≡ false → isSmall s (headerOf o′) (o′ .size) ≡ false
       → entryOf s (headerOf o) (o .size) ≡ entryOf s (headerOf o′) (o′ .size) → ⊥)
-  pub pointers : Two (x .heap) (λ o o′. (p : ℕ) → holds o p ≡ true → holds o′ p ≡ true → ⊥)
+  pub pointers : Pairwise (x .heap) (λ o o′. (p : ℕ) → holds o p ≡ true → holds o′ p ≡ true → ⊥)
   -- each pointer of a live object leads to that object's header, start and size
   pub leads :
       (o : Object) → In o (x .heap) → (p : ℕ) → holds o p ≡ true

@@ -1,7 +1,7 @@
 -- What holds of single calls on every image and table. Assumes nothing.
 use Prim.Native.Nat.{ℕ, _+_, _^_, _≤_, _<_}
 use mathlib.Core.Path.{_≡_, refl, sym, ap, _∙_, subst}
-use mathlib.Core.List.{List, _++_}
+use mathlib.Core.List.{List}
 use native.Mathlib.Omega.{arith}
 use lib.IntN.{ℤ}
 use lib.ListN.{length, take, drop, replicate, length-append, length-drop, length-replicate}
@@ -17,7 +17,7 @@ use Rattle.block.specs.Layout.{slotExponent, sizeAt, extentAt}
 use Rattle.block.specs.LayoutLaws.{sound-low, sound-end, sound-live-at}
 use Rattle.block.specs.declared.header.Header.{Header}
 use Rattle.store.specs.State.{State, state, Outcome, IsAccepted, returned, value, usageNumber, liveObjects, liveBytes, freeBytes}
-use Rattle.store.specs.Calls.{setUpAnswer, setUp, fresh, allocateAnswer, allocate, carved, noted, freeRelease, free, move, moveAnswer, load, loadAnswer, storeAnswer, store, fillAnswer, fill, copyAnswer, copy, tally}
+use Rattle.store.specs.Calls.{setUpChecks, setUp, fresh, cleared, allocateChecks, allocate, carved, noted, freeRelease, free, move, moveAnswer, load, loadAnswer, storeChecks, store, fillChecks, fill, copyChecks, copy, tally}
 use Rattle.store.specs.CallLaws.{refused-some, Settable, settable-parts, Open, Stands, Located, located-object, located-leads, located-at, Allocates, allocate-parts, Frees, free-parts, store-parts, fill-parts, copy-parts}
 use Rattle.store.specs.Claims.{Call, allocates, frees, moves, loads, stores, fills, copies, step, RefusalsKeep, KeepsShape, ShapesKept, PointsBack, LeadsBack}
 use Rattle.store.specs.Rows.{set-up-declined, set-up-done, allocate-declined, allocate-done, free-declined, free-done, load-leaves, move-leaves, store-declined, store-done, fill-declined, fill-done, copy-declined, copy-done}
@@ -57,10 +57,10 @@ entered s x image h size entry o l e = (
 )
 
 -- all is set up
-cleared : (s : ℕ) (x : State) → Settable s x
-    → KeepsShape s x (state (fresh s (length (x .image))) (replicate (usedEntries s (length (x .image))) 0 ++ drop (usedEntries s (length (x .image))) (x .table)))
+set-up-shape : (s : ℕ) (x : State) → Settable s x
+    → KeepsShape s x (state (fresh s (length (x .image))) (cleared s (length (x .image)) (x .table)))
 unfolding KeepsShape
-cleared s x t =
+set-up-shape s x t =
     let used : ℕ = usedEntries s (length (x .image)) in (
       length-fresh s (length (x .image)) (omega (arith, t .length-low)),
       simp (length-append, length-replicate, length-drop) (omega (arith, t .entries)),
@@ -71,11 +71,11 @@ cleared s x t =
 
 -- set-up
 ended-set-up : (s : ℕ) (x : State) → Ended s x (setUp s x)
-ended-set-up s x = go (setUpAnswer s x) refl
+ended-set-up s x = go (setUpChecks s x) refl
   where
-    go : (a : Answer) → setUpAnswer s x ≡ a → Ended s x (setUp s x)
+    go : (a : Answer) → setUpChecks s x ≡ a → Ended s x (setUp s x)
     go (Refused r) e = subst (Ended s x) (sym (set-up-declined s x r e)) (refused refl refl)
-    go (Accepted v) e = subst (Ended s x) (sym (set-up-done s x v e)) (accepted refl (cleared s x (settable-parts s x v e)))
+    go (Accepted v) e = subst (Ended s x) (sym (set-up-done s x v e)) (accepted refl (set-up-shape s x (settable-parts s x v e)))
 
 -- a call that only answers
 ended-answer : (s : ℕ) (x : State) (a : Answer) → Ended s x (record { answer = a; after = x })
@@ -90,9 +90,9 @@ module _ (x : State) where
   -- allocate
   ended-allocate : (size type : ℕ) → Ended exponent x (allocate size type x)
   unfolding exponent
-  ended-allocate size type = go (allocateAnswer size x) refl
+  ended-allocate size type = go (allocateChecks size x) refl
     where
-      go : (a : Answer) → allocateAnswer size x ≡ a → Ended exponent x (allocate size type x)
+      go : (a : Answer) → allocateChecks size x ≡ a → Ended exponent x (allocate size type x)
       go (Refused r) e = subst (Ended exponent x) (allocate-declined size x type r e) (refused refl refl)
       go (Accepted h) e =
           let a : Allocates size x h = allocate-parts size x h e in
@@ -124,9 +124,9 @@ module _ (x : State) where
 
   -- store
   ended-store : (word width v : ℕ) → Ended exponent x (store word width v x)
-  ended-store word width v = go (storeAnswer word width v x) refl
+  ended-store word width v = go (storeChecks word width v x) refl
     where
-      go : (a : Answer) → storeAnswer word width v x ≡ a → Ended exponent x (store word width v x)
+      go : (a : Answer) → storeChecks word width v x ≡ a → Ended exponent x (store word width v x)
       go (Refused r) e = subst (Ended exponent x) (store-declined word width v x r e) (refused refl refl)
       go (Accepted a) e =
           let (s, h, o, w, l, k) = store-parts word width v x a e in
@@ -135,9 +135,9 @@ module _ (x : State) where
 
   -- fill
   ended-fill : (word n byte : ℕ) → Ended exponent x (fill word n byte x)
-  ended-fill word n byte = go (fillAnswer word n x) refl
+  ended-fill word n byte = go (fillChecks word n x) refl
     where
-      go : (a : Answer) → fillAnswer word n x ≡ a → Ended exponent x (fill word n byte x)
+      go : (a : Answer) → fillChecks word n x ≡ a → Ended exponent x (fill word n byte x)
       go (Refused r) e = subst (Ended exponent x) (fill-declined word n byte x r e) (refused refl refl)
       go (Accepted a) e =
           let (s, h, o, l, k) = fill-parts word n x a e in
@@ -146,9 +146,9 @@ module _ (x : State) where
 
   -- copy
   ended-copy : (target source n : ℕ) → Ended exponent x (copy target source n x)
-  ended-copy target source n = go (copyAnswer target source n x) refl
+  ended-copy target source n = go (copyChecks target source n x) refl
     where
-      go : (a : Answer) → copyAnswer target source n x ≡ a → Ended exponent x (copy target source n x)
+      go : (a : Answer) → copyChecks target source n x ≡ a → Ended exponent x (copy target source n x)
       go (Refused r) e = subst (Ended exponent x) (copy-declined target source n x r e) (refused refl refl)
       go (Accepted a) e =
           let (s, h, k, o, l, i, j) = copy-parts target source n x a e in
@@ -250,9 +250,9 @@ carved-leads size type x h fits a =
 -- demand 2, of allocate
 pub leads-back : LeadsBack
 unfolding LeadsBack
-leads-back size type x fits e = go (allocateAnswer size x) refl
+leads-back size type x fits e = go (allocateChecks size x) refl
   where
-    go : (a : Answer) → allocateAnswer size x ≡ a → PointsBack size x (allocate size type x .after) (value (allocate size type x .answer))
+    go : (a : Answer) → allocateChecks size x ≡ a → PointsBack size x (allocate size type x .after) (value (allocate size type x .answer))
     go (Refused r) q = absurd (refused-some r (ap (λ (o : Outcome). returned (o .answer)) (allocate-declined size x type r q) ∙ e))
     go (Accepted h) q =
         subst (λ (o : Outcome). PointsBack size x (o .after) (value (o .answer)))

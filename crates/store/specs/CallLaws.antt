@@ -25,7 +25,7 @@ use Rattle.block.specs.declared.walk.Fit.the-variants as fit
 use Rattle.block.specs.declared.walk.Met.{Met}
 use Rattle.block.specs.declared.walk.Met.the-variants as met
 use Rattle.store.specs.State.{State, refusalNumber, returned, demand, andThen}
-use Rattle.store.specs.Calls.{setUpAnswer, opening, entryFree, fitAnswer, allocateAnswer, headerPlace, verified, leadsBack, located, inBody, accessed, goodWidth, storeAnswer, fillAnswer, copyAnswer, mergeEnd, mergeStart, released, releaseFound, freeRelease}
+use Rattle.store.specs.Calls.{setUpChecks, opening, entryFree, fitAnswer, allocateChecks, headerPlace, verified, leadsBack, located, inBody, accessed, goodWidth, storeChecks, fillChecks, copyChecks, mergeEnd, mergeStart, released, freeChecks, releasedAt, freeRelease}
 use Rattle.store.specs.declared.answer.Refusal.{Refusal}
 use Rattle.store.specs.declared.answer.Refusal.the-variants.{BadExponent, BadLength, TooFewEntries, BadSuperblock, ShortTable, Empty, Unsound, NoSpace, EntryTaken, BadTag, Dangling, Leaves, OutOfBounds, BadWidth, NotBase, TooLarge}
 use Rattle.store.specs.declared.answer.Answer.{Answer}
@@ -78,8 +78,8 @@ pub record Settable (s : ℕ) (x : State) : Type 0 where
   pub entries : usedEntries s (length (x .image)) ≤ length (x .table)
 
 -- an accepted set-up passes them
-pub settable-parts : (s : ℕ) (x : State) (v : ℕ) → setUpAnswer s x ≡ Accepted v → Settable s x
-unfolding setUpAnswer
+pub settable-parts : (s : ℕ) (x : State) (v : ℕ) → setUpChecks s x ≡ Accepted v → Settable s x
+unfolding setUpChecks
 settable-parts s x v e =
     let a = demand-met (goodExponent s) BadExponent _ v e in
     let b = demand-met (goodLength (length (x .image))) BadLength _ v (a .1) in
@@ -265,8 +265,8 @@ pub record Allocates (size : ℕ) (x : State) (h : ℕ) : Type 0 where
   pub indexed : entryOf (slotExponent (x .image)) h size < length (x .table)
 
 -- an accepted allocation passes them
-pub allocate-parts : (size : ℕ) (x : State) (h : ℕ) → allocateAnswer size x ≡ Accepted h → Allocates size x h
-unfolding allocateAnswer
+pub allocate-parts : (size : ℕ) (x : State) (h : ℕ) → allocateChecks size x ≡ Accepted h → Allocates size x h
+unfolding allocateChecks
 allocate-parts size x h e =
     let (s, a, b) = and-then-met (opening x) _ h e in
     let o = opening-parts x s a in
@@ -332,17 +332,14 @@ released-parts image k h from to e = go (walkTo image k) refl e
         (λ t. let z : _≡_ {A = ℕ} 0 1 = cc in absurd (omega arith))
     go met.Lost p e = let z : _≡_ {A = ℕ} 0 1 = cc in absurd (omega arith)
 
--- the same, with the object that the pointer leads to
-found-parts : (a : Answer) (p : Pointer) (x : State) (h from to : ℕ) → releaseFound a p x ≡ release.Merges h from to
-    → (a ≡ Accepted h) × (p .address ≡ h + 16) × (before : ℕ) × Releases (x .image) h from to before
-unfolding releaseFound
-found-parts (Refused r) p x h from to e = let z : _≡_ {A = ℕ} 0 1 = cc in absurd (omega arith)
-found-parts (Accepted k) p x h from to e =
-    byBool (eqb (p .address) (k + 16))
-    (λ t.
-    let (q, before, r) = released-parts (x .image) k h from to (rw t at e) in
-    rw q (refl, eqb-true _ _ t, before, r))
-    (λ t. let z : _≡_ {A = ℕ} 0 1 = cc in absurd (omega arith))
+-- the same, with the test that found the object
+released-at-parts : (a : Answer) (image : List ℕ) (h from to : ℕ) → releasedAt a image ≡ release.Merges h from to
+    → (a ≡ Accepted h) × (before : ℕ) × Releases image h from to before
+unfolding releasedAt
+released-at-parts (Accepted k) image h from to e =
+    let (q, before, r) = released-parts image k h from to e in
+    rw q (refl, before, r)
+released-at-parts (Refused r) image h from to e = let z : _≡_ {A = ℕ} 0 1 = cc in absurd (omega arith)
 
 -- the rows of free are passed: the object at h goes, and a free block reaches from `from` to `to`
 pub record Frees (word : ℕ) (x : State) (h from to : ℕ) : Type 0 where
@@ -362,19 +359,23 @@ pub record Frees (word : ℕ) (x : State) (h from to : ℕ) : Type 0 where
 
 -- a free that merges passes them
 pub free-parts : (word : ℕ) (x : State) (h from to : ℕ) → freeRelease word x ≡ release.Merges h from to → Frees word x h from to
-unfolding freeRelease
+unfolding freeRelease freeChecks
 free-parts word x h from to e =
-    let (a, b, before, r) = found-parts _ (unpack word) x h from to e in
-    let (s, o, l) = and-then-met (opening x) _ h a in
+    let (a, before, r) = released-at-parts (freeChecks word x) (x .image) h from to e in
+    let (s, o, m) = and-then-met (opening x) _ h a in
+    let (k, l, n) = and-then-met (located s (unpack word) x) _ h m in
+    let d = demand-met (eqb (unpack word .address) (k + 16)) NotBase _ h n in
+    let g : h ≡ k = cc in
+    let b : unpack word .address ≡ h + 16 = eqb-true _ _ (d .0) ∙ ap (λ (j : ℕ). j + 16) (sym g) in
     let q : s ≡ slotExponent (x .image) = opening-parts x s o .exponent in
     let op : Open x (slotExponent (x .image)) = opening-parts x (slotExponent (x .image)) (rw (← q) o) in
-    let ob : Located (slotExponent (x .image)) (unpack word) x h = located-parts (slotExponent (x .image)) (unpack word) x h (rw (← q) l) in
+    let ob : Located (slotExponent (x .image)) (unpack word) x h = located-parts (slotExponent (x .image)) (unpack word) x h (rw (← q) (l ∙ ap Accepted (sym g))) in
     let so = ob .header .is-sound in
-    let m = walk-to-meets (x .image) h before (r .meets) in
+    let w = walk-to-meets (x .image) h before (r .meets) in
     let end = sound-end (x .image) h so in
     let long = sound-extent (x .image) h so in
     let holds = sound-live (x .image) h so (ob .header .is-live) .holds in
-    let f = merge-start-in (x .image) before h (m .behind) (sound-low (x .image) h so) in
+    let f = merge-start-in (x .image) before h (w .behind) (sound-low (x .image) h so) in
     let t = merge-end-in (x .image) (h + extentAt (x .image) h) end (r .next-good) in
     let i : h + 16 + sizeAt (x .image) h ≤ length (x .image) = omega arith in
     record {
@@ -383,7 +384,7 @@ free-parts word x h from to e =
       base = b;
       before = before;
       merges = r;
-      block = m;
+      block = w;
       low = rw (r .starts) (f .0);
       starts = rw (r .starts) (f .1);
       ends = rw (r .ends) (t .0);
@@ -395,9 +396,9 @@ free-parts word x h from to e =
 
 -- what an accepted store and an accepted fill say
 
-pub store-parts : (word width v : ℕ) (x : State) (a : ℕ) → storeAnswer word width v x ≡ Accepted a
+pub store-parts : (word width v : ℕ) (x : State) (a : ℕ) → storeChecks word width v x ≡ Accepted a
     → (s h : ℕ) × Open x s × (goodWidth width ≡ true) × (v < 256 ^ width) × Accessed s (unpack word) width x a h
-unfolding storeAnswer
+unfolding storeChecks
 store-parts word width v x a e =
     let (s, o, m) = and-then-met (opening x) _ a e in
     let w = demand-met (goodWidth width) BadWidth _ a m in
@@ -405,9 +406,9 @@ store-parts word width v x a e =
     let (h, k) = accessed-parts s (unpack word) width x a (l .1) in
     (s, h, opening-parts x s o, w .0, ltb-true v (256 ^ width) (l .0), k)
 
-pub fill-parts : (word n : ℕ) (x : State) (a : ℕ) → fillAnswer word n x ≡ Accepted a
+pub fill-parts : (word n : ℕ) (x : State) (a : ℕ) → fillChecks word n x ≡ Accepted a
     → (s h : ℕ) × Open x s × (0 < n) × Accessed s (unpack word) n x a h
-unfolding fillAnswer
+unfolding fillChecks
 fill-parts word n x a e =
     let (s, o, m) = and-then-met (opening x) _ a e in
     let l = demand-met (ltb 0 n) Empty _ a m in
@@ -415,9 +416,9 @@ fill-parts word n x a e =
     (s, h, opening-parts x s o, ltb-true 0 n (l .0), k)
 
 -- what an accepted copy says: its number is the source's address
-pub copy-parts : (target source n : ℕ) (x : State) (a : ℕ) → copyAnswer target source n x ≡ Accepted a
+pub copy-parts : (target source n : ℕ) (x : State) (a : ℕ) → copyChecks target source n x ≡ Accepted a
     → (s h k : ℕ) × Open x s × (0 < n) × Accessed s (unpack target) n x (unpack target .address) h × Accessed s (unpack source) n x a k
-unfolding copyAnswer
+unfolding copyChecks
 copy-parts target source n x a e =
     let (s, o, m) = and-then-met (opening x) _ a e in
     let l = demand-met (ltb 0 n) Empty _ a m in

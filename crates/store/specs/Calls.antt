@@ -1,7 +1,7 @@
 -- What each call answers and leaves: document 01, "Calls" and "Why a call was declined". The order of the rows is the order of the tests.
 -- Assumes nothing.
-use Prim.Native.Nat.{ℕ, zero, suc, _+_, _-_, _*_, _/_, _%_, _^_}
-use mathlib.Core.Bool.{Bool, true, false, cond, _&&_, _||_}
+use Prim.Native.Nat.{ℕ, _+_, _-_, _^_}
+use mathlib.Core.Bool.{Bool, cond, _&&_, _||_}
 use mathlib.Core.List.{List, _++_}
 use lib.ListN.{length, take, drop, getD, set, replicate}
 use lib.Dec.{leb, ltb, eqb}
@@ -21,7 +21,7 @@ use Rattle.block.specs.declared.walk.Met.{Met}
 use Rattle.block.specs.declared.walk.Met.the-variants as met
 use Rattle.block.specs.declared.walk.Counted.{Counted}
 use Rattle.block.specs.declared.walk.Counted.the-variants as counted
-use Rattle.store.specs.State.{State, state, Outcome, outcome, demand, andThen, conclude}
+use Rattle.store.specs.State.{State, Outcome, outcome, demand, andThen, refuse, conclude}
 use Rattle.store.specs.declared.answer.Refusal.the-variants.{BadExponent, BadLength, TooFewEntries, BadSuperblock, ShortTable, Empty, Unsound, NoSpace, EntryTaken, BadTag, Dangling, Leaves, OutOfBounds, BadWidth, NotBase, TooLarge}
 use Rattle.store.specs.declared.answer.Answer.{Answer}
 use Rattle.store.specs.declared.answer.Answer.the-variants.{Accepted, Refused}
@@ -32,8 +32,9 @@ use Rattle.store.specs.declared.counting.Usage.the-variants as usage
 
 -- Set-up: 1, 2, 3.
 
-unfoldable pub setUpAnswer : ℕ → State → Answer
-setUpAnswer s x =
+-- its tests; the number is 0
+unfoldable pub setUpChecks : ℕ → State → Answer
+setUpChecks s x =
     demand (goodExponent s) BadExponent
     (demand (goodLength (length (x .image))) BadLength
     (demand (leb (usedEntries s (length (x .image))) (length (x .table))) TooFewEntries (Accepted 0)))
@@ -42,11 +43,15 @@ setUpAnswer s x =
 unfoldable pub fresh : ℕ → ℕ → List ℕ
 fresh s L = superblock s L ++ (freeHeader (L - 16) ++ replicate (L - 32) 0)
 
+-- the table with the used entries of an image of L bytes zero
+abbrev pub cleared : ℕ → ℕ → List ℕ → List ℕ
+cleared s L table = replicate (usedEntries s L) 0 ++ drop (usedEntries s L) table
+
+-- its outcome: the fresh image, and the used table entries zero
 unfoldable pub setUp : ℕ → State → Outcome
 setUp s x =
-    conclude x (setUpAnswer s x) λ v.
-    outcome (Accepted 0) (fresh s (length (x .image)))
-    (replicate (usedEntries s (length (x .image))) 0 ++ drop (usedEntries s (length (x .image))) (x .table))
+    conclude x (setUpChecks s x) λ v.
+    outcome (Accepted 0) (fresh s (length (x .image))) (cleared s (length (x .image)) (x .table))
 
 -- Every other call begins with 4, 5; the number is the slot exponent.
 unfoldable pub opening : State → Answer
@@ -55,19 +60,21 @@ opening x =
     (demand (leb (usedEntries (slotExponent (x .image)) (length (x .image))) (length (x .table))) ShortTable
     (Accepted (slotExponent (x .image))))
 
--- Allocate: 6, 7 or 8 as the walk ends, 9; the number is the place of the block that is taken.
+-- Allocate: 6, 7 or 8 as the walk ends, 9.
 
--- 9: a large-framed object's table entry is not zero
+-- 9: the new object needs no table entry, or its entry is zero
 unfoldable pub entryFree : ℕ → ℕ → ℕ → List ℕ → Bool
 entryFree s h size table = isSmall s h size || eqb (getD table (entryOf s h size) 0) 0
 
+-- what follows where first fit finds a block
 unfoldable pub fitAnswer : Fit → (ℕ → Answer) → Answer
 fitAnswer (fit.At h) next = next h
 fitAnswer (fit.Unsound h) next = Refused Unsound
 fitAnswer fit.End next = Refused NoSpace
 
-unfoldable pub allocateAnswer : ℕ → State → Answer
-allocateAnswer size x =
+-- its tests; the number is the place of the block that is taken
+unfoldable pub allocateChecks : ℕ → State → Answer
+allocateChecks size x =
     andThen (opening x) λ s.
     demand (ltb 0 size) Empty
     (fitAnswer (firstFit (x .image) (16 + size)) λ h. demand (entryFree s h size (x .table)) EntryTaken (Accepted h))
@@ -80,14 +87,15 @@ carved image h size type =
     cond (ltb (extent - need) 16) (put image h (liveHeader extent type size))
     (put (put image h (liveHeader need type size)) (h + need) (freeHeader (extent - need)))
 
--- the table with an entry for the object at h, where it is large-framed
+-- the table with the entry of the object at h set, where it is large-framed
 unfoldable pub noted : ℕ → ℕ → ℕ → ℕ → List ℕ → List ℕ
 noted s h size entry table = cond (isSmall s h size) table (set table (entryOf s h size) entry)
 
+-- its outcome: the tagged base
 unfoldable pub allocate : ℕ → ℕ → State → Outcome
 allocate size type x =
     let s : ℕ = slotExponent (x .image) in
-    conclude x (allocateAnswer size x) λ h.
+    conclude x (allocateChecks size x) λ h.
     outcome (Accepted (pack (pointerTo s h size))) (carved (x .image) h size type) (noted s h size h (x .table))
 
 -- Reading a tag: 10, 11; the number is the header's place.
@@ -102,10 +110,12 @@ unfoldable pub verified : ℕ → Pointer → List ℕ → ℕ → Bool
 verified s p image h =
     sound image h && (isLive image h && (tagMatches s h (sizeAt image h) p && sameFrame (reach s p) h (p .address)))
 
+-- the slot or frame starts in the image, and the header that the tag leads to is verified
 unfoldable pub leadsBack : ℕ → Pointer → State → Bool
 leadsBack s p x =
     ltb (frameStart (reach s p) (p .address)) (length (x .image)) && verified s p (x .image) (headerPlace s p (x .table))
 
+-- the tests of a tag
 unfoldable pub located : ℕ → Pointer → State → Answer
 located s p x =
     demand (goodTag s p) BadTag (demand (leadsBack s p x) Dangling (Accepted (headerPlace s p (x .table))))
@@ -120,108 +130,136 @@ accessed s p n x = andThen (located s p x) λ h. demand (inBody (x .image) h p n
 
 -- Move: 10, 12.
 
+-- what a move comes to
 unfoldable pub movedAnswer : Moved → Answer
 movedAnswer (To q) = Accepted (pack q)
 movedAnswer Outside = Refused Leaves
 
-unfoldable pub moveAnswer : ℕ → ℤ → State → Answer
-moveAnswer word d x =
-    andThen (opening x) λ s.
-    demand (goodTag s (unpack word)) BadTag (movedAnswer (moved (unpack word) (reach s (unpack word)) d))
+-- a pointer moved by a distance: 10, 12
+abbrev pub movedBy : ℕ → Pointer → ℤ → Answer
+movedBy s p d = demand (goodTag s p) BadTag (movedAnswer (moved p (reach s p) d))
 
+-- its answer: the pointer there
+unfoldable pub moveAnswer : ℕ → ℤ → State → Answer
+moveAnswer word d x = andThen (opening x) λ s. movedBy s (unpack word) d
+
+-- its outcome: nothing is written
 unfoldable pub move : ℕ → ℤ → State → Outcome
 move word d x = record { answer = moveAnswer word d x; after = x }
 
 -- Load: 14, 10, 11, 13.
 
+-- 14: the widths that a load or store may have
 abbrev pub goodWidth : ℕ → Bool
 goodWidth w = eqb w 1 || (eqb w 2 || (eqb w 4 || eqb w 8))
 
+-- its answer: the number in the bytes, little-endian
 unfoldable pub loadAnswer : ℕ → ℕ → State → Answer
 loadAnswer word width x =
     andThen (opening x) λ s.
     demand (goodWidth width) BadWidth
     (andThen (accessed s (unpack word) width x) λ a. Accepted (field (x .image) a width))
 
+-- its outcome: nothing is written
 unfoldable pub load : ℕ → ℕ → State → Outcome
 load word width x = record { answer = loadAnswer word width x; after = x }
 
--- Store: 14, 16, 10, 11, 13; the number is the address.
+-- Store: 14, 16, 10, 11, 13.
 
-unfoldable pub storeAnswer : ℕ → ℕ → ℕ → State → Answer
-storeAnswer word width v x =
+-- its tests; the number is the address
+unfoldable pub storeChecks : ℕ → ℕ → ℕ → State → Answer
+storeChecks word width v x =
     andThen (opening x) λ s.
     demand (goodWidth width) BadWidth (demand (ltb v (256 ^ width)) TooLarge (accessed s (unpack word) width x))
 
+-- its outcome: the value in the bytes, little-endian
 unfoldable pub store : ℕ → ℕ → ℕ → State → Outcome
 store word width v x =
-    conclude x (storeAnswer word width v x) λ a. outcome (Accepted 0) (put (x .image) a (encode width v)) (x .table)
+    conclude x (storeChecks word width v x) λ a. outcome (Accepted 0) (put (x .image) a (encode width v)) (x .table)
 
--- Fill: 6, 10, 11, 13; the number is the address.
+-- Fill: 6, 10, 11, 13.
 
-unfoldable pub fillAnswer : ℕ → ℕ → State → Answer
-fillAnswer word n x = andThen (opening x) λ s. demand (ltb 0 n) Empty (accessed s (unpack word) n x)
+-- its tests; the number is the address
+unfoldable pub fillChecks : ℕ → ℕ → State → Answer
+fillChecks word n x = andThen (opening x) λ s. demand (ltb 0 n) Empty (accessed s (unpack word) n x)
 
+-- its outcome: one value in all the bytes
 unfoldable pub fill : ℕ → ℕ → ℕ → State → Outcome
 fill word n byte x =
-    conclude x (fillAnswer word n x) λ a. outcome (Accepted 0) (put (x .image) a (replicate n byte)) (x .table)
+    conclude x (fillChecks word n x) λ a. outcome (Accepted 0) (put (x .image) a (replicate n byte)) (x .table)
 
--- Copy: 6, the target's 10, 11, 13, the source's; the number is the source's address.
+-- Copy: 6, the target's 10, 11, 13, the source's.
 
-unfoldable pub copyAnswer : ℕ → ℕ → ℕ → State → Answer
-copyAnswer target source n x =
+-- its tests; the number is the source's address
+unfoldable pub copyChecks : ℕ → ℕ → ℕ → State → Answer
+copyChecks target source n x =
     andThen (opening x) λ s.
     demand (ltb 0 n) Empty (andThen (accessed s (unpack target) n x) λ a. accessed s (unpack source) n x)
 
+-- its outcome: the source's bytes as they stood before
 unfoldable pub copy : ℕ → ℕ → ℕ → State → Outcome
 copy target source n x =
-    conclude x (copyAnswer target source n x) λ a.
+    conclude x (copyChecks target source n x) λ a.
     outcome (Accepted 0) (put (x .image) (unpack target .address) (take n (drop a (x .image)))) (x .table)
 
--- Free: 10, 11, 15, 7. What is merged: the object's header place, and from where to where the free block then reaches.
+-- Free: 10, 11, 15, 7.
 
--- the place before which the blocks to merge end; none where the next header is unsound
-unfoldable pub mergeEnd : List ℕ → ℕ → ℕ
-mergeEnd image next = cond (ltb next (length image) && isFree image next) (next + extentAt image next) next
-
+-- where the merged block starts: at the block before h, where there is one (not 0) and it is free
 unfoldable pub mergeStart : List ℕ → ℕ → ℕ → ℕ
 mergeStart image before h = cond (ltb 0 before && isFree image before) before h
 
+-- where the merged block ends: behind the block at `next`, where that is below the image's end and free
+unfoldable pub mergeEnd : List ℕ → ℕ → ℕ
+mergeEnd image next = cond (ltb next (length image) && isFree image next) (next + extentAt image next) next
+
+-- the image with one free block from `from` to `to`, all else in it zero
+unfoldable pub merged : List ℕ → ℕ → ℕ → List ℕ
+merged image from to = put image from (freeHeader (to - from) ++ replicate (to - from - 16) 0)
+
+-- its tests up to 15; the number is the header's place
+unfoldable pub freeChecks : ℕ → State → Answer
+freeChecks word x =
+    andThen (opening x) λ s.
+    andThen (located s (unpack word) x) λ h. demand (eqb (unpack word .address) (h + 16)) NotBase (Accepted h)
+
+-- 7: the walk meets h, and the next header, below the image's end, is sound; then the object's header place, and from where to where the free block reaches
 unfoldable pub released : List ℕ → ℕ → Met → Release
 released image h (met.After before) =
     let next : ℕ = h + extentAt image h in
     cond (leb (length image) next || sound image next) (release.Merges h (mergeStart image before h) (mergeEnd image next)) (release.Refused Unsound)
 released image h met.Lost = release.Refused Unsound
 
-unfoldable pub releaseFound : Answer → Pointer → State → Release
-releaseFound (Refused r) p x = release.Refused r
-releaseFound (Accepted h) p x =
-    cond (eqb (p .address) (h + 16)) (released (x .image) h (walkTo (x .image) h)) (release.Refused NotBase)
+-- 7, on the number that the tests up to 15 found
+unfoldable pub releasedAt : Answer → List ℕ → Release
+releasedAt (Accepted h) image = released image h (walkTo image h)
+releasedAt (Refused r) image = release.Refused r
 
+-- all its tests
 unfoldable pub freeRelease : ℕ → State → Release
-freeRelease word x = releaseFound (andThen (opening x) λ s. located s (unpack word) x) (unpack word) x
+freeRelease word x = releasedAt (freeChecks word x) (x .image)
 
--- the image with one free block from `from` to `to`, all else in it zero
-unfoldable pub merged : List ℕ → ℕ → ℕ → List ℕ
-merged image from to = put image from (freeHeader (to - from) ++ replicate (to - from - 16) 0)
-
+-- what the release of an object leaves
 unfoldable pub freed : Release → State → Outcome
-freed (release.Refused r) x = record { answer = Refused r; after = x }
 freed (release.Merges h from to) x =
     outcome (Accepted 0) (merged (x .image) from to) (noted (slotExponent (x .image)) h (sizeAt (x .image) h) 0 (x .table))
+freed (release.Refused r) x = refuse r x
 
+-- its outcome
 unfoldable pub free : ℕ → State → Outcome
 free word x = freed (freeRelease word x) x
 
--- Tally: 7; live objects, live bytes (the sum of their raw sizes) and free bytes (all others behind the superblock).
+-- Tally, the memory in use: 7; live objects, live bytes (the sum of their raw sizes) and free bytes (all others behind the superblock).
 
+-- what follows where 4 and 5 are passed
+unfoldable pub tallyOpened : Answer → Usage → Usage
+tallyOpened (Accepted s) next = next
+tallyOpened (Refused r) next = usage.Refused r
+
+-- 7: what a count of the blocks comes to
 unfoldable pub tallyCounted : Counted → ℕ → Usage
 tallyCounted (counted.Counts objects live) L = usage.Counts objects live (L - 16 - live)
 tallyCounted counted.Unsound L = usage.Refused Unsound
 
-unfoldable pub tallyOpened : Answer → State → Usage
-tallyOpened (Refused r) x = usage.Refused r
-tallyOpened (Accepted s) x = tallyCounted (countBlocks (x .image)) (length (x .image))
-
+-- its answer
 unfoldable pub tally : State → Usage
-tally x = tallyOpened (opening x) x
+tally x = tallyOpened (opening x) (tallyCounted (countBlocks (x .image)) (length (x .image)))

@@ -12,7 +12,7 @@ use Rattle.block.specs.Bytes.{encode, decode, field, put}
 use Rattle.block.specs.Layout.{superblock, superblockGood, header, headerAt, wellFormed, sound, isFree, extentAt}
 use Rattle.block.specs.Walk.{walkIn, walkFrom, walk, fitOf, firstFit}
 use Rattle.store.specs.State.{State, state, Outcome, returned, value}
-use Rattle.store.specs.Calls.{setUpAnswer, fresh, setUp, opening, entryFree, fitAnswer, allocateAnswer, carved, noted, allocate, movedAnswer, moveAnswer, move}
+use Rattle.store.specs.Calls.{setUpChecks, fresh, setUp, opening, entryFree, fitAnswer, allocateChecks, carved, noted, allocate, movedAnswer, moveAnswer, move}
 
 -- A case: what it starts from, and what document 01 says of it. An image of L bytes is set up, and the sizes `before` are allocated.
 pub data Case : Type 0 where
@@ -96,5 +96,5 @@ cases =
     ∷ []
 
 pub worked : T (all cases)
-unfolding frameNumber frameNumberIn unpack pack goodTag reach landed moved wrapper tagNumber pointerTo usedEntries entryAt encode decode field put superblock superblockGood header headerAt wellFormed sound walkIn walkFrom walk fitOf firstFit setUpAnswer fresh setUp opening entryFree fitAnswer allocateAnswer carved noted allocate movedAnswer moveAnswer move
+unfolding frameNumber frameNumberIn unpack pack goodTag reach landed moved wrapper tagNumber pointerTo usedEntries entryAt encode decode field put superblock superblockGood header headerAt wellFormed sound walkIn walkFrom walk fitOf firstFit setUpChecks fresh setUp opening entryFree fitAnswer allocateChecks carved noted allocate movedAnswer moveAnswer move
 worked = tt

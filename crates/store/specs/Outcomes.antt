@@ -2,26 +2,26 @@
 use Prim.Native.Nat.{ℕ, _+_, _^_, _≤_}
 use mathlib.Core.Path.{_≡_, refl, sym, ap, _∙_}
 use mathlib.Core.Bool.{Bool, true, false, cond, _&&_}
-use mathlib.Core.List.{List, _++_}
+use mathlib.Core.List.{List}
 use mathlib.Core.Logic.{_↔_}
 use native.Mathlib.Omega.{arith}
 use lib.ListN.{length, take, drop, replicate}
 use lib.Dec.{ltb, eqb}
 use lib.IntN.{ℤ}
 use borrow.Author.Tests.{ltb-true, ltb-false, eqb-true, eqb-false}
-use Rattle.frame.specs.Pointers.{unpack, pack, goodTag, reach, moved}
-use Rattle.frame.specs.Tags.{pointerTo, usedEntries}
+use Rattle.frame.specs.Pointers.{unpack, pack}
+use Rattle.frame.specs.Tags.{pointerTo}
 use Rattle.block.specs.Tests.{true-false}
 use Rattle.block.specs.Bytes.{encode, field, put}
 use Rattle.block.specs.Layout.{slotExponent, sizeAt}
 use Rattle.block.specs.Walk.{firstFit, walkTo}
 use Rattle.block.specs.declared.walk.Fit.the-variants as fit
-use Rattle.store.specs.State.{State, Outcome, outcome, IsAccepted, returned, demand}
-use Rattle.store.specs.Calls.{setUpAnswer, fresh, setUp, opening, entryFree, carved, noted, allocate, located, accessed, movedAnswer, move, goodWidth, load, store, fill, copy, released, merged, free}
+use Rattle.store.specs.State.{State, Outcome, outcome, IsAccepted, returned, demand, refuse}
+use Rattle.store.specs.Calls.{setUpChecks, fresh, cleared, setUp, opening, entryFree, carved, noted, allocate, located, accessed, movedBy, move, goodWidth, load, store, fill, copy, released, merged, free}
 use Rattle.store.specs.CallLaws.{refused-some, Settable, settable-parts}
 use Rattle.store.specs.Rows as rows
 use Rattle.store.specs.declared.answer.Refusal.{Refusal}
-use Rattle.store.specs.declared.answer.Refusal.the-variants.{Empty, NoSpace, BadTag, OutOfBounds, BadWidth, NotBase, TooLarge}
+use Rattle.store.specs.declared.answer.Refusal.the-variants.{Empty, NoSpace, OutOfBounds, BadWidth, NotBase, TooLarge}
 use Rattle.store.specs.declared.answer.Answer.{Answer}
 use Rattle.store.specs.declared.answer.Answer.the-variants.{Accepted, Refused}
 use Rattle.store.specs.declared.release.Release.the-variants as release
@@ -29,18 +29,14 @@ use Rattle.store.specs.declared.release.Release.the-variants as release
 -- what an accepted set-up was given, and what it leaves
 pub set-up-accepted : (s : ℕ) (x : State) → IsAccepted (setUp s x)
     → Settable s x
-    × (setUp s x ≡ outcome (Accepted 0) (fresh s (length (x .image))) (replicate (usedEntries s (length (x .image))) 0 ++ drop (usedEntries s (length (x .image))) (x .table)))
-set-up-accepted s x e = go (setUpAnswer s x) refl
+    × (setUp s x ≡ outcome (Accepted 0) (fresh s (length (x .image))) (cleared s (length (x .image)) (x .table)))
+set-up-accepted s x e = go (setUpChecks s x) refl
   where
-    go : (a : Answer) → setUpAnswer s x ≡ a
+    go : (a : Answer) → setUpChecks s x ≡ a
         → Settable s x
-        × (setUp s x ≡ outcome (Accepted 0) (fresh s (length (x .image))) (replicate (usedEntries s (length (x .image))) 0 ++ drop (usedEntries s (length (x .image))) (x .table)))
+        × (setUp s x ≡ outcome (Accepted 0) (fresh s (length (x .image))) (cleared s (length (x .image)) (x .table)))
     go (Accepted v) q = (settable-parts s x v q, rows.set-up-done s x v q)
     go (Refused r) q = absurd (refused-some r (sym (ap (λ (o : Outcome). returned (o .answer)) (rows.set-up-declined s x r q)) ∙ e))
-
--- a refusal leaves the state as it was
-abbrev pub refuse : Refusal → State → Outcome
-refuse r x = record { answer = Refused r; after = x }
 
 -- bytes put at an address, where the test holds
 abbrev pub through : State → Bool → ℕ → List ℕ → Outcome
@@ -77,7 +73,7 @@ module _ (s : ℕ) (x : State) (o : opening x ≡ Accepted s) where
 
   -- move
   pub move-answer : (p : ℕ) (d : ℤ)
-      → move p d x ≡ record { answer = demand (goodTag s (unpack p)) BadTag (movedAnswer (moved (unpack p) (reach s (unpack p)) d)); after = x }
+      → move p d x ≡ record { answer = movedBy s (unpack p) d; after = x }
   move-answer p d = rows.move-leaves p d x ∙ ap (λ (a : Answer). record { answer = a; after = x }) (sym (rows.move-answer x s o p d))
 
   -- load, where the test of the bytes is known

@@ -2,7 +2,7 @@
 use Prim.Native.Nat.{ℕ, _+_, _-_, _^_, _≤_, _<_}
 use mathlib.Core.Path.{_≡_, refl}
 use mathlib.Core.Bool.{true, false, _&&_, _||_}
-use mathlib.Core.List.{List, _++_}
+use mathlib.Core.List.{List}
 use native.Mathlib.Omega.{arith}
 use lib.Dec.{leb, ltb}
 use lib.IntN.{ℤ}
@@ -19,8 +19,8 @@ use Rattle.block.specs.Walk.{firstFit, walkTo, countBlocks}
 use Rattle.block.specs.declared.walk.Fit.the-variants as fit
 use Rattle.block.specs.declared.walk.Met.the-variants as met
 use Rattle.block.specs.declared.walk.Counted.the-variants as counted
-use Rattle.store.specs.State.{State, outcome, demand}
-use Rattle.store.specs.Calls.{setUpAnswer, fresh, setUp, opening, entryFree, fitAnswer, allocateAnswer, carved, noted, allocate, located, accessed, movedAnswer, moveAnswer, move, goodWidth, loadAnswer, load, storeAnswer, store, fillAnswer, fill, copyAnswer, copy, mergeStart, mergeEnd, released, releaseFound, freeRelease, merged, freed, free, tally, tallyOpened, tallyCounted}
+use Rattle.store.specs.State.{State, outcome}
+use Rattle.store.specs.Calls.{setUpChecks, fresh, cleared, setUp, opening, entryFree, fitAnswer, allocateChecks, carved, noted, allocate, located, accessed, movedAnswer, movedBy, moveAnswer, move, goodWidth, loadAnswer, load, storeChecks, store, fillChecks, fill, copyChecks, copy, mergeStart, mergeEnd, released, freeChecks, releasedAt, freeRelease, merged, freed, free, tally, tallyOpened, tallyCounted}
 use Rattle.store.specs.declared.answer.Refusal.{Refusal}
 use Rattle.store.specs.declared.answer.Refusal.the-variants.{BadExponent, BadLength, TooFewEntries, Empty, Unsound, NoSpace, EntryTaken, BadTag, Leaves, BadWidth, NotBase, TooLarge}
 use Rattle.store.specs.declared.answer.Answer.the-variants.{Accepted, Refused}
@@ -31,33 +31,33 @@ use Rattle.store.specs.declared.counting.Usage.the-variants as usage
 
 module _ (s : ℕ) (x : State) where
   -- row 1
-  pub set-up-exponent : goodExponent s ≡ false → setUpAnswer s x ≡ Refused BadExponent
-  unfolding setUpAnswer
+  pub set-up-exponent : goodExponent s ≡ false → setUpChecks s x ≡ Refused BadExponent
+  unfolding setUpChecks
   set-up-exponent a = simp a
 
   -- row 2
-  pub set-up-length : goodExponent s ≡ true → goodLength (length (x .image)) ≡ false → setUpAnswer s x ≡ Refused BadLength
-  unfolding setUpAnswer
+  pub set-up-length : goodExponent s ≡ true → goodLength (length (x .image)) ≡ false → setUpChecks s x ≡ Refused BadLength
+  unfolding setUpChecks
   set-up-length a b = simp (a, b)
 
   -- row 3
-  pub set-up-few : goodExponent s ≡ true → goodLength (length (x .image)) ≡ true → length (x .table) < usedEntries s (length (x .image)) → setUpAnswer s x ≡ Refused TooFewEntries
-  unfolding setUpAnswer
+  pub set-up-few : goodExponent s ≡ true → goodLength (length (x .image)) ≡ true → length (x .table) < usedEntries s (length (x .image)) → setUpChecks s x ≡ Refused TooFewEntries
+  unfolding setUpChecks
   set-up-few a b l = simp (a, b, lt-leb _ _ l)
 
   -- all three are passed
-  pub set-up-passes : goodExponent s ≡ true → goodLength (length (x .image)) ≡ true → usedEntries s (length (x .image)) ≤ length (x .table) → setUpAnswer s x ≡ Accepted 0
-  unfolding setUpAnswer
+  pub set-up-passes : goodExponent s ≡ true → goodLength (length (x .image)) ≡ true → usedEntries s (length (x .image)) ≤ length (x .table) → setUpChecks s x ≡ Accepted 0
+  unfolding setUpChecks
   set-up-passes a b l = simp (a, b, le-leb _ _ l)
 
   -- a refusal leaves all as it was
-  pub set-up-declined : (r : Refusal) → setUpAnswer s x ≡ Refused r → setUp s x ≡ outcome (Refused r) (x .image) (x .table)
+  pub set-up-declined : (r : Refusal) → setUpChecks s x ≡ Refused r → setUp s x ≡ outcome (Refused r) (x .image) (x .table)
   unfolding setUp
   set-up-declined r e = rw e
 
   -- otherwise the image is fresh, and the used entries are zero
-  pub set-up-done : (v : ℕ) → setUpAnswer s x ≡ Accepted v
-      → setUp s x ≡ outcome (Accepted 0) (fresh s (length (x .image))) (replicate (usedEntries s (length (x .image))) 0 ++ drop (usedEntries s (length (x .image))) (x .table))
+  pub set-up-done : (v : ℕ) → setUpChecks s x ≡ Accepted v
+      → setUp s x ≡ outcome (Accepted 0) (fresh s (length (x .image))) (cleared s (length (x .image)) (x .table))
   unfolding setUp
   set-up-done v e = rw e
 
@@ -65,44 +65,44 @@ module _ (s : ℕ) (x : State) where
 
 module _ (size : ℕ) (x : State) where
   -- row 4 or 5
-  pub allocate-shut : (r : Refusal) → opening x ≡ Refused r → Refused r ≡ allocateAnswer size x
-  unfolding allocateAnswer
+  pub allocate-shut : (r : Refusal) → opening x ≡ Refused r → Refused r ≡ allocateChecks size x
+  unfolding allocateChecks
   allocate-shut r e = rw e
 
   module _ (s : ℕ) (o : opening x ≡ Accepted s) where
     -- row 6
-    pub allocate-empty : size ≡ 0 → Refused Empty ≡ allocateAnswer size x
-    unfolding allocateAnswer
+    pub allocate-empty : size ≡ 0 → Refused Empty ≡ allocateChecks size x
+    unfolding allocateChecks
     allocate-empty e = rw (o, le-ltb 0 size (omega arith))
 
     module _ (n : size ≡ 0 → ⊥) where
       -- row 7
-      pub allocate-unsound : (h : ℕ) → firstFit (x .image) (16 + size) ≡ fit.Unsound h → Refused Unsound ≡ allocateAnswer size x
-      unfolding allocateAnswer fitAnswer
+      pub allocate-unsound : (h : ℕ) → firstFit (x .image) (16 + size) ≡ fit.Unsound h → Refused Unsound ≡ allocateChecks size x
+      unfolding allocateChecks fitAnswer
       allocate-unsound h f = rw (o, lt-ltb 0 size (omega arith), f)
 
       -- row 8
-      pub allocate-full : firstFit (x .image) (16 + size) ≡ fit.End → Refused NoSpace ≡ allocateAnswer size x
-      unfolding allocateAnswer fitAnswer
+      pub allocate-full : firstFit (x .image) (16 + size) ≡ fit.End → Refused NoSpace ≡ allocateChecks size x
+      unfolding allocateChecks fitAnswer
       allocate-full f = rw (o, lt-ltb 0 size (omega arith), f)
 
       -- row 9
-      pub allocate-taken : (h : ℕ) → firstFit (x .image) (16 + size) ≡ fit.At h → entryFree s h size (x .table) ≡ false → Refused EntryTaken ≡ allocateAnswer size x
-      unfolding allocateAnswer fitAnswer
+      pub allocate-taken : (h : ℕ) → firstFit (x .image) (16 + size) ≡ fit.At h → entryFree s h size (x .table) ≡ false → Refused EntryTaken ≡ allocateChecks size x
+      unfolding allocateChecks fitAnswer
       allocate-taken h f t = rw (o, lt-ltb 0 size (omega arith), f, t)
 
       -- all are passed
-      pub allocate-given : (h : ℕ) → firstFit (x .image) (16 + size) ≡ fit.At h → entryFree s h size (x .table) ≡ true → Accepted h ≡ allocateAnswer size x
-      unfolding allocateAnswer fitAnswer
+      pub allocate-given : (h : ℕ) → firstFit (x .image) (16 + size) ≡ fit.At h → entryFree s h size (x .table) ≡ true → Accepted h ≡ allocateChecks size x
+      unfolding allocateChecks fitAnswer
       allocate-given h f t = rw (o, lt-ltb 0 size (omega arith), f, t)
 
   -- a refusal leaves all as it was
-  pub allocate-declined : (type : ℕ) (r : Refusal) → allocateAnswer size x ≡ Refused r → outcome (Refused r) (x .image) (x .table) ≡ allocate size type x
+  pub allocate-declined : (type : ℕ) (r : Refusal) → allocateChecks size x ≡ Refused r → outcome (Refused r) (x .image) (x .table) ≡ allocate size type x
   unfolding allocate
   allocate-declined type r e = rw e
 
   -- otherwise the block is carved and its entry noted
-  pub allocate-done : (type h s word : ℕ) (p : Pointer) (image table : List ℕ) → allocateAnswer size x ≡ Accepted h → s ≡ slotExponent (x .image)
+  pub allocate-done : (type h s word : ℕ) (p : Pointer) (image table : List ℕ) → allocateChecks size x ≡ Accepted h → s ≡ slotExponent (x .image)
       → image ≡ carved (x .image) h size type → p ≡ pointerTo s h size → table ≡ noted s h size h (x .table) → word ≡ pack p
       → outcome (Accepted word) image table ≡ allocate size type x
   unfolding allocate
@@ -119,18 +119,18 @@ module _ (x : State) (r : Refusal) (e : opening x ≡ Refused r) where
   load-shut word width = rw e
 
   -- store
-  pub store-shut : (word width v : ℕ) → Refused r ≡ storeAnswer word width v x
-  unfolding storeAnswer
+  pub store-shut : (word width v : ℕ) → Refused r ≡ storeChecks word width v x
+  unfolding storeChecks
   store-shut word width v = rw e
 
   -- fill
-  pub fill-shut : (word n : ℕ) → Refused r ≡ fillAnswer word n x
-  unfolding fillAnswer
+  pub fill-shut : (word n : ℕ) → Refused r ≡ fillChecks word n x
+  unfolding fillChecks
   fill-shut word n = rw e
 
   -- copy
-  pub copy-shut : (target source n : ℕ) → Refused r ≡ copyAnswer target source n x
-  unfolding copyAnswer
+  pub copy-shut : (target source n : ℕ) → Refused r ≡ copyChecks target source n x
+  unfolding copyChecks
   copy-shut target source n = rw e
 
   -- move
@@ -165,50 +165,50 @@ module _ (x : State) (s : ℕ) (e : opening x ≡ Accepted s) where
 
   module _ (word width v : ℕ) where
     -- store: row 14
-    pub store-width : goodWidth width ≡ false → Refused BadWidth ≡ storeAnswer word width v x
-    unfolding storeAnswer
+    pub store-width : goodWidth width ≡ false → Refused BadWidth ≡ storeChecks word width v x
+    unfolding storeChecks
     store-width w = rw (e, w)
 
     -- row 16
-    pub store-large : goodWidth width ≡ true → ltb v (256 ^ width) ≡ false → Refused TooLarge ≡ storeAnswer word width v x
-    unfolding storeAnswer
+    pub store-large : goodWidth width ≡ true → ltb v (256 ^ width) ≡ false → Refused TooLarge ≡ storeChecks word width v x
+    unfolding storeChecks
     store-large w l = rw (e, w, l)
 
     -- then rows 10, 11 and 13
-    pub store-access : goodWidth width ≡ true → ltb v (256 ^ width) ≡ true → accessed s (unpack word) width x ≡ storeAnswer word width v x
-    unfolding storeAnswer
+    pub store-access : goodWidth width ≡ true → ltb v (256 ^ width) ≡ true → accessed s (unpack word) width x ≡ storeChecks word width v x
+    unfolding storeChecks
     store-access w l = rw (e, w, l)
 
   module _ (word n : ℕ) where
     -- fill: row 6
-    pub fill-empty : n ≡ 0 → Refused Empty ≡ fillAnswer word n x
-    unfolding fillAnswer
+    pub fill-empty : n ≡ 0 → Refused Empty ≡ fillChecks word n x
+    unfolding fillChecks
     fill-empty z = rw (e, z)
 
     -- then rows 10, 11 and 13
-    pub fill-access : 0 < n → accessed s (unpack word) n x ≡ fillAnswer word n x
-    unfolding fillAnswer
+    pub fill-access : 0 < n → accessed s (unpack word) n x ≡ fillChecks word n x
+    unfolding fillChecks
     fill-access l = rw (e, lt-ltb 0 n l)
 
   module _ (target source n : ℕ) where
     -- copy: row 6
-    pub copy-empty : n ≡ 0 → Refused Empty ≡ copyAnswer target source n x
-    unfolding copyAnswer
+    pub copy-empty : n ≡ 0 → Refused Empty ≡ copyChecks target source n x
+    unfolding copyChecks
     copy-empty z = rw (e, z)
 
     module _ (l : 0 < n) where
       -- the target's rows 10, 11 and 13
-      pub copy-refused : (r : Refusal) → accessed s (unpack target) n x ≡ Refused r → Refused r ≡ copyAnswer target source n x
-      unfolding copyAnswer
+      pub copy-refused : (r : Refusal) → accessed s (unpack target) n x ≡ Refused r → Refused r ≡ copyChecks target source n x
+      unfolding copyChecks
       copy-refused r a = rw (e, lt-ltb 0 n l, a)
 
       -- then the source's
-      pub copy-access : (at : ℕ) → accessed s (unpack target) n x ≡ Accepted at → accessed s (unpack source) n x ≡ copyAnswer target source n x
-      unfolding copyAnswer
+      pub copy-access : (at : ℕ) → accessed s (unpack target) n x ≡ Accepted at → accessed s (unpack source) n x ≡ copyChecks target source n x
+      unfolding copyChecks
       copy-access at a = rw (e, lt-ltb 0 n l, a)
 
   -- move: row 10, then 12
-  pub move-answer : (word : ℕ) (d : ℤ) → demand (goodTag s (unpack word)) BadTag (movedAnswer (moved (unpack word) (reach s (unpack word)) d)) ≡ moveAnswer word d x
+  pub move-answer : (word : ℕ) (d : ℤ) → movedBy s (unpack word) d ≡ moveAnswer word d x
   unfolding moveAnswer
   move-answer word d = rw e
 
@@ -233,35 +233,35 @@ unfolding move
 move-leaves word d x = refl
 
 -- a refused store leaves all as it was
-pub store-declined : (word width v : ℕ) (x : State) (r : Refusal) → storeAnswer word width v x ≡ Refused r → outcome (Refused r) (x .image) (x .table) ≡ store word width v x
+pub store-declined : (word width v : ℕ) (x : State) (r : Refusal) → storeChecks word width v x ≡ Refused r → outcome (Refused r) (x .image) (x .table) ≡ store word width v x
 unfolding store
 store-declined word width v x r e = rw e
 
 -- an accepted one puts the value into the image
-pub store-done : (word width v : ℕ) (x : State) (at : ℕ) → storeAnswer word width v x ≡ Accepted at
+pub store-done : (word width v : ℕ) (x : State) (at : ℕ) → storeChecks word width v x ≡ Accepted at
     → outcome (Accepted 0) (put (x .image) at (encode width v)) (x .table) ≡ store word width v x
 unfolding store
 store-done word width v x at e = rw e
 
 -- a refused fill leaves all as it was
-pub fill-declined : (word n byte : ℕ) (x : State) (r : Refusal) → fillAnswer word n x ≡ Refused r → outcome (Refused r) (x .image) (x .table) ≡ fill word n byte x
+pub fill-declined : (word n byte : ℕ) (x : State) (r : Refusal) → fillChecks word n x ≡ Refused r → outcome (Refused r) (x .image) (x .table) ≡ fill word n byte x
 unfolding fill
 fill-declined word n byte x r e = rw e
 
 -- an accepted one puts the byte n times into the image
-pub fill-done : (word n byte : ℕ) (x : State) (at : ℕ) → fillAnswer word n x ≡ Accepted at
+pub fill-done : (word n byte : ℕ) (x : State) (at : ℕ) → fillChecks word n x ≡ Accepted at
     → outcome (Accepted 0) (put (x .image) at (replicate n byte)) (x .table) ≡ fill word n byte x
 unfolding fill
 fill-done word n byte x at e = rw e
 
 -- a refused copy leaves all as it was
-pub copy-declined : (target source n : ℕ) (x : State) (r : Refusal) → copyAnswer target source n x ≡ Refused r
+pub copy-declined : (target source n : ℕ) (x : State) (r : Refusal) → copyChecks target source n x ≡ Refused r
     → outcome (Refused r) (x .image) (x .table) ≡ copy target source n x
 unfolding copy
 copy-declined target source n x r e = rw e
 
 -- an accepted one puts the source's bytes at the target
-pub copy-done : (target source n : ℕ) (x : State) (at : ℕ) → copyAnswer target source n x ≡ Accepted at
+pub copy-done : (target source n : ℕ) (x : State) (at : ℕ) → copyChecks target source n x ≡ Accepted at
     → outcome (Accepted 0) (put (x .image) (unpack target .address) (take n (drop at (x .image)))) (x .table) ≡ copy target source n x
 unfolding copy
 copy-done target source n x at e = rw e
@@ -270,16 +270,16 @@ copy-done target source n x at e = rw e
 
 module _ (s : ℕ) (p : Pointer) (d : ℤ) where
   -- row 10
-  pub moved-bad : goodTag s p ≡ false → Refused BadTag ≡ demand (goodTag s p) BadTag (movedAnswer (moved p (reach s p) d))
+  pub moved-bad : goodTag s p ≡ false → Refused BadTag ≡ movedBy s p d
   moved-bad g = rw g
 
   -- row 12
-  pub moved-out : goodTag s p ≡ true → moved p (reach s p) d ≡ Outside → Refused Leaves ≡ demand (goodTag s p) BadTag (movedAnswer (moved p (reach s p) d))
+  pub moved-out : goodTag s p ≡ true → moved p (reach s p) d ≡ Outside → Refused Leaves ≡ movedBy s p d
   unfolding movedAnswer
   moved-out g e = rw (g, e)
 
   -- both are passed
-  pub moved-in : (q : Pointer) → goodTag s p ≡ true → moved p (reach s p) d ≡ To q → Accepted (pack q) ≡ demand (goodTag s p) BadTag (movedAnswer (moved p (reach s p) d))
+  pub moved-in : (q : Pointer) → goodTag s p ≡ true → moved p (reach s p) d ≡ To q → Accepted (pack q) ≡ movedBy s p d
   unfolding movedAnswer
   moved-in q g e = rw (g, e)
 
@@ -341,24 +341,24 @@ module _ (image : List ℕ) (h : ℕ) where
 module _ (word : ℕ) (x : State) where
   -- row 4 or 5
   pub free-shut : (r : Refusal) → opening x ≡ Refused r → release.Refused r ≡ freeRelease word x
-  unfolding freeRelease releaseFound
+  unfolding freeRelease releasedAt freeChecks
   free-shut r e = rw e
 
   module _ (s : ℕ) (o : opening x ≡ Accepted s) where
     -- row 10 or 11
     pub free-refused : (r : Refusal) → located s (unpack word) x ≡ Refused r → release.Refused r ≡ freeRelease word x
-    unfolding freeRelease releaseFound
+    unfolding freeRelease releasedAt freeChecks
     free-refused r e = rw (o, e)
 
     module _ (h : ℕ) (l : located s (unpack word) x ≡ Accepted h) where
       -- row 15
       pub free-off-base : (unpack word .address ≡ h + 16 → ⊥) → release.Refused NotBase ≡ freeRelease word x
-      unfolding freeRelease releaseFound
+      unfolding freeRelease releasedAt freeChecks
       free-off-base n = rw (o, l, ne-eqb (unpack word .address) (h + 16) n)
 
       -- then row 7
       pub free-at-base : unpack word .address ≡ h + 16 → released (x .image) h (walkTo (x .image) h) ≡ freeRelease word x
-      unfolding freeRelease releaseFound
+      unfolding freeRelease releasedAt freeChecks
       free-at-base e = rw (o, l, eq-eqb (unpack word .address) (h + 16) e)
 
   -- a refusal leaves all as it was

@@ -44,16 +44,17 @@ abbrev pub usageNumber : Usage → ℕ
 usageNumber (usage.Counts objects live free) = 0
 usageNumber (usage.Refused r) = refusalNumber r
 
--- the values that it gives, all 0 where it is refused: live objects, live bytes, free bytes
-
+-- the live objects that it gives: 0 where it is refused
 abbrev pub liveObjects : Usage → ℕ
 liveObjects (usage.Counts objects live free) = objects
 liveObjects (usage.Refused r) = 0
 
+-- the live bytes that it gives: 0 where it is refused
 abbrev pub liveBytes : Usage → ℕ
 liveBytes (usage.Counts objects live free) = live
 liveBytes (usage.Refused r) = 0
 
+-- the free bytes that it gives: 0 where it is refused
 abbrev pub freeBytes : Usage → ℕ
 freeBytes (usage.Counts objects live free) = free
 freeBytes (usage.Refused r) = 0
@@ -63,6 +64,7 @@ pub record State : Type 0 where
   pub image : List ℕ
   pub table : List ℕ
 
+-- an image and a table, as a state
 abbrev pub state : List ℕ → List ℕ → State
 state image table = record { image = image; table = table }
 
@@ -71,9 +73,11 @@ pub record Outcome : Type 0 where
   pub answer : Answer
   pub after : State
 
+-- an answer, with what is left
 abbrev pub outcome : Answer → List ℕ → List ℕ → Outcome
 outcome a image table = record { answer = a; after = state image table }
 
+-- the call is accepted
 abbrev pub IsAccepted : Outcome → Type 0
 IsAccepted r = returned (r .answer) ≡ 0
 
@@ -86,7 +90,11 @@ abbrev pub andThen : Answer → (ℕ → Answer) → Answer
 andThen (Accepted v) next = next v
 andThen (Refused r) next = Refused r
 
--- a refusal leaves the state as it was; otherwise the call goes on with the number that its tests found
+-- a refusal leaves the state as it was
+abbrev pub refuse : Refusal → State → Outcome
+refuse r x = record { answer = Refused r; after = x }
+
+-- refused, or the call goes on with the number that its tests found
 abbrev pub conclude : State → Answer → (ℕ → Outcome) → Outcome
 conclude x (Accepted v) next = next v
-conclude x (Refused r) next = record { answer = Refused r; after = x }
+conclude x (Refused r) next = refuse r x

@@ -6,7 +6,7 @@ ghost use lib.Dec.{ltb};
 ghost use lib.ListN.{length};
 ghost use Rattle.block.specs.Bytes.{encode, field, put};
 ghost use Rattle.store.specs.State.{state, outcome};
-ghost use Rattle.store.specs.Calls.{goodWidth, loadAnswer, storeAnswer, fillAnswer, store, fill};
+ghost use Rattle.store.specs.Calls.{goodWidth, loadAnswer, storeChecks, fillChecks, store, fill};
 use crate::answer::Answer;
 use crate::answer::Refusal;
 use crate::locate::access;
@@ -20,6 +20,7 @@ use block::bytes::write2;
 use block::bytes::write4;
 use block::bytes::write8;
 
+// The widths that a load or store may have.
 fn good_width(width: u64) -> bool
     ensures { λ r. ⌜ r ≡ goodWidth width ⌝ }
 {
@@ -105,7 +106,7 @@ pub fn load(image: &[u8], table: &[u64], pointer: u64, width: u64) -> Answer
 
 // The rows of store; the number is the address.
 fn storable(image: &[u8], table: &[u64], pointer: u64, width: u64, value: u64) -> Answer
-    ensures { λ r. ⌜ r ≡ storeAnswer pointer width value (state (now (image .entry)) (now (table .entry))) ⌝ }
+    ensures { λ r. ⌜ r ≡ storeChecks pointer width value (state (now (image .entry)) (now (table .entry))) ⌝ }
 {
     match opening(image, table) {
         Answer::Refused(r) => Answer::Refused(r),
@@ -136,7 +137,7 @@ pub fn store(image: &mut [u8], table: &[u64], pointer: u64, width: u64, value: u
 
 // The rows of fill; the number is the address.
 fn fillable(image: &[u8], table: &[u64], pointer: u64, length: u32) -> Answer
-    ensures { λ r. ⌜ r ≡ fillAnswer pointer length (state (now (image .entry)) (now (table .entry))) ⌝ }
+    ensures { λ r. ⌜ r ≡ fillChecks pointer length (state (now (image .entry)) (now (table .entry))) ⌝ }
 {
     match opening(image, table) {
         Answer::Refused(r) => Answer::Refused(r),

@@ -6,7 +6,7 @@ ghost use lib.ListN.{length};
 ghost use Rattle.frame.specs.Tags.{entryOf, pointerTo, wrapper};
 ghost use Rattle.block.specs.Layout.{sound, extentAt};
 ghost use Rattle.store.specs.State.{state, outcome};
-ghost use Rattle.store.specs.Calls.{entryFree, allocateAnswer, carved, noted, allocate};
+ghost use Rattle.store.specs.Calls.{entryFree, allocateChecks, carved, noted, allocate};
 use crate::answer::Answer;
 use crate::answer::Refusal;
 use crate::locate::opening;
@@ -33,7 +33,7 @@ fn entry_free(table: &[u64], s: u32, h: u64, size: u64) -> bool
 
 // The rows of allocate; the number is the place of the block that is taken.
 fn allocatable(image: &[u8], table: &[u64], size: u32) -> Answer
-    ensures { λ r. ⌜ r ≡ allocateAnswer size (state (now (image .entry)) (now (table .entry))) ⌝ }
+    ensures { λ r. ⌜ r ≡ allocateChecks size (state (now (image .entry)) (now (table .entry))) ⌝ }
 {
     match opening(image, table) {
         Answer::Refused(r) => Answer::Refused(r),

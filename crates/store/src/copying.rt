@@ -1,7 +1,7 @@
 // Copy: bytes from one object to another, or inside one.
 ghost use mathlib.Core.Path.{_≡_};
 ghost use Rattle.store.specs.State.{state, outcome};
-ghost use Rattle.store.specs.Calls.{copyAnswer, copy};
+ghost use Rattle.store.specs.Calls.{copyChecks, copy};
 use crate::answer::Answer;
 use crate::answer::Refusal;
 use crate::locate::access;
@@ -11,7 +11,7 @@ use frame::Pointer;
 
 // The rows of copy; the number is the source's address.
 fn copyable(image: &[u8], table: &[u64], target: u64, source: u64, length: u32) -> Answer
-    ensures { λ r. ⌜ r ≡ copyAnswer target source length (state (now (image .entry)) (now (table .entry))) ⌝ }
+    ensures { λ r. ⌜ r ≡ copyChecks target source length (state (now (image .entry)) (now (table .entry))) ⌝ }
 {
     match opening(image, table) {
         Answer::Refused(r) => Answer::Refused(r),

@@ -1,9 +1,9 @@
 // Move: document 01's name is a keyword here.
 ghost use mathlib.Core.Path.{_≡_};
 ghost use Prim.Native.Nat.{_<_};
-ghost use Rattle.frame.specs.Pointers.{unpack, goodTag, reach, moved};
-ghost use Rattle.store.specs.State.{state, demand};
-ghost use Rattle.store.specs.Calls.{movedAnswer, moveAnswer};
+ghost use Rattle.frame.specs.Pointers.{unpack};
+ghost use Rattle.store.specs.State.{state};
+ghost use Rattle.store.specs.Calls.{movedBy, moveAnswer};
 use crate::answer::Answer;
 use crate::answer::Refusal;
 use crate::locate::opening;
@@ -14,7 +14,7 @@ use frame::Reach;
 // The pointer moved in its slot or frame, for the slot exponent s: rows 10 and 12.
 fn offset_in(s: u32, pointer: u64, distance: i64) -> Answer
     requires { ⌜ s < 16 ⌝ }
-    ensures { λ r. ⌜ r ≡ demand (goodTag s (unpack pointer)) Refusal.BadTag (movedAnswer (moved (unpack pointer) (reach s (unpack pointer)) distance)) ⌝ }
+    ensures { λ r. ⌜ r ≡ movedBy s (unpack pointer) distance ⌝ }
 {
     let p = Pointer::unpack(pointer);
     match p.reach(s) {

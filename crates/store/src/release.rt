@@ -1,7 +1,7 @@
 // Free: the block joins the free blocks directly before and after it.
 ghost use mathlib.Core.Path.{_≡_};
 ghost use mathlib.Core.Bool.{true};
-ghost use Prim.Native.Nat.{_+_, _≤_, _^_};
+ghost use Prim.Native.Nat.{_+_, _≤_};
 ghost use lib.ListN.{length};
 ghost use Rattle.block.specs.Layout.{sound};
 ghost use Rattle.block.specs.Walk.{walkTo};

@@ -4,7 +4,7 @@ ghost use mathlib.Core.List.{_++_};
 ghost use Prim.Native.Nat.{_<_, _≤_, _^_};
 ghost use lib.ListN.{length, drop, replicate};
 ghost use Rattle.store.specs.State.{state, outcome};
-ghost use Rattle.store.specs.Calls.{setUpAnswer, fresh, setUp};
+ghost use Rattle.store.specs.Calls.{setUpChecks, fresh, setUp};
 use crate::answer::Answer;
 use crate::answer::Refusal;
 use block::bytes::fill;
@@ -14,7 +14,7 @@ use frame::used_entries;
 
 // Rows 1, 2 and 3.
 fn settable(image: &[u8], table: &[u64], s: u32) -> Answer
-    ensures { λ r. ⌜ r ≡ setUpAnswer s (state (now (image .entry)) (now (table .entry))) ⌝ }
+    ensures { λ r. ⌜ r ≡ setUpChecks s (state (now (image .entry)) (now (table .entry))) ⌝ }
 {
     if s < 6 {
         return Answer::Refused(Refusal::BadExponent);

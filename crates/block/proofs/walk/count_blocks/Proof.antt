@@ -6,15 +6,15 @@ use native.Mathlib.Omega.{arith}
 use lib.ListN.{length}
 use borrow.Author.Needs.{needs}
 use Rattle.block.specs.Layout.{examined}
-use Rattle.block.specs.Walk.{walkFrom, walk, Usage, counting, countOf, countBlocks}
+use Rattle.block.specs.Walk.{walkFrom, walk, Gathered, counting, countOf, countBlocks}
 use Rattle.block.specs.WalkLaws.{walk-ended}
 use Rattle.block.specs.declared.header.Examined.the-variants as examining
-use Rattle.block.proofs.Turns.{usage, turn-unsound, turn-end, turn-extent, turn-live, count-live, count-other}
+use Rattle.block.proofs.Turns.{gathered, turn-unsound, turn-end, turn-extent, turn-live, count-live, count-other}
 use Rattle.block.proofs.walk.count_blocks.Statement.{statement}
 use Rattle.block.proofs.walk.count_blocks.Tie as tie
 
 abbrev Inv-loop : tie.InvT-loop
-Inv-loop image len objects₀ bytes₀ h₀ objects bytes h = (walkFrom counting image (usage objects bytes) h ≡ walk counting image (usage 0 0)) × (16 + 16 * objects + bytes ≤ h)
+Inv-loop image len objects₀ bytes₀ h₀ objects bytes h = (walkFrom counting image (gathered objects bytes) h ≡ walk counting image (gathered 0 0)) × (16 + 16 * objects + bytes ≤ h)
 
 abbrev μ-loop : tie.MeasureT-loop
 μ-loop image len objects₀ bytes₀ h₀ objects bytes h = length image - h
@@ -56,11 +56,11 @@ loop-again c =
     let e = seen (c .before .before .before .before) in
     ⊎-elim
     (λ w. (
-      ap (λ (x : Usage). walkFrom counting image x (l .h + d .extent)) (λ i. record { objects = w .2 i; bytes = w .3 i }) ∙ sym (count-live image (l .h) d e (l .objects) (l .bytes) (w .0 .taken)) ∙ l .inv .0,
+      ap (λ (x : Gathered). walkFrom counting image x (l .h + d .extent)) (λ i. record { objects = w .2 i; bytes = w .3 i }) ∙ sym (count-live image (l .h) d e (l .objects) (l .bytes) (w .0 .taken)) ∙ l .inv .0,
       omega (arith, turn-live image (l .h) d e (w .0 .taken), w .2, w .3),
     ))
     (λ w. (
-      ap (λ (x : Usage). walkFrom counting image x (l .h + d .extent)) (λ i. record { objects = w .1 i; bytes = w .2 i }) ∙ sym (count-other image (l .h) d e (l .objects) (l .bytes) (w .0 .left)) ∙ l .inv .0,
+      ap (λ (x : Gathered). walkFrom counting image x (l .h + d .extent)) (λ i. record { objects = w .1 i; bytes = w .2 i }) ∙ sym (count-other image (l .h) d e (l .objects) (l .bytes) (w .0 .left)) ∙ l .inv .0,
       omega (arith, w .1, w .2),
     ))
     (c .before .if2 .came)
@@ -69,13 +69,13 @@ returns : tie.Need-returns Inv-loop μ-loop
 unfolding countBlocks countOf
 returns c =
     let l = c .before .loop in
-    ap countOf (sym (walk-ended counting _ (usage (l .objects) (l .bytes)) (l .h) (c .if1 .taken)) ∙ l .inv .0)
+    ap countOf (sym (walk-ended counting _ (gathered (l .objects) (l .bytes)) (l .h) (c .if1 .taken)) ∙ l .inv .0)
 
 returns-2 : tie.Need-returns-2 Inv-loop μ-loop
 unfolding countBlocks countOf
 returns-2 c =
     let l = c .before .before .before .before .loop in
-    ap countOf (sym (turn-unsound counting _ (usage (l .objects) (l .bytes)) (l .h) (c .before .before .before .if1 .left) (sym (c .before .before .examine .ensures) ∙ c .enum-told .given .1)) ∙ l .inv .0)
+    ap countOf (sym (turn-unsound counting _ (gathered (l .objects) (l .bytes)) (l .h) (c .before .before .before .if1 .left) (sym (c .before .before .examine .ensures) ∙ c .enum-told .given .1)) ∙ l .inv .0)
 
 pub count-blocks-spec : {M : Type 1} → statement M
 count-blocks-spec =

@@ -1,10 +1,8 @@
 -- `store::load` meets its contract. Assumes nothing.
-use Prim.Native.Nat.{_<_}
 use mathlib.Core.Path.{sym, ap, _∙_}
 use native.Mathlib.Omega.{arith}
 use borrow.Author.Tests.{not-true, not-false}
 use Rattle.store.specs.State.{state}
-use Rattle.block.specs.Bytes.{field}
 use Rattle.store.specs.CallLaws.{opening-parts, accessed-parts}
 use Rattle.store.specs.declared.answer.Answer.the-variants.{Accepted}
 use Rattle.store.specs.Rows.{load-shut, load-width, load-refused, load-given}

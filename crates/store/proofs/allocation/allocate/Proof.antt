@@ -4,7 +4,7 @@ use native.Mathlib.Omega.{arith}
 use Rattle.frame.specs.TagLaws.{pointer-range}
 use Rattle.block.specs.Layout.{slotExponent}
 use Rattle.store.specs.State.{state}
-use Rattle.store.specs.Calls.{allocateAnswer}
+use Rattle.store.specs.Calls.{allocateChecks}
 use Rattle.store.specs.CallLaws.{Allocates, allocate-parts}
 use Rattle.store.specs.declared.answer.Answer.the-variants.{Accepted}
 use Rattle.store.specs.Rows.{allocate-declined, allocate-done}
@@ -23,7 +23,7 @@ enum-known-h : tie.Need-enum-known-h
 enum-known-h c = search needs
 
 -- the rows are passed
-accepted : (c : tie.After-known-told2) → let a = c .before .before .before .before .before .before .before .before .args in allocateAnswer (a .size) (state (a .image .now) (a .table .now)) ≡ Accepted (c .before .h .given .0 .0)
+accepted : (c : tie.After-known-told2) → let a = c .before .before .before .before .before .before .before .before .args in allocateChecks (a .size) (state (a .image .now) (a .table .now)) ≡ Accepted (c .before .h .given .0 .0)
 accepted c = sym (c .before .before .before .allocatable .ensures) ∙ c .before .h .given .1
 
 allocates : (c : tie.After-known-told2) → let a = c .before .before .before .before .before .before .before .before .args in Allocates (a .size) (state (a .image .now) (a .table .now)) (c .before .h .given .0 .0)

@@ -1,10 +1,8 @@
 -- `store::header_place` meets its contract. Assumes nothing.
 use Prim.Native.Nat.{_^_}
-use mathlib.Core.Path.{_≡_, sym, ap, _∙_}
+use mathlib.Core.Path.{_∙_}
 use native.Mathlib.Nat.{div-mul-le-self}
 use native.Mathlib.Omega.{arith}
-use lib.ListN.{getD}
-use Rattle.frame.specs.Tags.{entryAt}
 use Rattle.frame.specs.PointerLaws.{good-large, reach-large}
 use Rattle.store.proofs.Locating.{place-small, place-large}
 use borrow.Author.Needs.{needs}

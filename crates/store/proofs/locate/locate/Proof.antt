@@ -1,10 +1,7 @@
 -- `store::locate` meets its contract. Assumes nothing.
-use Prim.Native.Nat.{_≤_, _<_, _^_}
-use mathlib.Core.Path.{_≡_, sym, ap, _∙_}
+use mathlib.Core.Path.{sym, ap, _∙_}
 use native.Mathlib.Nat.{lt-of-lt-of-le}
 use native.Mathlib.Omega.{arith}
-use lib.ListN.{length}
-use Rattle.frame.specs.Frame.{frameStart}
 use Rattle.frame.specs.Pointers.{reach}
 use Rattle.frame.specs.PointerLaws.{reach-within, reach-bad}
 use Rattle.frame.specs.TagLaws.{entry-used}

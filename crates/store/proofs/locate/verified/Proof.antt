@@ -1,13 +1,11 @@
 -- `store::verified` meets its contract. Assumes nothing.
-use Prim.Native.Nat.{_≤_, _<_}
 use mathlib.Core.Path.{_≡_, sym, ap, _∙_}
-use mathlib.Core.Bool.{true, false}
 use borrow.Author.Tests.{not-true, not-false, eq-eqb}
 use native.Mathlib.Omega.{arith}
 use Rattle.frame.specs.Frame.{sameFrame}
 use Rattle.frame.specs.Tags.{tagMatches}
 use Rattle.frame.specs.PointerLaws.{reach-bound}
-use Rattle.block.specs.Layout.{headerAt, sound, kindAt, sizeAt}
+use Rattle.block.specs.Layout.{kindAt}
 use Rattle.block.specs.LayoutLaws.{sound-low, sound-end, sound-live, examined-is-sound, examined-is-unsound}
 use Rattle.block.specs.declared.header.Header.{Header}
 use Rattle.store.proofs.Locating.{not-sound, not-live, no-match, match}

@@ -2,7 +2,7 @@
 use mathlib.Core.Path.{_≡_, sym, _∙_}
 use native.Mathlib.Omega.{arith}
 use Rattle.store.specs.State.{state}
-use Rattle.store.specs.Calls.{setUpAnswer}
+use Rattle.store.specs.Calls.{setUpChecks}
 use Rattle.store.specs.declared.answer.Answer.the-variants.{Accepted}
 use Rattle.store.specs.CallLaws.{Settable, settable-parts}
 use Rattle.store.specs.Rows.{set-up-declined, set-up-done}
@@ -20,7 +20,7 @@ enum-told : tie.Need-enum-told
 enum-told c = search needs
 
 -- the three tests passed
-accepted : (c : tie.After-enum-told) → let a = c .before .before .before .before .before .before .before .args in setUpAnswer (a .s) (state (a .image .now) (a .table .now)) ≡ Accepted (c .enum-told .given .0 .0)
+accepted : (c : tie.After-enum-told) → let a = c .before .before .before .before .before .before .before .args in setUpChecks (a .s) (state (a .image .now) (a .table .now)) ≡ Accepted (c .enum-told .given .0 .0)
 accepted c = sym (c .before .before .settable .ensures) ∙ c .enum-told .given .1
 
 settled : (c : tie.After-enum-told) → let a = c .before .before .before .before .before .before .before .args in Settable (a .s) (state (a .image .now) (a .table .now))

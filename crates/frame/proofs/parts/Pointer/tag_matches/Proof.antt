@@ -1,11 +1,11 @@
 -- `frame::Pointer::tag_matches` meets its contract. Assumes nothing.
-use Prim.Native.Nat.{_-_, _^_, _≤_, _<_}
-use mathlib.Core.Path.{_≡_, sym, ap, _∙_}
-use mathlib.Core.Bool.{not, true, false}
+use Prim.Native.Nat.{_^_}
+use mathlib.Core.Path.{_≡_, sym, _∙_}
+use mathlib.Core.Bool.{true, false}
 use borrow.Author.Tests.{not-true, not-false}
 use native.Mathlib.Nat.{div-mul-le-self}
 use native.Mathlib.Omega.{arith}
-use Rattle.frame.specs.Frame.{frameStart, sameFrame}
+use Rattle.frame.specs.Frame.{sameFrame}
 use Rattle.frame.specs.PointerLaws.{good-large}
 use Rattle.frame.specs.Tags.{firstHeld, lastHeld}
 use Rattle.frame.proofs.Tests.{not-small, small, not-within, within}

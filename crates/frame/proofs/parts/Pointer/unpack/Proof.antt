@@ -1,6 +1,5 @@
 -- `frame::Pointer::unpack` meets its contract: a mask of low bits is a remainder. Assumes nothing.
 use Prim.Native.Nat.{_/_, _^_}
-use mathlib.Core.Path.{refl}
 use lib.Bits.{and-mask}
 use lib.Dec.{eqb}
 use Rattle.frame.specs.Pointers.{unpack}
