@@ -1,35 +1,13 @@
--- Stores one by one, and the turns of the loops that fill and copy runs of bytes. Assumes nothing.
-use mathlib.Core.Path.{_≡_, refl, sym, ap, _∙_}
-use mathlib.Core.List.{List, [], _∷_}
+-- The turns of the loops that fill and copy runs of bytes. Assumes nothing.
+use mathlib.Core.Path.{_≡_, sym, ap, _∙_}
+use mathlib.Core.List.{List, _∷_}
 use Prim.Native.Nat.{ℕ, suc, _+_, _-_, _≤_, _<_}
 use native.Mathlib.Numerals.{add-one}
 use native.Mathlib.Omega.{arith}
 use lib.ListN.{length, getD, set, take, drop, replicate, length-replicate, length-take, length-drop}
-use lib.Seq.{sets, take-suc, drop-cons, getD-drop}
+use lib.Seq.{take-suc, drop-cons, getD-drop}
 use Rattle.block.specs.Bytes.{put}
-use Rattle.block.specs.BytesLaws.{put-sets, put-cons, put-nil, set-put-front, set-put-end, getD-put-below, getD-put-above}
-
--- bytes stored one by one, as code does: at `at`, at + 1, and so on; i are stored already
-abbrev pub storesOn : List ℕ → ℕ → ℕ → List ℕ → List ℕ
-storesOn image at i [] = image
-storesOn image at i (b ∷ bs) = storesOn (set image (at + i) b) at (suc i) bs
-
--- the same from the first byte on, which is stored at `at` itself
-abbrev pub stores : List ℕ → ℕ → List ℕ → List ℕ
-stores image at [] = image
-stores image at (b ∷ bs) = storesOn (set image at b) at 1 bs
-
-storesOn-sets : (bs image : List ℕ) (at i n : ℕ) → at + i ≡ n → storesOn image at i bs ≡ sets image n bs
-storesOn-sets [] image at i n e = refl
-storesOn-sets (b ∷ bs) image at i n e = rw e (storesOn-sets bs (set image n b) at (suc i) (suc n) (omega arith))
-
-stores-sets : (bs image : List ℕ) (at : ℕ) → stores image at bs ≡ sets image at bs
-stores-sets [] image at = refl
-stores-sets (b ∷ bs) image at = storesOn-sets bs (set image at b) at 1 (suc at) (omega arith)
-
--- a run is what its bytes stored one by one leave
-pub put-stores : (image : List ℕ) (at : ℕ) (bs : List ℕ) → at + length bs ≤ length image → put image at bs ≡ stores image at bs
-put-stores image at bs fits = put-sets image at bs fits ∙ sym (stores-sets bs image at)
+use Rattle.block.specs.BytesLaws.{put-cons, put-nil, set-put-front, set-put-end, getD-put-below, getD-put-above}
 
 -- filling: what is left to fill, after one byte more
 pub fill-turn : (l : List ℕ) (at n i b : ℕ) → i < n → at + n ≤ length l → put (set l (at + i) b) (at + (i + 1)) (replicate (n - (i + 1)) b) ≡ put l (at + i) (replicate (n - i) b)

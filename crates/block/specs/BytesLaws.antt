@@ -2,9 +2,8 @@
 use mathlib.Core.Path.{_≡_, refl, sym, ap, _∙_}
 use mathlib.Core.List.{List, [], _∷_, _++_, append-assoc}
 use mathlib.Core.Logic.{_⊎_, ⊎-elim}
-use Prim.Native.Nat.{ℕ, zero, suc, _+_, _-_, _*_, _/_, _^_, _≤_, _<_}
-use native.Mathlib.Nat.{pow-suc, add-suc, add-zero}
-use native.Mathlib.Numerals.{add-one}
+use Prim.Native.Nat.{_%_, ℕ, zero, suc, _+_, _-_, _*_, _/_, _^_, _≤_, _<_}
+use native.Mathlib.Nat.{zero-add, suc-add, div-one, div-div-eq-div-mul, pow-succ', one-mul, mul-assoc, pow-suc, add-suc, add-zero}
 use native.Mathlib.Omega.{arith}
 use lib.ListN.{length, getD, set, take, drop, length-append, length-take, length-drop, length-set, take-append-drop}
 use lib.Seq.{sets, sets-eq, take-at, drop-at, drop-drop, take-nil, length-take-le, getD-append-add, getD-take, getD-drop, take-suc-set, take-set-lt, set-append-left}
@@ -17,6 +16,13 @@ pub length-encode : (w v : ℕ) → length (encode w v) ≡ w
 unfolding encode
 length-encode zero v = refl
 length-encode (suc w) v = ap suc (length-encode w (v / 256))
+
+-- in two parts: the low bytes, and the others
+pub encode-add : (v w n : ℕ) → encode (v + w) n ≡ encode v n ++ encode w (n / 256 ^ v)
+unfolding encode
+encode-add zero w n = rw (zero-add w, div-one n)
+encode-add (suc v) w n =
+    rw (suc-add v w, pow-succ' 256 v, ← div-div-eq-div-mul n 256 (256 ^ v)) (ap (λ (l : List ℕ). n % 256 ∷ l) (encode-add v w (n / 256)))
 
 -- a number that fits is read back
 pub decode-encode : (w v : ℕ) → v < 256 ^ w → decode (encode w v) ≡ v
@@ -46,13 +52,13 @@ field-step [] (suc at) w = rw (take-nil w)
 field-step (b ∷ bs) zero w = refl
 field-step (b ∷ bs) (suc at) w = field-step bs at w
 
--- the same with the code's sums
-pub field-first : (image : List ℕ) (at w : ℕ) → field image at (suc w) ≡ getD image at 0 + 256 * field image (at + 1) w
-field-first image at w = rw (add-one at) (field-step image at w)
-
--- the same, `i` bytes further on
-pub field-next : (image : List ℕ) (at i w : ℕ) → field image (at + i) (suc w) ≡ getD image (at + i) 0 + 256 * field image (at + suc i) w
-field-next image at i w = rw (add-suc at i) (field-step image (at + i) w)
+-- a field in two parts: its low bytes, and the others
+pub field-add : (image : List ℕ) (v w at : ℕ) → field image at (v + w) ≡ field image at v + 256 ^ v * field image (at + v) w
+field-add image zero w at = rw (zero-add w, field-zero image at, add-zero at, one-mul (field image at w)) (omega arith)
+field-add image (suc v) w at =
+    let rest : ℕ = field image (suc (at + v)) w in
+    let ih : field image (suc at) (v + w) ≡ field image (suc at) v + 256 ^ v * rest = rw (suc-add at v) at (field-add image v w (suc at)) in
+    rw (suc-add v w, field-step image at (v + w), field-step image at v, add-suc at v, pow-succ' 256 v, mul-assoc 256 (256 ^ v) rest, ih) (omega arith)
 
 -- a field of bytes is below that power of 256
 pub field-bound : (image : List ℕ) → Bytes image → (w at : ℕ) → field image at w < 256 ^ w
@@ -151,6 +157,14 @@ put-append image at a b n e fits =
     ∙ ap (λ (k : ℕ). drop k image) sum
     in
     rw (front, ends) (simp append-assoc)
+
+-- a number written by two halves of its bytes
+pub put-halves : (image : List ℕ) (at w v : ℕ) → at + (w + w) ≤ length image
+    → put (put image at (encode w v)) (at + w) (encode w (v / 256 ^ w)) ≡ put image at (encode (w + w) v)
+put-halves image at w v fits =
+    let l = length-encode w v in
+    let m = length-encode w (v / 256 ^ w) in
+    put-append image at (encode w v) (encode w (v / 256 ^ w)) (at + w) (omega arith) (omega arith) ∙ ap (put image at) (sym (encode-add w w v))
 
 -- the same bytes, where the image is in parts
 pub put-at : (p old q b : List ℕ) (at : ℕ) → length p ≡ at → length old ≡ length b → put (p ++ (old ++ q)) at b ≡ p ++ (b ++ q)

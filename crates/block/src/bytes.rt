@@ -13,26 +13,20 @@ pub fn read1(image: &[u8], at: usize) -> u64
     b0
 }
 
-// The number in the 2 bytes at `at`.
+// The number in the 2 bytes at `at`; so for wider ones, each from two of half its width. The compiler makes one load of each.
 pub fn read2(image: &[u8], at: usize) -> u64
     requires { ⌜ at + 2 ≤ length (now image) ⌝ }
     ensures { λ r. ⌜ r ≡ field (now (image .entry)) at 2 ⌝ }
 {
-    let b0 = image[at] as u64;
-    let b1 = image[at + 1] as u64;
-    b0 + b1 * 256
+    read1(image, at) + 256 * read1(image, at + 1)
 }
 
-// The number in the 4 bytes at `at`. One sum of bytes, so that it compiles to one load.
+// The number in the 4 bytes at `at`.
 pub fn read4(image: &[u8], at: usize) -> u64
     requires { ⌜ at + 4 ≤ length (now image) ⌝ }
     ensures { λ r. ⌜ r ≡ field (now (image .entry)) at 4 ⌝ }
 {
-    let b0 = image[at] as u64;
-    let b1 = image[at + 1] as u64;
-    let b2 = image[at + 2] as u64;
-    let b3 = image[at + 3] as u64;
-    b0 + b1 * 256 + b2 * 65536 + b3 * 16777216
+    read2(image, at) + 65536 * read2(image, at + 2)
 }
 
 // The number in the 8 bytes at `at`.
@@ -40,22 +34,7 @@ pub fn read8(image: &[u8], at: usize) -> u64
     requires { ⌜ at + 8 ≤ length (now image) ⌝ }
     ensures { λ r. ⌜ r ≡ field (now (image .entry)) at 8 ⌝ }
 {
-    let b0 = image[at] as u64;
-    let b1 = image[at + 1] as u64;
-    let b2 = image[at + 2] as u64;
-    let b3 = image[at + 3] as u64;
-    let b4 = image[at + 4] as u64;
-    let b5 = image[at + 5] as u64;
-    let b6 = image[at + 6] as u64;
-    let b7 = image[at + 7] as u64;
-    b0
-        + b1 * 256
-        + b2 * 65536
-        + b3 * 16777216
-        + b4 * 4294967296
-        + b5 * 1099511627776
-        + b6 * 281474976710656
-        + b7 * 72057594037927936
+    read4(image, at) + 4294967296 * read4(image, at + 4)
 }
 
 // Puts the low byte of v at `at`.
@@ -66,14 +45,13 @@ pub fn write1(image: &mut [u8], at: usize, v: u64)
     image[at] = (v % 256) as u8;
 }
 
-// Puts the low 2 bytes of v at `at`.
+// Puts the low 2 bytes of v at `at`; so for wider ones, each by two of half its width. The compiler makes one store of each.
 pub fn write2(image: &mut [u8], at: usize, v: u64)
     requires { ⌜ at + 2 ≤ length (now image) ⌝ }
     ensures { λ _. ⌜ now (image .exit) ≡ put (now (image .entry)) at (encode 2 v) ⌝ }
 {
-    let v1 = v / 256;
-    image[at] = (v % 256) as u8;
-    image[at + 1] = (v1 % 256) as u8;
+    write1(image, at, v);
+    write1(image, at + 1, v / 256);
 }
 
 // Puts the low 4 bytes of v at `at`.
@@ -81,13 +59,8 @@ pub fn write4(image: &mut [u8], at: usize, v: u64)
     requires { ⌜ at + 4 ≤ length (now image) ⌝ }
     ensures { λ _. ⌜ now (image .exit) ≡ put (now (image .entry)) at (encode 4 v) ⌝ }
 {
-    let v1 = v / 256;
-    let v2 = v1 / 256;
-    let v3 = v2 / 256;
-    image[at] = (v % 256) as u8;
-    image[at + 1] = (v1 % 256) as u8;
-    image[at + 2] = (v2 % 256) as u8;
-    image[at + 3] = (v3 % 256) as u8;
+    write2(image, at, v);
+    write2(image, at + 2, v / 65536);
 }
 
 // Puts the 8 bytes of v at `at`.
@@ -95,21 +68,8 @@ pub fn write8(image: &mut [u8], at: usize, v: u64)
     requires { ⌜ at + 8 ≤ length (now image) ⌝ }
     ensures { λ _. ⌜ now (image .exit) ≡ put (now (image .entry)) at (encode 8 v) ⌝ }
 {
-    let v1 = v / 256;
-    let v2 = v1 / 256;
-    let v3 = v2 / 256;
-    let v4 = v3 / 256;
-    let v5 = v4 / 256;
-    let v6 = v5 / 256;
-    let v7 = v6 / 256;
-    image[at] = (v % 256) as u8;
-    image[at + 1] = (v1 % 256) as u8;
-    image[at + 2] = (v2 % 256) as u8;
-    image[at + 3] = (v3 % 256) as u8;
-    image[at + 4] = (v4 % 256) as u8;
-    image[at + 5] = (v5 % 256) as u8;
-    image[at + 6] = (v6 % 256) as u8;
-    image[at + 7] = (v7 % 256) as u8;
+    write4(image, at, v);
+    write4(image, at + 4, v / 4294967296);
 }
 
 // Sets the n bytes from `at` on to `byte`.

@@ -1,8 +1,8 @@
 -- `block::bytes::read1` meets its contract. Assumes nothing.
-use Prim.Native.Nat.{_+_}
+use Prim.Native.Nat.{suc}
 use native.Mathlib.Omega.{arith}
 use borrow.Author.Needs.{needs}
-use Rattle.block.specs.BytesLaws.{field-first, field-zero}
+use Rattle.block.specs.BytesLaws.{field-step, field-zero}
 use Rattle.block.proofs.bytes.read1.Statement.{statement}
 use Rattle.block.proofs.bytes.read1.Tie as tie
 
@@ -16,7 +16,7 @@ returns : tie.Need-returns
 returns c =
     let a = c .before .args .at in
     let i = c .before .args .image .now in
-    omega (arith, field-first i a 0, field-zero i (a + 1))
+    omega (arith, field-step i a 0, field-zero i (suc a))
 
 pub read1-spec : {M : Type 1} → statement M
 read1-spec = tie.close (tie.spec shared-slice-read-b0 cast-b0 returns)

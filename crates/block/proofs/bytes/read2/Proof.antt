@@ -1,53 +1,29 @@
--- `block::bytes::read2` meets its contract. Assumes nothing.
+-- `block::bytes::read2` meets its contract: a field in two halves. Assumes nothing.
 use Prim.Native.Nat.{_+_}
 use native.Mathlib.Omega.{arith}
+use Rattle.block.specs.BytesLaws.{field-add, field-bound}
 use borrow.Author.Needs.{needs}
-use Rattle.block.specs.BytesLaws.{field-first, field-next, field-zero}
 use Rattle.block.proofs.bytes.read2.Statement.{statement}
 use Rattle.block.proofs.bytes.read2.Tie as tie
 
-shared-slice-read-b0 : tie.Need-shared-slice-read-b0
-shared-slice-read-b0 c = search needs
+read1-requires : tie.Need-read1-requires
+read1-requires c κs = search needs
 
-cast-b0 : tie.Need-cast-b0
-cast-b0 c = omega (arith, c .shared-slice-known .given (c .before .args .at))
+add-read1 : tie.Need-add-read1
+add-read1 c = search needs
 
-add-b1 : tie.Need-add-b1
-add-b1 c = search needs
-
-shared-slice-read-b1 : tie.Need-shared-slice-read-b1
-shared-slice-read-b1 c = search needs
-
-cast-b1 : tie.Need-cast-b1
-cast-b1 c = omega (arith, c .shared-slice-known2 .given (c .before .before .args .at + 1))
+read1-requires-2 : tie.Need-read1-requires-2
+read1-requires-2 c κs = search needs
 
 mul-result : tie.Need-mul-result
-mul-result c =
-    let a = c .before .before .args .at in
-    let g = c .shared-slice-known2 .given in
-    omega (arith, g a, g (a + 1))
+mul-result c = omega (arith, c .read12 .ensures, field-bound (c .before .before .before .args .image .now) (λ k. c .before .before .shared-slice-known .given k .fits) 1 (c .before .before .before .args .at + 1))
 
 add-result : tie.Need-add-result
-add-result c =
-    let a = c .before .before .args .at in
-    let g = c .shared-slice-known2 .given in
-    omega (arith, g a, g (a + 1))
+add-result c = omega (arith, c .read12 .ensures, c .before .read1 .ensures, field-bound (c .before .before .before .args .image .now) (λ k. c .before .before .shared-slice-known .given k .fits) 1 (c .before .before .before .args .at), field-bound (c .before .before .before .args .image .now) (λ k. c .before .before .shared-slice-known .given k .fits) 1 (c .before .before .before .args .at + 1))
 
 returns : tie.Need-returns
-returns c =
-    let a = c .before .before .args .at in
-    let i = c .before .before .args .image .now in
-    omega (arith, field-first i a 1, field-next i a 1 0, field-zero i (a + 2))
+returns c = omega (arith, c .read12 .ensures, c .before .read1 .ensures, field-add (c .before .before .before .args .image .now) 1 1 (c .before .before .before .args .at))
 
 pub read2-spec : {M : Type 1} → statement M
 read2-spec =
-    tie.close
-    (tie.spec
-    shared-slice-read-b0
-    cast-b0
-    add-b1
-    shared-slice-read-b1
-    cast-b1
-    mul-result
-    add-result
-    returns)
+    tie.close (tie.spec read1-requires add-read1 read1-requires-2 mul-result add-result returns)

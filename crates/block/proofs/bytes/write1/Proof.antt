@@ -2,7 +2,7 @@
 use mathlib.Core.Path.{sym}
 use borrow.Author.Needs.{needs}
 use Rattle.block.specs.Bytes.{encode}
-use Rattle.block.proofs.Runs.{put-stores}
+use Rattle.block.specs.BytesLaws.{put-sets}
 use Rattle.block.proofs.bytes.write1.Statement.{statement}
 use Rattle.block.proofs.bytes.write1.Tie as tie
 
@@ -17,7 +17,7 @@ same-length c = search needs
 
 returns : tie.Need-returns
 unfolding encode
-returns c = sym (put-stores _ _ (encode 1 (c .args .v)) (c .pre))
+returns c = sym (put-sets _ _ (encode 1 (c .args .v)) (c .pre))
 
 pub write1-spec : {M : Type 1} → statement M
 write1-spec = tie.close (tie.spec cast-image slice-write-image same-length returns)

@@ -1,43 +1,30 @@
--- `block::bytes::write2` meets its contract. Assumes nothing.
-use mathlib.Core.Path.{sym}
-use native.Mathlib.Omega.{arith}
-use lib.ListN.{length-set}
+-- `block::bytes::write2` meets its contract: a number in two halves. Assumes nothing.
+use Prim.Native.Nat.{ℕ, _+_, _/_}
+use mathlib.Core.Path.{ap, _∙_}
+use mathlib.Core.List.{List}
+use Rattle.block.specs.Bytes.{encode, put}
+use Rattle.block.specs.BytesLaws.{put-halves}
 use borrow.Author.Needs.{needs}
-use Rattle.block.specs.Bytes.{encode}
-use Rattle.block.proofs.Runs.{put-stores}
 use Rattle.block.proofs.bytes.write2.Statement.{statement}
 use Rattle.block.proofs.bytes.write2.Tie as tie
 
-cast-image : tie.Need-cast-image
-cast-image c = search needs
+write1-requires : tie.Need-write1-requires
+write1-requires c κs = search needs
 
-slice-write-image : tie.Need-slice-write-image
-slice-write-image c = search needs
+add-write1 : tie.Need-add-write1
+add-write1 c = search needs
 
-cast-image-2 : tie.Need-cast-image-2
-cast-image-2 c = search needs
-
-add-image : tie.Need-add-image
-add-image c = search needs
-
-slice-write-image-2 : tie.Need-slice-write-image-2
-slice-write-image-2 c = simp length-set (omega arith)
+write1-requires-2 : tie.Need-write1-requires-2
+write1-requires-2 c κs = search needs
 
 same-length : tie.Need-same-length
 same-length c = search needs
 
 returns : tie.Need-returns
-unfolding encode
-returns c = sym (put-stores _ _ (encode 2 (c .args .v)) (c .pre))
+returns c =
+    let a = c .before .before .before .before .before .before .before .before .before .args in
+    c .before .before .write12 .ensures ∙ ap (λ (l : List ℕ). put l (a .at + 1) (encode 1 (a .v / 256))) (c .before .before .before .before .before .before .write1 .ensures)
+    ∙ put-halves (a .image .now) (a .at) 1 (a .v) (c .before .before .before .before .before .before .before .before .before .pre)
 
 pub write2-spec : {M : Type 1} → statement M
-write2-spec =
-    tie.close
-    (tie.spec
-    cast-image
-    slice-write-image
-    cast-image-2
-    add-image
-    slice-write-image-2
-    same-length
-    returns)
+write2-spec = tie.close (tie.spec write1-requires add-write1 write1-requires-2 same-length returns)

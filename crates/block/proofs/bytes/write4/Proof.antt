@@ -1,67 +1,30 @@
--- `block::bytes::write4` meets its contract. Assumes nothing.
-use mathlib.Core.Path.{sym}
-use native.Mathlib.Omega.{arith}
-use lib.ListN.{length-set}
+-- `block::bytes::write4` meets its contract: a number in two halves. Assumes nothing.
+use Prim.Native.Nat.{ℕ, _+_, _/_}
+use mathlib.Core.Path.{ap, _∙_}
+use mathlib.Core.List.{List}
+use Rattle.block.specs.Bytes.{encode, put}
+use Rattle.block.specs.BytesLaws.{put-halves}
 use borrow.Author.Needs.{needs}
-use Rattle.block.specs.Bytes.{encode}
-use Rattle.block.proofs.Runs.{put-stores}
 use Rattle.block.proofs.bytes.write4.Statement.{statement}
 use Rattle.block.proofs.bytes.write4.Tie as tie
 
-cast-image : tie.Need-cast-image
-cast-image c = search needs
+write2-requires : tie.Need-write2-requires
+write2-requires c κs = search needs
 
-slice-write-image : tie.Need-slice-write-image
-slice-write-image c = search needs
+add-write2 : tie.Need-add-write2
+add-write2 c = search needs
 
-cast-image-2 : tie.Need-cast-image-2
-cast-image-2 c = search needs
-
-add-image : tie.Need-add-image
-add-image c = search needs
-
-slice-write-image-2 : tie.Need-slice-write-image-2
-slice-write-image-2 c = simp length-set (omega arith)
-
-cast-image-3 : tie.Need-cast-image-3
-cast-image-3 c = search needs
-
-add-image-2 : tie.Need-add-image-2
-add-image-2 c = search needs
-
-slice-write-image-3 : tie.Need-slice-write-image-3
-slice-write-image-3 c = simp length-set (omega arith)
-
-cast-image-4 : tie.Need-cast-image-4
-cast-image-4 c = search needs
-
-add-image-3 : tie.Need-add-image-3
-add-image-3 c = search needs
-
-slice-write-image-4 : tie.Need-slice-write-image-4
-slice-write-image-4 c = simp length-set (omega arith)
+write2-requires-2 : tie.Need-write2-requires-2
+write2-requires-2 c κs = search needs
 
 same-length : tie.Need-same-length
 same-length c = search needs
 
 returns : tie.Need-returns
-unfolding encode
-returns c = sym (put-stores _ _ (encode 4 (c .args .v)) (c .pre))
+returns c =
+    let a = c .before .before .before .before .before .before .before .before .before .args in
+    c .before .before .write22 .ensures ∙ ap (λ (l : List ℕ). put l (a .at + 2) (encode 2 (a .v / 65536))) (c .before .before .before .before .before .before .write2 .ensures)
+    ∙ put-halves (a .image .now) (a .at) 2 (a .v) (c .before .before .before .before .before .before .before .before .before .pre)
 
 pub write4-spec : {M : Type 1} → statement M
-write4-spec =
-    tie.close
-    (tie.spec
-    cast-image
-    slice-write-image
-    cast-image-2
-    add-image
-    slice-write-image-2
-    cast-image-3
-    add-image-2
-    slice-write-image-3
-    cast-image-4
-    add-image-3
-    slice-write-image-4
-    same-length
-    returns)
+write4-spec = tie.close (tie.spec write2-requires add-write2 write2-requires-2 same-length returns)
