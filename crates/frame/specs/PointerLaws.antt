@@ -110,8 +110,7 @@ reach-within s p n h = go (goodTag s p) refl h
     go true g e = let q : n ≡ reach s p = cc in record { good = g; exponent = q; small = λ l. rw q (reach-bound s p g l) }
     go false g e = let z : _≡_ {A = ℕ} 0 1 = cc in absurd (omega arith)
 
--- A move that is accepted keeps flag and tag number, and stays in its frame.
-
+-- An accepted move of p by d in a frame of size 2^n: q keeps flag and tag number and stays in the frame.
 pub record Move (p : Pointer) (n : ℕ) (d : ℤ) (q : Pointer) : Type 0 where
   pub flag : q .flag ≡ p .flag
   pub tag : q .tag ≡ p .tag
