@@ -1,13 +1,13 @@
 -- The turns of the loops that fill and copy runs of bytes. Assumes nothing.
 use mathlib.Core.Path.{_≡_, sym, ap, _∙_}
-use mathlib.Core.List.{List, _∷_}
+use mathlib.Core.List.{List, [], _∷_, _++_}
 use Prim.Native.Nat.{ℕ, suc, _+_, _-_, _≤_, _<_}
 use native.Mathlib.Numerals.{add-one}
 use native.Mathlib.Omega.{arith}
-use lib.ListN.{length, getD, set, take, drop, replicate, length-replicate, length-take, length-drop}
-use lib.Seq.{take-suc, drop-cons, getD-drop}
+use lib.ListN.{length, getD, set, take, drop, replicate, length-replicate, length-drop}
+use lib.Seq.{take-suc, take-suc-set, take-add, drop-drop, length-take-le}
 use Rattle.block.specs.Bytes.{put}
-use Rattle.block.specs.BytesLaws.{put-cons, put-nil, set-put-front, set-put-end, getD-put-below, getD-put-above}
+use Rattle.block.specs.BytesLaws.{put-cons, put-nil, put-append, put-before, set-put-end, drop-put-above, part-put-below}
 
 -- filling: what is left to fill, after one byte more
 pub fill-turn : (l : List ℕ) (at n i b : ℕ) → i < n → at + n ≤ length l → put (set l (at + i) b) (at + (i + 1)) (replicate (n - (i + 1)) b) ≡ put l (at + i) (replicate (n - i) b)
@@ -21,38 +21,60 @@ fill-turn l at n i b h fits =
 pub fill-none : (l : List ℕ) (at n b : ℕ) → n ≡ 0 → put l at (replicate n b) ≡ l
 fill-none l at n b e = rw e (put-nil l at)
 
--- copying from the first byte on: what is copied, after one byte more
-pub down-turn : (l image : List ℕ) (to from n i : ℕ) → to ≤ from → from + n ≤ length l → i < n → image ≡ put l to (take i (drop from l))
-    → set image (to + i) (getD image (from + i) 0) ≡ put l to (take (i + 1) (drop from l))
-down-turn l image to from n i below fits h e =
+-- reading into a buffer: what is read, after one byte more
+pub gather-turn : (s buffer : List ℕ) (b i : ℕ) → i < length s → i < length buffer → b ≡ getD s i 0 → take i buffer ≡ take i s → take (i + 1) (set buffer i b) ≡ take (i + 1) s
+gather-turn s buffer b i h k e f =
+    ap (λ (n : ℕ). take n (set buffer i b)) (add-one i)
+    ∙ take-suc-set buffer i b k
+    ∙ ap (λ (x : List ℕ). x ++ (b ∷ [])) f
+    ∙ ap (λ (x : ℕ). take i s ++ (x ∷ [])) e
+    ∙ sym (ap (λ (n : ℕ). take n s) (add-one i) ∙ take-suc s i 0 h)
+
+-- writing from a buffer: what is written, after one byte more
+pub scatter-turn : (l image s : List ℕ) (to i : ℕ) → to + i < length l → i < length s → image ≡ put l to (take i s) → set image (to + i) (getD s i 0) ≡ put l to (take (i + 1) s)
+scatter-turn l image s to i fits h e =
+    let part : length (take i s) ≡ i = length-take-le i s (omega arith) in
+    ap (λ (x : List ℕ). set x (to + i) (getD s i 0)) e
+    ∙ set-put-end l to (getD s i 0) (to + i) (take i s) (omega arith) fits
+    ∙ ap (put l to) (sym (ap (λ (k : ℕ). take k s) (add-one i) ∙ take-suc s i 0 h))
+
+-- copying from the first part on: what is copied, after k bytes more
+pub down-turn : (l image : List ℕ) (to from n i k : ℕ) → to ≤ from → from + n ≤ length l → i + k ≤ n → image ≡ put l to (take i (drop from l))
+    → put image (to + i) (take k (drop (from + i) image)) ≡ put l to (take (i + k) (drop from l))
+down-turn l image to from n i k below fits h e =
     let s : List ℕ = drop from l in
     let long : length s ≡ length l - from = length-drop from l in
-    let part : length (take i s) ≡ i = simp (length-take, length-drop) (omega arith) in
-    let byte : getD image (from + i) 0 ≡ getD s i 0 =
-    ap (λ (x : List ℕ). getD x (from + i) 0) e ∙ getD-put-above l to (take i s) (omega arith) (from + i) (omega arith) ∙ sym (getD-drop from l i 0)
+    let a : length (take i s) ≡ i = length-take-le i s (omega arith) in
+    let b : length (take k (drop i s)) ≡ k = length-take-le k (drop i s) (simp length-drop (omega arith)) in
+    let rest : drop (from + i) image ≡ drop i s =
+    ap (drop (from + i)) e ∙ drop-put-above l to (take i s) (omega arith) (from + i) (omega arith) ∙ sym (drop-drop i from l)
     in
-    ap (λ (b : ℕ). set image (to + i) b) byte
-    ∙ ap (λ (x : List ℕ). set x (to + i) (getD s i 0)) e
-    ∙ set-put-end l to (getD s i 0) (to + i) (take i s) (omega arith) (omega arith)
-    ∙ ap (put l to) (sym (ap (λ (k : ℕ). take k s) (add-one i) ∙ take-suc s i 0 (omega arith)))
+    ap (λ (x : List ℕ). put image (to + i) (take k x)) rest
+    ∙ ap (λ (x : List ℕ). put x (to + i) (take k (drop i s))) e
+    ∙ put-append l to (take i s) (take k (drop i s)) (to + i) (omega arith) (omega arith)
+    ∙ ap (put l to) (sym (take-add i k s))
 
--- copying from the last byte on: what is copied, after one byte more
-pub up-turn : (l image : List ℕ) (to from n i : ℕ) → from ≤ to → to + n ≤ length l → 0 < i → i ≤ n → image ≡ put l (to + i) (take (n - i) (drop (from + i) l))
-    → set image (to + (i - 1)) (getD image (from + (i - 1)) 0) ≡ put l (to + (i - 1)) (take (n - (i - 1)) (drop (from + (i - 1)) l))
-up-turn l image to from n i above fits p h e =
-    let j : ℕ = i - 1 in
+-- copying from the last part on: what is copied, after k bytes more
+pub up-turn : (l image : List ℕ) (to from n i k : ℕ) → from ≤ to → to + n ≤ length l → k ≤ i → i ≤ n → image ≡ put l (to + i) (take (n - i) (drop (from + i) l))
+    → put image (to + (i - k)) (take k (drop (from + (i - k)) image)) ≡ put l (to + (i - k)) (take (n - (i - k)) (drop (from + (i - k)) l))
+up-turn l image to from n i k above fits h g e =
+    let j : ℕ = i - k in
+    let s : List ℕ = drop (from + j) l in
     let rest : List ℕ = take (n - i) (drop (from + i) l) in
-    let part : length rest ≡ n - i = simp (length-take, length-drop) (omega arith) in
-    let byte : getD image (from + j) 0 ≡ getD l (from + j) 0 =
-    ap (λ (x : List ℕ). getD x (from + j) 0) e ∙ getD-put-below l (to + i) rest (omega arith) (from + j) (omega arith)
+    let b : length rest ≡ n - i = length-take-le (n - i) (drop (from + i) l) (simp length-drop (omega arith)) in
+    let a : length (take k s) ≡ k = length-take-le k s (simp length-drop (omega arith)) in
+    let piece : take k (drop (from + j) image) ≡ take k s =
+    ap (λ (x : List ℕ). take k (drop (from + j) x)) e ∙ part-put-below l (to + i) rest (omega arith) (from + j) k (omega arith)
     in
-    let u : to + i ≡ suc (to + j) = omega arith in
-    let v : from + i ≡ suc (from + j) = omega arith in
-    let w : n - j ≡ suc (n - i) = omega arith in
-    let longer : getD l (from + j) 0 ∷ rest ≡ take (n - j) (drop (from + j) l) =
-    ap (λ (x : ℕ). getD l (from + j) 0 ∷ take (n - i) (drop x l)) v ∙ sym (ap (λ (x : ℕ). take x (drop (from + j) l)) w ∙ ap (take (suc (n - i))) (drop-cons l (from + j) 0 (omega arith)))
+    let u : from + j + k ≡ from + i = omega arith in
+    let w : k + (n - i) ≡ n - j = omega arith in
+    let whole : take k s ++ rest ≡ take (n - j) s =
+    ap (λ (x : ℕ). take k s ++ take (n - i) (drop x l)) (sym u)
+    ∙ ap (λ (x : List ℕ). take k s ++ take (n - i) x) (sym (drop-drop k (from + j) l))
+    ∙ sym (take-add k (n - i) s)
+    ∙ ap (λ (x : ℕ). take x s) w
     in
-    ap (λ (b : ℕ). set image (to + j) b) byte
-    ∙ ap (λ (x : List ℕ). set x (to + j) (getD l (from + j) 0)) (e ∙ ap (λ (x : ℕ). put l x rest) u)
-    ∙ set-put-front l (to + j) (getD l (from + j) 0) rest (omega arith)
-    ∙ ap (put l (to + j)) longer
+    ap (put image (to + j)) piece
+    ∙ ap (λ (x : List ℕ). put x (to + j) (take k s)) e
+    ∙ put-before l (to + j) (take k s) rest (to + i) (omega arith) (omega arith)
+    ∙ ap (put l (to + j)) whole

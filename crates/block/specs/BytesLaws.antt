@@ -6,7 +6,7 @@ use Prim.Native.Nat.{_%_, ℕ, zero, suc, _+_, _-_, _*_, _/_, _^_, _≤_, _<_}
 use native.Mathlib.Nat.{zero-add, suc-add, div-one, div-div-eq-div-mul, pow-succ', one-mul, mul-assoc, pow-suc, add-suc, add-zero}
 use native.Mathlib.Omega.{arith}
 use lib.ListN.{length, getD, set, take, drop, length-append, length-take, length-drop, length-set, take-append-drop}
-use lib.Seq.{sets, sets-eq, take-at, drop-at, drop-drop, take-nil, length-take-le, getD-append-add, getD-take, getD-drop, take-suc-set, take-set-lt, set-append-left}
+use lib.Seq.{sets, sets-eq, take-at, drop-at, drop-drop, take-nil, length-take-le, getD-append-add, getD-take, getD-drop, take-suc-set, take-set-lt, set-append-left, drop-append-add, ext-getD, take-take}
 use Rattle.block.specs.Bytes.{encode, decode, field, put, Bytes}
 
 -- encoding
@@ -83,6 +83,10 @@ field-front bs q w e = ap decode (take-at bs q w e)
 
 -- replaced bytes
 
+put-def : (image : List ℕ) (at : ℕ) (bs : List ℕ) → put image at bs ≡ take at image ++ (bs ++ drop (at + length bs) image)
+unfolding put
+put-def image at bs = refl
+
 module _ (image : List ℕ) (at : ℕ) (bs : List ℕ) (fits : at + length bs ≤ length image) where
   -- the length stays
   pub length-put : length (put image at bs) ≡ length image
@@ -124,6 +128,38 @@ module _ (image : List ℕ) (at : ℕ) (bs : List ℕ) (fits : at + length bs �
       ∙ getD-drop (at + length bs) image j 0
       ∙ ap (λ (n : ℕ). getD image n 0) (sym f)
 
+  -- what stands above the run
+  pub drop-put-above : (m : ℕ) → at + length bs ≤ m → drop m (put image at bs) ≡ drop m image
+  drop-put-above m l =
+      let j : ℕ = m - (at + length bs) in
+      let e : m ≡ at + (length bs + j) = omega arith in
+      let f : at + length bs + j ≡ m = omega arith in
+      ap (λ (n : ℕ). drop n (put image at bs)) e
+      ∙ sym (drop-drop (length bs + j) at (put image at bs))
+      ∙ ap (drop (length bs + j)) drop-put
+      ∙ drop-append-add bs (drop (at + length bs) image) j
+      ∙ drop-drop j (at + length bs) image
+      ∙ ap (λ (n : ℕ). drop n image) f
+
+  -- a part below the run
+  pub part-put-below : (m k : ℕ) → m + k ≤ at → take k (drop m (put image at bs)) ≡ take k (drop m image)
+  part-put-below m k l =
+      let long : length (put image at bs) ≡ length image = length-put in
+      let n : length (take k (drop m (put image at bs))) ≡ k = length-take-le k _ (simp length-drop (omega arith)) in
+      let n′ : length (take k (drop m image)) ≡ k = length-take-le k _ (simp length-drop (omega arith)) in
+      ext-getD
+      0
+      (take k (drop m (put image at bs)))
+      (take k (drop m image))
+      (n ∙ sym n′)
+      (λ i h.
+      let h′ : i < k = omega arith in
+      getD-take k (drop m (put image at bs)) i 0 h′
+      ∙ getD-drop m (put image at bs) i 0
+      ∙ getD-put-below (m + i) (omega arith)
+      ∙ sym (getD-drop m image i 0)
+      ∙ sym (getD-take k (drop m image) i 0 h′))
+
   -- a field elsewhere is as it was
   pub field-put-other : (at′ w : ℕ) → (at′ + w ≤ at) ⊎ (at + length bs ≤ at′) → field (put image at bs) at′ w ≡ field image at′ w
   field-put-other at′ w d =
@@ -157,6 +193,22 @@ put-append image at a b n e fits =
     ∙ ap (λ (k : ℕ). drop k image) sum
     in
     rw (front, ends) (simp append-assoc)
+
+-- the same, the second first
+pub put-before : (image : List ℕ) (at : ℕ) (a b : List ℕ) (n : ℕ) → at + length a ≡ n → n + length b ≤ length image → put (put image n b) at a ≡ put image at (a ++ b)
+put-before image at a b n e fits =
+    let x : List ℕ = put image n b in
+    let front : take at x ≡ take at image =
+    sym (take-take at n x (omega arith)) ∙ ap (take at) (take-put image n b fits) ∙ take-take at n image (omega arith)
+    in
+    let back : drop (at + length a) x ≡ b ++ drop (n + length b) image = ap (λ (k : ℕ). drop k x) e ∙ drop-put image n b fits in
+    let sum : n + length b ≡ at + length (a ++ b) = simp length-append (omega arith) in
+    put-def x at a
+    ∙ ap (λ (p : List ℕ). p ++ (a ++ drop (at + length a) x)) front
+    ∙ ap (λ (q : List ℕ). take at image ++ (a ++ q)) back
+    ∙ ap (λ (q : List ℕ). take at image ++ q) (sym (append-assoc a b (drop (n + length b) image)))
+    ∙ ap (λ (k : ℕ). take at image ++ ((a ++ b) ++ drop k image)) sum
+    ∙ sym (put-def image at (a ++ b))
 
 -- a number written by two halves of its bytes
 pub put-halves : (image : List ℕ) (at w v : ℕ) → at + (w + w) ≤ length image

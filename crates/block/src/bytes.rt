@@ -1,6 +1,6 @@
 // Little-endian numbers in an image, and runs of bytes.
 ghost use mathlib.Core.Path.{_≡_};
-ghost use Prim.Native.Nat.{_+_, _≤_};
+ghost use Prim.Native.Nat.{_+_, _≤_, _<_};
 ghost use lib.ListN.{length, take, drop, replicate};
 ghost use Rattle.block.specs.Bytes.{encode, field, put};
 
@@ -84,29 +84,72 @@ pub fn fill(image: &mut [u8], at: usize, n: usize, byte: u8)
     }
 }
 
-// Copies from the first byte to the last: right where the target is not above the source.
+// Reads k bytes from `from` on into a buffer.
+fn gather(image: &[u8], from: usize, k: usize, buffer: &mut [u8])
+    requires { ⌜ (from + k ≤ length (now image)) × (k ≤ length (now buffer)) ⌝ }
+    ensures { λ _. ⌜ take k (now (buffer .exit)) ≡ take k (drop from (now (image .entry))) ⌝ }
+{
+    let mut i = 0;
+    while i < k {
+        let b = image[from + i];
+        buffer[i] = b;
+        i += 1;
+    }
+}
+
+// Puts the first k bytes of a buffer at `to`.
+fn scatter(image: &mut [u8], to: usize, k: usize, buffer: &[u8])
+    requires { ⌜ (to + k ≤ length (now image)) × (k ≤ length (now buffer)) ⌝ }
+    ensures { λ _. ⌜ now (image .exit) ≡ put (now (image .entry)) to (take k (now (buffer .entry))) ⌝ }
+{
+    let mut i = 0;
+    while i < k {
+        let b = buffer[i];
+        image[to + i] = b;
+        i += 1;
+    }
+}
+
+// Copies k bytes, at most 16384, as if all were read first. The compiler makes one `memmove` of it, and no buffer.
+fn copy_part(image: &mut [u8], to: usize, from: usize, k: usize)
+    requires { ⌜ (to + k ≤ length (now image)) × (from + k ≤ length (now image)) × (k ≤ 16384) ⌝ }
+    ensures { λ _. ⌜ now (image .exit) ≡ put (now (image .entry)) to (take k (drop from (now (image .entry)))) ⌝ }
+{
+    let mut buffer = [0u8; 16384];
+    gather(image, from, k, &mut buffer);
+    scatter(image, to, k, &buffer);
+}
+
+// How many of the bytes left are copied next.
+fn part(left: usize) -> usize
+    ensures { λ r. ⌜ (r ≤ left) × (r ≤ 16384) × (0 < left → 0 < r) ⌝ }
+{
+    if left < 16384 { left } else { 16384 }
+}
+
+// Copies from the first part to the last: right where the target is not above the source.
 fn copy_down(image: &mut [u8], to: usize, from: usize, n: usize)
     requires { ⌜ (to ≤ from) × (from + n ≤ length (now image)) ⌝ }
     ensures { λ _. ⌜ now (image .exit) ≡ put (now (image .entry)) to (take n (drop from (now (image .entry)))) ⌝ }
 {
     let mut i = 0;
     while i < n {
-        let b = image[from + i];
-        image[to + i] = b;
-        i += 1;
+        let k = part(n - i);
+        copy_part(image, to + i, from + i, k);
+        i = i + k;
     }
 }
 
-// Copies from the last byte to the first: right where the target is not below the source.
+// Copies from the last part to the first: right where the target is not below the source.
 fn copy_up(image: &mut [u8], to: usize, from: usize, n: usize)
     requires { ⌜ (from ≤ to) × (to + n ≤ length (now image)) ⌝ }
     ensures { λ _. ⌜ now (image .exit) ≡ put (now (image .entry)) to (take n (drop from (now (image .entry)))) ⌝ }
 {
     let mut i = n;
     while 0 < i {
-        i = i - 1;
-        let b = image[from + i];
-        image[to + i] = b;
+        let k = part(i);
+        i = i - k;
+        copy_part(image, to + i, from + i, k);
     }
 }
 

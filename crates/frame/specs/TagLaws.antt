@@ -112,7 +112,7 @@ object-entry-used s L h size l u =
 
 -- The tag.
 
-small-test : (n h size : ℕ) → leb (wrapper h size) n ≡ sameFrame n (firstHeld h) (lastHeld h size)
+pub small-test : (n h size : ℕ) → leb (wrapper h size) n ≡ sameFrame n (firstHeld h) (lastHeld h size)
 small-test n h size = go (ℕ-discrete (firstHeld h / 2 ^ n) (lastHeld h size / 2 ^ n))
   where
     go : Dec (firstHeld h / 2 ^ n ≡ lastHeld h size / 2 ^ n) → leb (wrapper h size) n ≡ sameFrame n (firstHeld h) (lastHeld h size)

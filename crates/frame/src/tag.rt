@@ -61,14 +61,14 @@ pub fn tag_object(s: u32, h: u64, size: u64) -> Tagged
     requires { ⌜ (s < 16) × (16 ≤ h) × (h + 16 + size ≤ 2 ^ 30) ⌝ }
     ensures { λ r. ⌜ r ≡ tagged s h size ⌝ }
 {
-    let n = wrapper(h, size);
-    if n <= s {
+    if same_frame(s, first_held(h), last_held(h, size)) {
         Tagged::Small(Pointer {
             flag: true,
             tag: h - frame_start(h, s),
             address: h + 16,
         })
     } else {
+        let n = wrapper(h, size);
         let entry = entry_index(s, n, h);
         Tagged::Large(
             Pointer {

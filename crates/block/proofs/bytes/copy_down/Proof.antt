@@ -1,8 +1,10 @@
 -- `block::bytes::copy_down` meets its contract. Assumes nothing.
 use mathlib.Core.Path.{_≡_, refl, sym, ap, _∙_}
-use Prim.Native.Nat.{ℕ, _-_, _≤_}
+use Prim.Native.Nat.{ℕ, _+_, _-_, _≤_}
+use native.Mathlib.Nat.{add-zero, sub-zero}
 use native.Mathlib.Omega.{arith}
-use lib.ListN.{length, take, drop, length-set}
+use borrow.Author.Needs.{needs}
+use lib.ListN.{length, take, drop}
 use Rattle.block.specs.Bytes.{put}
 use Rattle.block.specs.BytesLaws.{put-nil}
 use Rattle.block.proofs.Runs.{down-turn}
@@ -18,36 +20,40 @@ abbrev μ-loop : tie.MeasureT-loop
 loop-holds : tie.Need-loop-holds Inv-loop μ-loop
 loop-holds c = (omega arith, refl, sym (put-nil _ _))
 
-add-b : tie.Need-add-b Inv-loop μ-loop
-add-b c = omega arith
+sub-part : tie.Need-sub-part Inv-loop μ-loop
+sub-part c = omega arith
 
-slice-read-b : tie.Need-slice-read-b Inv-loop μ-loop
-slice-read-b c = omega arith
+part-requires : tie.Need-part-requires Inv-loop μ-loop
+part-requires c κs = search needs
 
-add-image : tie.Need-add-image Inv-loop μ-loop
-add-image c = omega arith
+add-copy-part : tie.Need-add-copy-part Inv-loop μ-loop
+add-copy-part c = omega arith
 
-slice-write-image : tie.Need-slice-write-image Inv-loop μ-loop
-slice-write-image c = omega arith
+add-copy-part-2 : tie.Need-add-copy-part-2 Inv-loop μ-loop
+add-copy-part-2 c = omega arith
+
+copy-part-requires : tie.Need-copy-part-requires Inv-loop μ-loop
+copy-part-requires c κs = (omega arith, omega arith, omega arith)
 
 add-i : tie.Need-add-i Inv-loop μ-loop
 add-i c = omega arith
 
 loop-less : tie.Need-loop-less Inv-loop μ-loop
-loop-less c = omega arith
+loop-less c = omega (arith, c .before .before .before .before .part .ensures .2 (omega arith))
 
 loop-again : tie.Need-loop-again Inv-loop μ-loop
 loop-again c =
-    let l = c .before .before .loop in
-    let a = c .before .before .before .args in
-    (omega arith, simp length-set (l .inv .1), down-turn (a .image .now) (l .image) (a .to) (a .from) (a .n) (l .i) (omega arith) (omega arith) (omega arith) (l .inv .2))
+    let l = c .before .before .before .before .before .before .loop in
+    let a = c .before .before .before .before .before .before .before .before .args in
+    let k : ℕ = c .before .before .before .before .part .result in
+    (omega arith, omega arith, c .before .before .copy-part .ensures ∙ down-turn (a .image .now) (l .image) (a .to) (a .from) (a .n) (l .i) k (omega arith) (omega arith) (omega arith) (l .inv .2))
 
 same-length : tie.Need-same-length Inv-loop μ-loop
 same-length c = omega arith
 
 returns : tie.Need-returns Inv-loop μ-loop
 returns c =
-    let a = c .before .before .args in
+    let a = c .before .before .before .args in
     let e : c .before .loop .i ≡ a .n = omega arith in
     c .before .loop .inv .2 ∙ ap (λ (k : ℕ). put (a .image .now) (a .to) (take k (drop (a .from) (a .image .now)))) e
 
@@ -58,10 +64,11 @@ copy-down-spec =
     Inv-loop
     μ-loop
     loop-holds
-    add-b
-    slice-read-b
-    add-image
-    slice-write-image
+    sub-part
+    part-requires
+    add-copy-part
+    add-copy-part-2
+    copy-part-requires
     add-i
     loop-less
     loop-again
