@@ -9,10 +9,11 @@ use lib.ListN.{length, length-append}
 use lib.Dec.{leb, eqb}
 use borrow.Author.Tests.{le-leb, eq-eqb, ne-eqb}
 use Rattle.block.specs.Bytes.{encode, put}
-use Rattle.block.specs.BytesLaws.{length-encode, put-append}
-use Rattle.block.specs.Tests.{refuted}
+use Rattle.block.specs.laws.Fields.{length-encode}
+use Rattle.block.specs.laws.Writes.{put-append}
+use Rattle.block.specs.laws.Booleans.{refuted}
 use Rattle.block.specs.Layout.{wellFormed}
-use Rattle.block.specs.LayoutLaws.{Free, Live, well-formed-parts}
+use Rattle.block.specs.laws.Soundness.{Free, Live, well-formed-parts}
 use Rattle.block.specs.declared.header.Header.{Header}
 
 -- five fields of 4, 2, 2, 4 and 4 bytes, written one behind the other: the form of a superblock and of a header

@@ -1,4 +1,6 @@
-pub mod Runs
-pub mod Headers
-pub mod Turns
-pub mod Examples
+-- What the proofs of several functions use.
+mod Runs
+mod Headers
+mod Turns
+-- Demand 2.
+pub mod Claims

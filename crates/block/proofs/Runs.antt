@@ -7,7 +7,7 @@ use native.Mathlib.Omega.{arith}
 use lib.ListN.{length, getD, set, take, drop, replicate, length-replicate, length-drop}
 use lib.Seq.{take-suc, take-suc-set, take-add, drop-drop, length-take-le}
 use Rattle.block.specs.Bytes.{put}
-use Rattle.block.specs.BytesLaws.{put-cons, put-nil, put-append, put-before, set-put-end, drop-put-above, part-put-below}
+use Rattle.block.specs.laws.Writes.{put-cons, put-nil, put-append, put-before, set-put-end, drop-put-above, part-put-below}
 
 -- filling: what is left to fill, after one byte more
 pub fill-turn : (l : List ℕ) (at n i b : ℕ) → i < n → at + n ≤ length l → put (set l (at + i) b) (at + (i + 1)) (replicate (n - (i + 1)) b) ≡ put l (at + i) (replicate (n - i) b)

@@ -1,16 +1,16 @@
 -- A turn of a loop that walks: the header at the place is examined, and the walk ends or goes on. Assumes nothing.
 use mathlib.Core.Path.{_≡_, refl, sym, ap, _∙_, subst}
 use mathlib.Core.List.{List}
-use mathlib.Core.Bool.{true, false}
+use mathlib.Core.Bool.{true, false, and-false}
 use Prim.Native.Nat.{ℕ, _+_, _≤_}
 use lib.ListN.{length}
 use lib.Dec.{leb}
 use borrow.Author.Tests.{eq-eqb, ne-eqb}
-use Rattle.block.specs.Tests.{and-false}
 use Rattle.block.specs.Layout.{examined}
-use Rattle.block.specs.LayoutLaws.{Live, sound-live, sound-extent, sound-end, examined-is-sound, examined-is-unsound}
+use Rattle.block.specs.laws.Soundness.{Live, sound-live, sound-extent, sound-end, examined-is-sound, examined-is-unsound}
 use Rattle.block.specs.Walk.{stopped, unsound, Search, walkFrom, fitting, metOf, Gathered, counting}
-use Rattle.block.specs.WalkLaws.{walk-unsound, walk-stopped, walk-next, used-live, used-other}
+use Rattle.block.specs.laws.Walks.{walk-unsound, walk-stopped, walk-next}
+use Rattle.block.specs.laws.Counting.{used-live, used-other}
 use Rattle.block.specs.declared.header.Header.{Header}
 use Rattle.block.specs.declared.header.Examined.the-variants as examining
 use Rattle.block.specs.declared.walk.Met.the-variants as met

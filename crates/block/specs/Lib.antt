@@ -2,8 +2,7 @@
 pub mod Bytes
 pub mod Layout
 pub mod Walk
+-- worked examples
+pub mod Examples
 -- laws
-pub mod Tests
-pub mod BytesLaws
-pub mod LayoutLaws
-pub mod WalkLaws
+pub mod laws

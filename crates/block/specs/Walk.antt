@@ -104,11 +104,6 @@ pub data OnWalk (image : List ℕ) : ℕ → Type 0 where
   first : OnWalk image 16
   next : (h : ℕ) → OnWalk image h → sound image h ≡ true → OnWalk image (h + extentAt image h)
 
--- a place before which a block ends: 16 with no block before it (0), or the end of the sound block at `before`
-pub data Behind (image : List ℕ) : ℕ → ℕ → Type 0 where
-  at-first : Behind image 0 16
-  at-later : (before : ℕ) → OnWalk image before → sound image before ≡ true → Behind image before (before + extentAt image before)
-
 -- the block at h is the lowest on the walk that is free and long enough
 pub record LowestFit (image : List ℕ) (need h : ℕ) : Type 0 where
   pub on-walk : OnWalk image h
@@ -120,15 +115,3 @@ pub record LowestFit (image : List ℕ) (need h : ℕ) : Type 0 where
 -- Demand 2: first fit takes the lowest block that fits.
 unfoldable pub TakesLowest : Type 0
 TakesLowest = (image : List ℕ) (need h : ℕ) → firstFit image need ≡ fit.At h → LowestFit image need h
-
--- an unsound header that the walk meets
-pub record MeetsUnsound (image : List ℕ) (h : ℕ) : Type 0 where
-  pub on-walk : OnWalk image h
-  pub before-end : h ≡ length image → ⊥
-  pub is-unsound : sound image h ≡ false
-
--- the block at `target` is on the walk, behind the one at `before`
-pub record MeetsBlock (image : List ℕ) (target before : ℕ) : Type 0 where
-  pub on-walk : OnWalk image target
-  pub is-sound : sound image target ≡ true
-  pub behind : Behind image before target

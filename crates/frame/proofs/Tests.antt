@@ -6,7 +6,7 @@ use lib.Dec.{eqb}
 use Rattle.frame.specs.Frame.{frameStart, sameFrame}
 use Rattle.frame.specs.Pointers.{goodTag}
 use Rattle.frame.specs.Tags.{firstHeld, lastHeld, tagMatches}
-use Rattle.frame.specs.TagLaws.{tag-test}
+use Rattle.frame.specs.laws.Tags.{tag-test}
 use Rattle.frame.specs.declared.parts.Pointer.{Pointer}
 
 module _ (s h size : ℕ) (p : Pointer) (good : goodTag s p ≡ true) where

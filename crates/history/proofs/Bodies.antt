@@ -6,9 +6,9 @@ use native.Mathlib.Omega.{arith}
 use lib.ListN.{length, take, drop, length-append, length-take, length-drop, take-append-drop}
 use lib.Seq.{drop-drop, take-append-le, drop-append-le, length-take-le}
 use Rattle.block.specs.Bytes.{put}
-use Rattle.block.specs.BytesLaws.{put-at, length-put}
+use Rattle.block.specs.laws.Writes.{put-at, length-put}
 use Rattle.block.specs.Layout.{liveHeader}
-use Rattle.block.specs.LayoutLaws.{length-header}
+use Rattle.block.specs.laws.Headers.{length-header}
 use Rattle.history.proofs.Gaps.{Block, extent, Layout, item, zeros, gapBytes, blockBytes, render, BlockOk, Remade, patched}
 use Rattle.history.proofs.Rendered.{length-gap, step-drop, step-take, put-parts, Part, part-after, block-cut}
 use Rattle.history.proofs.Focus.{Focus, focus-remade}

@@ -11,17 +11,18 @@ use lib.ListN.{length, take, length-append, length-replicate, take-append-drop, 
 use lib.Seq.{length-take-le}
 use lib.Dec.{ltb, eqb}
 use borrow.Author.Tests.{ltb-true, ltb-false}
-use Rattle.block.specs.Tests.{byBool, true-false}
+use Rattle.block.specs.laws.Booleans.{byBool, true-false}
 use Rattle.block.specs.Bytes.{put}
-use Rattle.block.specs.BytesLaws.{put-at}
+use Rattle.block.specs.laws.Writes.{put-at}
 use Rattle.block.specs.Layout.{freeHeader, liveHeader, extentAt}
-use Rattle.block.specs.LayoutLaws.{length-header, sound-in}
+use Rattle.block.specs.laws.Headers.{length-header}
+use Rattle.block.specs.laws.Soundness.{sound-in}
 use Rattle.block.specs.Walk.{firstFit, LowestFit}
-use Rattle.block.specs.WalkLaws.{first-fit-lowest, first-fit-unsound, first-fit-end}
+use Rattle.block.specs.laws.FirstFit.{first-fit-lowest, first-fit-unsound, first-fit-end}
 use Rattle.block.specs.declared.walk.Fit.{Fit}
 use Rattle.block.specs.declared.walk.Fit.the-variants as fit
 use Rattle.store.specs.Calls.{carved}
-use Rattle.store.specs.Written.{carved-whole, carved-rest}
+use Rattle.store.specs.laws.Allocate.{carved-whole, carved-rest}
 use Rattle.history.proofs.Gaps.{Block, extent, Layout, last, item, zeros, gapBytes, blockBytes, render, GapOk, BlockOk, lookup, blockAt, Placed, Remade, Clear}
 use Rattle.history.proofs.Looks.{gap, regap, gap-ok, gap-le, regap-ok, regap-size, look-first, look-regap, look-inside, look-before}
 use Rattle.history.proofs.Rendered.{after, gap-none, gap-some, gap-free, gap-extent, block-not-free, render-regap, gap-cut, Part}

@@ -1,7 +1,7 @@
 -- A place of a layout in its image: a gap's start, seen with the layout from there on. Assumes nothing.
 use Prim.Native.Nat.{ℕ, zero, suc, _+_, _≤_, _<_}
 use mathlib.Core.Path.{_≡_, refl, sym, ap, _∙_, subst}
-use mathlib.Core.Bool.{true, false, cond, _&&_}
+use mathlib.Core.Bool.{true, false, cond, _&&_, and-false}
 use mathlib.Core.List.{List, _++_}
 use mathlib.Core.Option.{Option, some}
 use native.Mathlib.Omega.{arith}
@@ -10,11 +10,11 @@ use lib.ListN.{length, take, drop, length-append}
 use lib.Seq.{take-at, drop-at, length-take-le}
 use lib.Dec.{ltb, eqb}
 use borrow.Author.Tests.{lt-leb, eqb-true, ltb-true, ltb-false}
-use Rattle.block.specs.Tests.{byBool, true-false, and-false}
+use Rattle.block.specs.laws.Booleans.{byBool, true-false}
 use Rattle.block.specs.Layout.{extentAt, isFree, sound}
-use Rattle.block.specs.LayoutLaws.{sound-in}
-use Rattle.block.specs.Walk.{walkFrom, walk, reaching, OnWalk, first, next, MeetsUnsound}
-use Rattle.block.specs.WalkLaws.{walk-begins, walk-next}
+use Rattle.block.specs.laws.Soundness.{sound-in}
+use Rattle.block.specs.Walk.{walkFrom, walk, reaching, OnWalk, first, next}
+use Rattle.block.specs.laws.Walks.{MeetsUnsound, walk-begins, walk-next}
 use Rattle.history.proofs.Gaps.{Block, extent, Layout, last, item, render, size, Ok, lookup, blockAt, Placed, Remade}
 use Rattle.history.proofs.Looks.{gap, look-rest, look-inside, look-early, look-under, clash}
 use Rattle.history.proofs.Rendered.{Part, length-render, gap-sound, gap-extent, block-sound, block-not-free, block-extent, part-next, over-item}

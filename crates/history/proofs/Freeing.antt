@@ -8,14 +8,14 @@ use native.Mathlib.Omega.{arith}
 use lib.ListN.{length, take, drop}
 use lib.Dec.{leb, eqb}
 use borrow.Author.Tests.{le-leb, eqb-true, eqb-false}
-use Rattle.block.specs.Tests.{byBool}
+use Rattle.block.specs.laws.Booleans.{byBool}
 use Rattle.block.specs.Layout.{freeHeader, sound, isFree, extentAt}
 use Rattle.block.specs.Walk.{stopped, walk, reaching, walkTo}
-use Rattle.block.specs.WalkLaws.{walk-stopped, walk-to-stopped}
+use Rattle.block.specs.laws.Walks.{walk-stopped}
+use Rattle.block.specs.laws.WalkTo.{walk-to-stopped}
 use Rattle.block.specs.declared.walk.Met.the-variants as met
 use Rattle.store.specs.Calls.{released, mergeStart, mergeEnd, merged}
-use Rattle.store.specs.Rows.{merge-start-here, merge-start-free, merge-end-last, merge-end-free, merge-end-live, released-merges}
-use Rattle.store.specs.Written.{merged-parts}
+use Rattle.store.specs.laws.Free.{merge-start-here, merge-start-free, merge-end-last, merge-end-free, merge-end-live, released-merges, merged-parts}
 use Rattle.store.specs.declared.release.Release.the-variants as release
 use Rattle.history.proofs.Gaps.{Block, extent, Layout, last, item, zeros, render, lookup, Remade}
 use Rattle.history.proofs.Looks.{gap, regap, gap-ok, gap-le, regap-ok, regap-size, look-regap, look-before}

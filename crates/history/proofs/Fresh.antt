@@ -4,7 +4,7 @@ use mathlib.Core.Path.{_≡_, sym, _∙_}
 use native.Mathlib.Omega.{arith}
 use lib.ListN.{length}
 use Rattle.store.specs.Calls.{fresh}
-use Rattle.store.specs.Written.{length-fresh, fresh-block}
+use Rattle.store.specs.laws.SetUp.{length-fresh, fresh-block}
 use Rattle.history.proofs.Gaps.{last, Placed}
 use Rattle.history.proofs.Looks.{gap-ok}
 use Rattle.history.proofs.Rendered.{gap-some}

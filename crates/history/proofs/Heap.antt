@@ -9,7 +9,7 @@ use native.Mathlib.Omega.{arith}
 use lib.ListN.{length, getD}
 use lib.Dec.{eqb}
 use borrow.Author.Tests.{eq-eqb, ne-eqb, eqb-true, eqb-false}
-use Rattle.block.specs.Tests.{byBool}
+use Rattle.block.specs.laws.Booleans.{byBool}
 use Rattle.frame.specs.Pointers.{unpack}
 use Rattle.history.specs.Heap.{Object, Heap, holds, ownerOf, change, without}
 use Rattle.history.specs.History.{In, Pairwise, headerOf, known}

@@ -9,14 +9,16 @@ use lib.ListN.{length, take, drop, replicate, take-append-drop, length-append, l
 use borrow.Author.Tests.{eq-eqb}
 use Rattle.frame.specs.Pointers.{unpack, pack, goodTag}
 use Rattle.frame.specs.Tags.{pointerTo, usedEntries}
-use Rattle.frame.specs.ObjectLaws.{PointerOf, unpack-address, own-pointer}
+use Rattle.frame.specs.laws.Objects.{PointerOf, unpack-address, own-pointer}
 use Rattle.block.specs.Layout.{superblock, superblockGood, slotExponent, isLive, extentAt, sizeAt}
-use Rattle.block.specs.LayoutLaws.{superblock-front, exponent-front}
+use Rattle.block.specs.laws.Superblock.{superblock-front, exponent-front}
 use Rattle.block.specs.declared.header.Header.{Header}
 use Rattle.store.specs.State.{State, state, demand}
 use Rattle.store.specs.Calls.{fresh, cleared, opening, headerPlace, leadsBack, located, accessed}
-use Rattle.store.specs.CallLaws.{Settable, opening-passes, Stands, Located, located-object, located-leads, located-at, accessed-at}
-use Rattle.store.specs.Written.{fresh-front}
+use Rattle.store.specs.laws.SetUp.{Settable, fresh-front}
+use Rattle.store.specs.laws.Opening.{opening-passes}
+use Rattle.store.specs.laws.TagReading.{Stands, Located, located-object, located-leads, located-at}
+use Rattle.store.specs.laws.Access.{accessed-at}
 use Rattle.store.specs.declared.answer.Answer.the-variants.{Accepted}
 use Rattle.store.specs.declared.answer.Refusal.the-variants.{OutOfBounds}
 use Rattle.history.specs.Heap.{Object, Heap, start, holds, ownerOf, inside}

@@ -6,7 +6,7 @@ use mathlib.Core.Option.{Option, none, some}
 use native.Mathlib.Omega.{arith}
 use lib.Dec.{eqb}
 use borrow.Author.Tests.{eq-eqb, ne-eqb, eqb-true}
-use Rattle.block.specs.Tests.{byBool}
+use Rattle.block.specs.laws.Booleans.{byBool}
 use Rattle.history.proofs.Gaps.{Block, extent, Layout, last, item, size, GapOk, Ok, lookup}
 
 -- the first gap

@@ -7,16 +7,18 @@ use mathlib.Core.Option.{none}
 use native.Mathlib.Omega.{arith}
 use lib.ListN.{length, drop, getD, length-replicate, getD-replicate, List·getD-append}
 use lib.Seq.{getD-drop, drop-length}
-use Rattle.block.specs.Tests.{true-false}
+use Rattle.block.specs.laws.Booleans.{true-false}
 use Rattle.block.specs.Layout.{freeHeader, sound, isFree, isLive, extentAt, sizeAt}
-use Rattle.block.specs.LayoutLaws.{length-header, sound-in}
-use Rattle.block.specs.Walk.{countBlocks, walkTo, MeetsBlock}
-use Rattle.block.specs.WalkLaws.{walk-to-meets, count-unsound}
+use Rattle.block.specs.laws.Headers.{length-header}
+use Rattle.block.specs.laws.Soundness.{sound-in}
+use Rattle.block.specs.Walk.{countBlocks, walkTo}
+use Rattle.block.specs.laws.WalkTo.{MeetsBlock, walk-to-meets}
+use Rattle.block.specs.laws.Counting.{count-unsound}
 use Rattle.block.specs.declared.walk.Counted.the-variants as counted
 use Rattle.block.specs.declared.walk.Met.{Met}
 use Rattle.block.specs.declared.walk.Met.the-variants as met
 use Rattle.store.specs.Calls.{released}
-use Rattle.store.specs.Rows.{released-lost}
+use Rattle.store.specs.laws.Free.{released-lost}
 use Rattle.store.specs.declared.answer.Refusal.the-variants.{Unsound}
 use Rattle.store.specs.declared.release.Release.the-variants as release
 use Rattle.history.proofs.Gaps.{Block, extent, Layout, last, item, zeros, render, blockAt, Placed}

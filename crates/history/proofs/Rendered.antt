@@ -8,10 +8,11 @@ use lib.ListN.{length, take, drop, length-append, length-replicate, take-append-
 use lib.Seq.{take-at, drop-at, take-add, drop-drop}
 use lib.Dec.{eqb}
 use Rattle.block.specs.Bytes.{put}
-use Rattle.block.specs.BytesLaws.{take-put, drop-put}
+use Rattle.block.specs.laws.Writes.{take-put, drop-put}
 use Rattle.block.specs.declared.header.Header.{Header}
 use Rattle.block.specs.Layout.{fields, freeHeader, liveHeader, headerAt, extentAt, sizeAt, sound, isFree, isLive}
-use Rattle.block.specs.LayoutLaws.{length-header, headerAt-drop, sound-free-at, sound-live-at}
+use Rattle.block.specs.laws.Headers.{length-header, headerAt-drop}
+use Rattle.block.specs.laws.Soundness.{sound-free-at, sound-live-at}
 use Rattle.history.proofs.Gaps.{Block, extent, Layout, last, item, zeros, gapBytes, blockBytes, render, size, GapOk, Ok}
 use Rattle.history.proofs.Looks.{gap, regap, gap-long, gap-of-ok, gap-le}
 

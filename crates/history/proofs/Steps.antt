@@ -1,7 +1,7 @@
 -- Each call keeps the invariant, and what it answers. Assumes nothing.
 use Prim.Native.Nat.{ℕ, _+_, _^_, _≤_, _<_}
 use mathlib.Core.Path.{_≡_, refl, sym, ap, _∙_, subst}
-use mathlib.Core.Bool.{true, false, cond, _&&_}
+use mathlib.Core.Bool.{true, false, cond, _&&_, and-true, and-false}
 use mathlib.Core.List.{List, [], _∷_, _++_}
 use mathlib.Core.Option.{Option, none, some}
 use native.Mathlib.Omega.{arith}
@@ -12,21 +12,28 @@ use lib.IntN.{ℤ}
 use borrow.Author.Tests.{eqb-true, eqb-false, leb-true, ltb-true}
 use Rattle.frame.specs.Pointers.{unpack, pack, goodTag, reach, moved}
 use Rattle.frame.specs.Tags.{pointerTo}
-use Rattle.frame.specs.ObjectLaws.{unpack-address, own-pointer, moved-pointer, own-again}
+use Rattle.frame.specs.laws.Objects.{unpack-address, own-pointer, moved-pointer, own-again}
 use Rattle.frame.specs.declared.parts.Pointer.{Pointer}
 use Rattle.frame.specs.declared.parts.Moved.{Moved}
 use Rattle.frame.specs.declared.parts.Moved.the-variants.{To, Outside}
-use Rattle.block.specs.Tests.{byBool, and-true, and-false, and-left, and-right}
+use Rattle.block.specs.laws.Booleans.{byBool, and-left, and-right}
 use Rattle.block.specs.Bytes.{encode, put}
-use Rattle.block.specs.BytesLaws.{length-encode, length-put}
+use Rattle.block.specs.laws.Fields.{length-encode}
+use Rattle.block.specs.laws.Writes.{length-put}
 use Rattle.block.specs.Layout.{sizeAt}
 use Rattle.store.specs.State.{State, state, Outcome, outcome, returned, refuse}
 use Rattle.store.specs.Calls.{entryFree, carved, noted, merged, located, movedBy, goodWidth, allocate, move, load, store, fill, copy, free}
-use Rattle.store.specs.CallLaws.{Located, located-parts}
-use Rattle.store.specs.Claims.{allocates, frees, moves, loads, stores, fills, copies}
-use Rattle.store.specs.Rows.{load-leaves, moved-bad, moved-out, moved-in}
-use Rattle.store.specs.Written.{entry-is-free}
-use Rattle.store.specs.Outcomes.{through, allocate-empty, allocate-full, allocate-at, move-answer, store-through, store-width, store-large, fill-through, fill-empty, copy-through, copy-empty, free-unread, free-off-base, free-lost, free-merges}
+use Rattle.store.specs.laws.TagReading.{Located, located-parts}
+use Rattle.store.specs.Step.{allocates, frees, moves, loads, stores, fills, copies}
+use Rattle.store.specs.laws.Load.{load-leaves}
+use Rattle.store.specs.laws.Move.{moved-bad, moved-out, moved-in, move-outcome}
+use Rattle.store.specs.laws.Entries.{entry-is-free}
+use Rattle.store.specs.laws.Access.{through}
+use Rattle.store.specs.laws.Allocate.{allocate-refuses-empty, allocate-refuses-full, allocate-at}
+use Rattle.store.specs.laws.Store.{store-through, store-refuses-width, store-refuses-large}
+use Rattle.store.specs.laws.Fill.{fill-through, fill-refuses-empty}
+use Rattle.store.specs.laws.Copy.{copy-through, copy-refuses-empty}
+use Rattle.store.specs.laws.Free.{free-unread, free-refuses-base, free-lost, free-merges}
 use Rattle.store.specs.declared.answer.Refusal.{Refusal}
 use Rattle.store.specs.declared.answer.Refusal.the-variants.{Empty, Unsound, NoSpace, NotBase}
 use Rattle.store.specs.declared.answer.Answer.{Answer}
@@ -136,11 +143,11 @@ module _ {s L : ℕ} {x : State} {heap : Heap} (i : Invariant s L x heap) where
   allocated size type fits =
       byBool (ltb 0 size)
       (λ e. go e (fitted (x .image) (i .laid .layout) (i .laid .placed) size type (ltb-true 0 size e) fits))
-      (λ e. empty e (allocate-empty s x (opens i) size type e))
+      (λ e. empty e (allocate-refuses-empty s x (opens i) size type e))
     where
       go : ltb 0 size ≡ true → Fitted (x .image) (i .laid .layout) size type → Allocated s L x heap i size type
       go e (room h c) = new-given size type h c e
-      go e (full f n) = no-room (allocate-full s x (opens i) size type e f) n
+      go e (full f n) = no-room (allocate-refuses-full s x (opens i) size type e f) n
 
   pub allocate-step : (size type : ℕ) → type < 2 ^ 16
       → Invariant s L (allocate size type x .after) (hear heap (allocates size type) (allocate size type x .answer))
@@ -228,7 +235,7 @@ module _ {s L : ℕ} {x : State} {heap : Heap} (i : Invariant s L x heap) where
       read (Accepted h) e =
           byBool (eqb (unpack p .address) (h + 16))
           (λ t. base h e t (blockAt (i .laid .layout) h) refl)
-          (λ t. declined NotBase (free-off-base s x (opens i) p h e t)
+          (λ t. declined NotBase (free-refuses-base s x (opens i) p h e t)
           (λ o m a. eqb-false _ _ t (answer-found p o m a .1 ∙ ap (λ (k : ℕ). k + 16) (answer-only p h o m a e))))
 
   pub free-step : (p : ℕ) → p < 2 ^ 64 → Invariant s L (free p x .after) (hear heap (frees p) (free p x .answer))
@@ -303,7 +310,7 @@ module _ {s L : ℕ} {x : State} {heap : Heap} (i : Invariant s L x heap) where
 
   pub move-step : (p : ℕ) (d : ℤ) → Invariant s L (move p d x .after) (hear heap (moves p d) (move p d x .answer))
   move-step p d =
-      rw (move-answer s x (opens i) p d)
+      rw (move-outcome s x (opens i) p d)
       (byBool (goodTag s (unpack p))
       (λ t. move-to p d t (moved (unpack p) (reach s (unpack p)) d) refl)
       (λ t. move-refused p d t))
@@ -381,8 +388,8 @@ module _ {s L : ℕ} {x : State} {heap : Heap} (i : Invariant s L x heap) where
       (λ l.
       rw (store-through s x (opens i) p width v (unpack p .address) (inside o p width) g l (accesses i p o width e), g, l, e)
       (wrote-through p o width (encode width v) e (length-encode width v)))
-      (λ l. rw (store-large s x (opens i) p width v g l, g, l) i))
-      (λ g. rw (store-width s x (opens i) p width v g, g) i)
+      (λ l. rw (store-refuses-large s x (opens i) p width v g l, g, l) i))
+      (λ g. rw (store-refuses-width s x (opens i) p width v g, g) i)
 
   pub fill-step : (p n byte : ℕ) (o : Object) → ownerOf heap p ≡ some o
       → Invariant s L (fill p n byte x .after) (hear heap (fills p n byte) (fill p n byte x .answer))
@@ -392,7 +399,7 @@ module _ {s L : ℕ} {x : State} {heap : Heap} (i : Invariant s L x heap) where
       (λ l.
       rw (fill-through s x (opens i) p n byte (unpack p .address) (inside o p n) l (accesses i p o n e), l, e)
       (wrote-through p o n (replicate n byte) e (length-replicate n byte)))
-      (λ l. rw (fill-empty s x (opens i) p n byte l, l) i)
+      (λ l. rw (fill-refuses-empty s x (opens i) p n byte l, l) i)
 
   -- the source's bytes are as many
   length-bytes : (p : ℕ) (o : Object) (n : ℕ) → ownerOf heap p ≡ some o → inside o p n ≡ true → length (bytesAt o p n) ≡ n
@@ -418,4 +425,4 @@ module _ {s L : ℕ} {x : State} {heap : Heap} (i : Invariant s L x heap) where
       (λ l.
       rw (copy-through s x (opens i) t p n (unpack p .address) (inside o t n) (inside o′ p n) l (accesses i t o n e) (accesses i p o′ n f), l, f)
       (copied-through t p o o′ n e f))
-      (λ l. rw (copy-empty s x (opens i) t p n l, l) i)
+      (λ l. rw (copy-refuses-empty s x (opens i) t p n l, l) i)

@@ -10,10 +10,11 @@ use lib.Seq.{getD-set-same, getD-set-other}
 use lib.Dec.{leb, eqb}
 use borrow.Author.Tests.{eq-eqb, ne-eqb, eqb-true, eqb-false, leb-true, leb-false}
 use Rattle.frame.specs.Tags.{wrapper, usedEntries, entryOf}
-use Rattle.frame.specs.TagLaws.{entries-apart, object-entry-used, by-frame}
-use Rattle.block.specs.Tests.{byBool}
+use Rattle.frame.specs.laws.Wrappers.{entries-apart, object-entry-used}
+use Rattle.frame.specs.laws.Tags.{by-frame}
+use Rattle.block.specs.laws.Booleans.{byBool}
 use Rattle.store.specs.Calls.{noted}
-use Rattle.store.specs.Written.{noted-small, noted-large}
+use Rattle.store.specs.laws.Entries.{noted-small, noted-large}
 use Rattle.history.specs.Heap.{Object, Heap}
 use Rattle.history.proofs.Heap.{find, none-some, some-same}
 

@@ -11,19 +11,24 @@ use lib.Dec.{ltb}
 use borrow.Author.Tests.{lt-ltb, ltb-true, leb-false}
 use Rattle.frame.specs.Pointers.{unpack, goodTag}
 use Rattle.frame.specs.Tags.{isSmall, entryOf}
-use Rattle.block.specs.Tests.{and-left, and-right, and-both, true-false}
+use Rattle.block.specs.laws.Booleans.{and-left, and-right, and-both, true-false}
 use Rattle.block.specs.Bytes.{decode, field}
-use Rattle.block.specs.BytesLaws.{field-bytes}
+use Rattle.block.specs.laws.Fields.{field-bytes}
 use Rattle.block.specs.Layout.{extentAt, sizeAt}
 use Rattle.block.specs.Walk.{countBlocks}
 use Rattle.block.specs.declared.walk.Counted.{Counted}
 use Rattle.block.specs.declared.walk.Counted.the-variants as counted
 use Rattle.store.specs.State.{State, Outcome, IsAccepted, returned, value, usageNumber}
 use Rattle.store.specs.Calls.{setUp, allocate, load, store, free, fill, copy, tally, goodWidth, located, leadsBack, headerPlace}
-use Rattle.store.specs.CallLaws.{demand-iff, refused-some}
-use Rattle.store.specs.Claims.{Call, allocates, frees, moves, loads, stores, fills, copies, step}
-use Rattle.store.specs.Rows.{tally-counts}
-use Rattle.store.specs.Outcomes.{set-up-accepted, through-iff, load-through, store-through, fill-through, copy-through}
+use Rattle.store.specs.laws.Refusals.{demand-iff, refused-some}
+use Rattle.store.specs.Step.{Call, allocates, frees, moves, loads, stores, fills, copies, step}
+use Rattle.store.specs.laws.Tally.{tally-counts}
+use Rattle.store.specs.laws.SetUp.{set-up-accepted}
+use Rattle.store.specs.laws.Access.{through-iff}
+use Rattle.store.specs.laws.Load.{load-through}
+use Rattle.store.specs.laws.Store.{store-through}
+use Rattle.store.specs.laws.Fill.{fill-through}
+use Rattle.store.specs.laws.Copy.{copy-through}
 use Rattle.store.specs.declared.answer.Answer.the-variants.{Accepted}
 use Rattle.store.specs.declared.answer.Refusal.the-variants.{OutOfBounds}
 use Rattle.history.specs.Heap.{Object, Heap, start, holds, ownerOf, inside, bytesAt, hear, HearsNoOther}

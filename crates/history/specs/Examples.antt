@@ -12,7 +12,7 @@ use Rattle.block.specs.Layout.{superblock, superblockGood, header, headerAt, we
 use Rattle.block.specs.Walk.{walkIn, walkFrom, walk, fitOf, firstFit, metOf, walkTo}
 use Rattle.store.specs.State.{state}
 use Rattle.store.specs.Calls.{setUpChecks, fresh, setUp, opening, entryFree, fitAnswer, allocateChecks, carved, noted, allocate, headerPlace, verified, leadsBack, located, inBody, accessed, movedAnswer, moveAnswer, move, loadAnswer, load, storeChecks, store, fillChecks, fill, copyChecks, copy, mergeEnd, mergeStart, released, freeChecks, releasedAt, freeRelease, merged, freed, free}
-use Rattle.store.specs.Claims.{Call, allocates, frees, moves, loads, stores, fills, copies}
+use Rattle.store.specs.Step.{Call, allocates, frees, moves, loads, stores, fills, copies}
 use Rattle.history.specs.Heap.{member, ownerOf, inside, change, without, write, copied, hear}
 use Rattle.history.specs.History.{Configuration, begun, after, allAdmitted, known}
 

@@ -10,7 +10,7 @@ use Rattle.frame.specs.Pointers.{unpack}
 use Rattle.block.specs.Bytes.{encode, put}
 use Rattle.store.specs.State.{returned, value}
 use Rattle.store.specs.Calls.{goodWidth}
-use Rattle.store.specs.Claims.{Call, allocates, frees, moves, loads, stores, fills, copies}
+use Rattle.store.specs.Step.{Call, allocates, frees, moves, loads, stores, fills, copies}
 use Rattle.store.specs.declared.answer.Answer.{Answer}
 
 -- A live object: allocate's answer, the size, the set of its pointers, and as many bytes as the size.

@@ -16,7 +16,7 @@ use Rattle.block.specs.Layout.{slotExponent, extentAt, sizeAt, isFree, isLive}
 use Rattle.block.specs.Walk.{OnWalk}
 use Rattle.store.specs.State.{State, Outcome, IsAccepted, returned, value, usageNumber}
 use Rattle.store.specs.Calls.{setUp, allocate, load, store, free, fill, copy, tally, goodWidth, leadsBack, headerPlace}
-use Rattle.store.specs.Claims.{Call, allocates, frees, moves, loads, stores, fills, copies, step}
+use Rattle.store.specs.Step.{Call, allocates, frees, moves, loads, stores, fills, copies, step}
 use Rattle.history.specs.Heap.{Object, Heap, start, holds, ownerOf, inside, bytesAt, hear}
 
 -- Lists.

@@ -4,12 +4,12 @@ use Prim.Native.Nat.{ℕ, _+_, _^_, _≤_, _<_}
 use native.Mathlib.Omega.{arith}
 use lib.ListN.{length}
 use Rattle.frame.specs.Tags.{wrapper, entryOf}
-use Rattle.block.specs.LayoutLaws.{sound-low, sound-end}
+use Rattle.block.specs.laws.Soundness.{sound-low, sound-end}
 use Rattle.block.specs.Walk.{firstFit}
-use Rattle.block.specs.WalkLaws.{first-fit-lowest}
+use Rattle.block.specs.laws.FirstFit.{first-fit-lowest}
 use Rattle.block.specs.declared.walk.Fit.the-variants as fit
 use Rattle.store.specs.State.{State}
-use Rattle.store.specs.CallLaws.{Open, entry-in}
+use Rattle.store.specs.laws.Opening.{Open, entry-in}
 
 -- what an object's tag and entry ask for, where it lies in an open image
 pub entry-needs : (x : State) (s h size : ℕ) → Open x s → 16 ≤ h → h + 16 + size ≤ length (x .image)

@@ -9,19 +9,30 @@ use lib.Seq.{drop-at, length-take-le}
 use borrow.Author.Tests.{eq-eqb}
 use Rattle.frame.specs.Pointers.{unpack, pack}
 use Rattle.frame.specs.Tags.{pointerTo, usedEntries}
-use Rattle.frame.specs.TagLaws.{object-entry-used}
-use Rattle.frame.specs.ObjectLaws.{own-pointer}
+use Rattle.frame.specs.laws.Wrappers.{object-entry-used}
+use Rattle.frame.specs.laws.Objects.{own-pointer}
 use Rattle.block.specs.Bytes.{encode, put}
-use Rattle.block.specs.BytesLaws.{length-encode, length-put}
+use Rattle.block.specs.laws.Fields.{length-encode}
+use Rattle.block.specs.laws.Writes.{length-put}
 use Rattle.block.specs.Layout.{slotExponent, sizeAt, extentAt}
-use Rattle.block.specs.LayoutLaws.{sound-low, sound-end, sound-live-at}
+use Rattle.block.specs.laws.Soundness.{sound-low, sound-end, sound-live-at}
 use Rattle.block.specs.declared.header.Header.{Header}
 use Rattle.store.specs.State.{State, state, Outcome, IsAccepted, returned, value, usageNumber, liveObjects, liveBytes, freeBytes}
 use Rattle.store.specs.Calls.{setUpChecks, setUp, fresh, cleared, allocateChecks, allocate, carved, noted, freeRelease, free, move, moveAnswer, load, loadAnswer, storeChecks, store, fillChecks, fill, copyChecks, copy, tally}
-use Rattle.store.specs.CallLaws.{refused-some, Settable, settable-parts, Open, Stands, Located, located-object, located-leads, located-at, Allocates, allocate-parts, Frees, free-parts, store-parts, fill-parts, copy-parts}
-use Rattle.store.specs.Claims.{Call, allocates, frees, moves, loads, stores, fills, copies, step, RefusalsKeep, KeepsShape, ShapesKept, PointsBack, LeadsBack}
-use Rattle.store.specs.Rows.{set-up-declined, set-up-done, allocate-declined, allocate-done, free-declined, free-done, load-leaves, move-leaves, store-declined, store-done, fill-declined, fill-done, copy-declined, copy-done}
-use Rattle.store.specs.Written.{length-fresh, length-noted, noted-beyond, noted-entry, length-carved, carved-exponent, CarvedHeader, carved-header, length-merged}
+use Rattle.store.specs.laws.Refusals.{refused-some}
+use Rattle.store.specs.laws.SetUp.{Settable, settable-parts, set-up-declined, set-up-done, length-fresh}
+use Rattle.store.specs.laws.Opening.{Open}
+use Rattle.store.specs.laws.TagReading.{Stands, Located, located-object, located-leads, located-at}
+use Rattle.store.specs.laws.Allocate.{Allocates, allocate-parts, allocate-declined, allocate-done, length-carved, carved-exponent, CarvedHeader, carved-header}
+use Rattle.store.specs.laws.Free.{Frees, free-parts, free-declined, free-done, length-merged}
+use Rattle.store.specs.laws.Store.{store-parts, store-declined, store-done}
+use Rattle.store.specs.laws.Fill.{fill-parts, fill-declined, fill-done}
+use Rattle.store.specs.laws.Copy.{copy-parts, copy-declined, copy-done}
+use Rattle.store.specs.Step.{Call, allocates, frees, moves, loads, stores, fills, copies, step}
+use Rattle.store.specs.Claims.{RefusalsKeep, KeepsShape, ShapesKept, PointsBack, LeadsBack}
+use Rattle.store.specs.laws.Load.{load-leaves}
+use Rattle.store.specs.laws.Move.{move-leaves}
+use Rattle.store.specs.laws.Entries.{length-noted, noted-beyond, noted-entry}
 use Rattle.store.specs.declared.answer.Answer.{Answer}
 use Rattle.store.specs.declared.answer.Answer.the-variants.{Accepted, Refused}
 use Rattle.store.specs.declared.release.Release.{Release}

@@ -1,6 +1,6 @@
 -- Set-up: ranges, clearing entries, laying out a fresh image. Assumes nothing.
 use mathlib.Core.Path.{_≡_, refl, sym, ap, _∙_}
-use mathlib.Core.Bool.{true, false}
+use mathlib.Core.Bool.{true, false, and-false}
 use mathlib.Core.List.{List, [], _++_, append-nil}
 use Prim.Native.Nat.{ℕ, suc, _+_, _-_, _≤_, _<_}
 use native.Mathlib.Numerals.{add-one}
@@ -9,10 +9,11 @@ use lib.ListN.{length, drop, getD, set, replicate, length-replicate, replicate-a
 use lib.Seq.{drop-cons, set-at, append-snoc}
 use borrow.Author.Tests.{le-leb, lt-leb}
 use Rattle.block.specs.Bytes.{put}
-use Rattle.block.specs.BytesLaws.{put-at}
+use Rattle.block.specs.laws.Writes.{put-at}
 use Rattle.block.specs.Layout.{within, superblock, freeHeader}
-use Rattle.block.specs.LayoutLaws.{length-header, length-superblock}
-use Rattle.block.specs.Tests.{and-false, and-both}
+use Rattle.block.specs.laws.Headers.{length-header}
+use Rattle.block.specs.laws.Superblock.{length-superblock}
+use Rattle.block.specs.laws.Booleans.{and-both}
 use Rattle.store.specs.Calls.{fresh}
 
 -- ranges

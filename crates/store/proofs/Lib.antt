@@ -1,5 +1,4 @@
 -- What the proofs of several functions use.
-mod Locating
 mod Fresh
 mod Carving
 mod Merging

@@ -1,6 +1,6 @@
 -- Free, way out by way out: where the merged block starts and ends, and the bytes of it. Assumes nothing.
 use mathlib.Core.Path.{_≡_, refl, sym, ap, _∙_}
-use mathlib.Core.Bool.{true, false}
+use mathlib.Core.Bool.{true, false, and-false}
 use mathlib.Core.List.{List, _++_}
 use Prim.Native.Nat.{ℕ, _+_, _-_, _≤_, _<_}
 use native.Mathlib.Omega.{arith}
@@ -8,15 +8,15 @@ use lib.Dec.{ltb}
 use lib.ListN.{length, replicate, length-replicate, replicate-append-replicate}
 use borrow.Author.Tests.{le-leb, lt-leb, le-ltb, eq-eqb, ne-eqb}
 use Rattle.block.specs.Bytes.{field, put}
-use Rattle.block.specs.BytesLaws.{put-over}
+use Rattle.block.specs.laws.Writes.{put-over}
 use Rattle.block.specs.Layout.{freeHeader, sound, extentAt, kindAt}
-use Rattle.block.specs.LayoutLaws.{kind-field, length-header, sound-in}
-use Rattle.block.specs.Tests.{and-false}
-use Rattle.block.specs.Walk.{walkTo, Behind, at-first, at-later, MeetsBlock}
-use Rattle.block.specs.WalkLaws.{walk-to-meets}
+use Rattle.block.specs.laws.Headers.{kind-field, length-header}
+use Rattle.block.specs.laws.Soundness.{sound-in}
+use Rattle.block.specs.Walk.{walkTo}
+use Rattle.block.specs.laws.WalkTo.{Behind, at-first, at-later, MeetsBlock, walk-to-meets}
 use Rattle.block.specs.declared.walk.Met.the-variants as met
 use Rattle.store.specs.Calls.{mergeStart, released, merged}
-use Rattle.store.specs.Rows.{merge-start-here, merge-start-free, merge-end-last, merge-end-free, merge-end-live, released-merges, released-unsound}
+use Rattle.store.specs.laws.Free.{merge-start-here, merge-start-free, merge-end-last, merge-end-free, merge-end-live, released-merges, released-unsound}
 use Rattle.store.specs.declared.answer.Refusal.the-variants.{Unsound}
 use Rattle.store.specs.declared.release.Release.the-variants as release
 

@@ -10,29 +10,10 @@ use Rattle.frame.specs.Tags.{pointerTo, usedEntries}
 use Rattle.block.specs.Layout.{slotExponent, sizeAt}
 use Rattle.block.specs.Walk.{firstFit}
 use Rattle.block.specs.declared.walk.Fit.the-variants as fit
-use Rattle.store.specs.State.{State, Outcome, IsAccepted, value, usageNumber, liveObjects, liveBytes, freeBytes}
-use Rattle.store.specs.Calls.{setUp, allocate, move, load, store, free, fill, copy, tally, leadsBack, headerPlace, located}
+use Rattle.store.specs.State.{State, IsAccepted, value, usageNumber, liveObjects, liveBytes, freeBytes}
+use Rattle.store.specs.Calls.{setUp, allocate, tally, leadsBack, headerPlace, located}
+use Rattle.store.specs.Step.{Call, step}
 use Rattle.store.specs.declared.answer.Answer.the-variants.{Accepted}
-
--- a call with its arguments
-pub data Call : Type 0 where
-  allocates : (size type : ℕ) → Call
-  frees : (pointer : ℕ) → Call
-  moves : (pointer : ℕ) (distance : ℤ) → Call
-  loads : (pointer width : ℕ) → Call
-  stores : (pointer width value : ℕ) → Call
-  fills : (pointer n byte : ℕ) → Call
-  copies : (target source n : ℕ) → Call
-
--- what it answers and leaves
-abbrev pub step : Call → State → Outcome
-step (allocates size type) x = allocate size type x
-step (frees p) x = free p x
-step (moves p d) x = move p d x
-step (loads p width) x = load p width x
-step (stores p width v) x = store p width v x
-step (fills p n byte) x = fill p n byte x
-step (copies t p n) x = copy t p n x
 
 -- Demand 1: a refusal leaves image and table as they were, and every value is 0.
 pub record RefusalsKeep : Type 0 where

@@ -1,12 +1,10 @@
 -- definitions
 pub mod State
 pub mod Calls
+pub mod Step
 -- claims
 pub mod Claims
--- laws
-pub mod CallLaws
-pub mod Rows
-pub mod Written
-pub mod Outcomes
 -- worked examples
 pub mod Examples
+-- laws
+pub mod laws

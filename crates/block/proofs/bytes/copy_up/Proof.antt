@@ -6,7 +6,7 @@ use native.Mathlib.Omega.{arith}
 use borrow.Author.Needs.{needs}
 use lib.ListN.{length, take, drop}
 use Rattle.block.specs.Bytes.{put}
-use Rattle.block.specs.BytesLaws.{put-nil}
+use Rattle.block.specs.laws.Writes.{put-nil}
 use Rattle.block.proofs.Runs.{up-turn}
 use Rattle.block.proofs.bytes.copy_up.Statement.{statement}
 use Rattle.block.proofs.bytes.copy_up.Tie as tie

@@ -2,7 +2,7 @@
 use Prim.Native.Nat.{suc}
 use native.Mathlib.Omega.{arith}
 use borrow.Author.Needs.{needs}
-use Rattle.block.specs.BytesLaws.{field-step, field-zero}
+use Rattle.block.specs.laws.Fields.{field-step, field-zero}
 use Rattle.block.proofs.bytes.read1.Statement.{statement}
 use Rattle.block.proofs.bytes.read1.Tie as tie
 

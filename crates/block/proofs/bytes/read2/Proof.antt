@@ -1,7 +1,7 @@
 -- `block::bytes::read2` meets its contract: a field in two halves. Assumes nothing.
 use Prim.Native.Nat.{_+_}
 use native.Mathlib.Omega.{arith}
-use Rattle.block.specs.BytesLaws.{field-add, field-bound}
+use Rattle.block.specs.laws.Fields.{field-add, field-bound}
 use borrow.Author.Needs.{needs}
 use Rattle.block.proofs.bytes.read2.Statement.{statement}
 use Rattle.block.proofs.bytes.read2.Tie as tie

@@ -4,7 +4,7 @@ use Prim.Native.Nat.{ℕ, _-_, _≤_}
 use native.Mathlib.Omega.{arith}
 use lib.ListN.{length, take, drop, length-set}
 use Rattle.block.specs.Bytes.{put}
-use Rattle.block.specs.BytesLaws.{put-nil}
+use Rattle.block.specs.laws.Writes.{put-nil}
 use Rattle.block.proofs.Runs.{scatter-turn}
 use Rattle.block.proofs.bytes.scatter.Statement.{statement}
 use Rattle.block.proofs.bytes.scatter.Tie as tie

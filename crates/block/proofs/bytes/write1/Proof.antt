@@ -2,7 +2,7 @@
 use mathlib.Core.Path.{sym}
 use borrow.Author.Needs.{needs}
 use Rattle.block.specs.Bytes.{encode}
-use Rattle.block.specs.BytesLaws.{put-sets}
+use Rattle.block.specs.laws.Writes.{put-sets}
 use Rattle.block.proofs.bytes.write1.Statement.{statement}
 use Rattle.block.proofs.bytes.write1.Tie as tie
 

@@ -3,7 +3,7 @@ use Prim.Native.Nat.{ℕ, _+_, _/_}
 use mathlib.Core.Path.{ap, _∙_}
 use mathlib.Core.List.{List}
 use Rattle.block.specs.Bytes.{encode, put}
-use Rattle.block.specs.BytesLaws.{put-halves}
+use Rattle.block.specs.laws.Writes.{put-halves}
 use borrow.Author.Needs.{needs}
 use Rattle.block.proofs.bytes.write2.Statement.{statement}
 use Rattle.block.proofs.bytes.write2.Tie as tie

@@ -2,7 +2,8 @@
 use mathlib.Core.Path.{_≡_, sym, ap, _∙_}
 use native.Mathlib.Omega.{arith}
 use Rattle.block.specs.Layout.{headerAt, wellFormed, sound}
-use Rattle.block.specs.LayoutLaws.{headerAt-fitting, sound-by, unsound-low, unsound-past, examined-sound, examined-unsound}
+use Rattle.block.specs.laws.Headers.{headerAt-fitting}
+use Rattle.block.specs.laws.Soundness.{sound-by, unsound-low, unsound-past, examined-sound, examined-unsound}
 use Rattle.block.specs.declared.header.Header.{Header}
 use Rattle.block.specs.declared.header.Examined.the-variants as examining
 use borrow.Author.Needs.{needs}

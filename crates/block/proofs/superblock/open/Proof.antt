@@ -1,7 +1,7 @@
 -- `block::superblock::open` meets its contract. Assumes nothing.
 use mathlib.Core.Path.{sym, ap, _∙_}
 use native.Mathlib.Omega.{arith}
-use Rattle.block.specs.LayoutLaws.{superblock-good, opened-good, opened-bad}
+use Rattle.block.specs.laws.Superblock.{superblock-good, opened-good, opened-bad}
 use Rattle.block.specs.declared.superblock.Opened.the-variants as opening
 use borrow.Author.Needs.{needs}
 use Rattle.block.proofs.superblock.open.Statement.{statement}

@@ -7,7 +7,7 @@ use lib.ListN.{length}
 use borrow.Author.Needs.{needs}
 use Rattle.block.specs.Layout.{examined}
 use Rattle.block.specs.Walk.{walkFrom, walk, Gathered, counting, countOf, countBlocks}
-use Rattle.block.specs.WalkLaws.{walk-ended}
+use Rattle.block.specs.laws.Walks.{walk-ended}
 use Rattle.block.specs.declared.header.Examined.the-variants as examining
 use Rattle.block.proofs.Turns.{gathered, turn-unsound, turn-end, turn-extent, turn-live, count-live, count-other}
 use Rattle.block.proofs.walk.count_blocks.Statement.{statement}

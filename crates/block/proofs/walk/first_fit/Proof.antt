@@ -8,7 +8,7 @@ use lib.ListN.{length}
 use borrow.Author.Needs.{needs}
 use Rattle.block.specs.Layout.{examined}
 use Rattle.block.specs.Walk.{walkFrom, walk, fitting, fitOf, firstFit}
-use Rattle.block.specs.WalkLaws.{walk-ended}
+use Rattle.block.specs.laws.Walks.{walk-ended}
 use Rattle.block.specs.declared.header.Examined.the-variants as examining
 use Rattle.block.proofs.Turns.{turn-unsound, turn-stop, turn-next, turn-end, turn-extent, fits-yes, fits-kind, fits-extent}
 use Rattle.block.proofs.walk.first_fit.Statement.{statement}

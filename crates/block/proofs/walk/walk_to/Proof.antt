@@ -7,7 +7,7 @@ use borrow.Author.Needs.{needs}
 use borrow.Author.Tests.{le-leb, lt-leb}
 use Rattle.block.specs.Layout.{examined}
 use Rattle.block.specs.Walk.{walkFrom, walk, reaching, metOf, walkTo}
-use Rattle.block.specs.WalkLaws.{walk-ended}
+use Rattle.block.specs.laws.Walks.{walk-ended}
 use Rattle.block.specs.declared.header.Examined.the-variants as examining
 use Rattle.block.proofs.Turns.{turn-unsound, turn-stop, turn-next, turn-end, turn-extent, met-yes, met-no}
 use Rattle.block.proofs.walk.walk_to.Statement.{statement}

@@ -3,7 +3,7 @@ use Prim.Native.Nat.{ℕ, suc, _/_, _<_, max}
 use mathlib.Core.Path.{sym, ap, _∙_}
 use native.Mathlib.Numerals.{add-one}
 use native.Mathlib.Omega.{arith}
-use Rattle.frame.specs.FrameLaws.{number-eq, number-ne, number-least}
+use Rattle.frame.specs.laws.Frames.{number-eq, number-ne, number-least}
 use borrow.Fn.Kinds.{In}
 use borrow.Fn.PlainCycle.{Measures, is, falls, and}
 use Rattle.frame.proofs.number.frame_number.Reads as frame-number

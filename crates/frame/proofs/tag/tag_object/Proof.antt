@@ -7,7 +7,8 @@ use native.Mathlib.Nat.{div-mul-le-self}
 use native.Mathlib.Omega.{arith}
 use Rattle.frame.specs.Frame.{sameFrame}
 use Rattle.frame.specs.Tags.{firstHeld, lastHeld, wrapper, tagged}
-use Rattle.frame.specs.TagLaws.{small-test, pointer-small, pointer-large, wrapper-at-most}
+use Rattle.frame.specs.laws.Tags.{small-test, pointer-small, pointer-large}
+use Rattle.frame.specs.laws.Wrappers.{wrapper-at-most}
 use borrow.Author.Needs.{needs}
 use Rattle.frame.proofs.tag.tag_object.Statement.{statement}
 use Rattle.frame.proofs.tag.tag_object.Tie as tie

@@ -2,8 +2,8 @@
 use mathlib.Core.Path.{sym, _∙_}
 use native.Mathlib.Omega.{arith}
 use Rattle.store.specs.State.{state}
-use Rattle.store.specs.CallLaws.{opening-parts}
-use Rattle.store.specs.Rows.{fill-shut, fill-empty, fill-access}
+use Rattle.store.specs.laws.Opening.{opening-parts}
+use Rattle.store.specs.laws.Fill.{fill-shut, fill-empty, fill-access}
 use borrow.Author.Needs.{needs}
 use Rattle.store.proofs.access.fillable.Statement.{statement}
 use Rattle.store.proofs.access.fillable.Tie as tie

@@ -1,7 +1,7 @@
 -- `store::fits` meets its contract. Assumes nothing.
 use mathlib.Core.Path.{sym}
 use borrow.Author.Tests.{lt-ltb}
-use Rattle.store.specs.CallLaws.{width-last}
+use Rattle.store.specs.laws.Access.{width-last}
 use Rattle.store.proofs.access.fits.Statement.{statement}
 use Rattle.store.proofs.access.fits.Tie as tie
 

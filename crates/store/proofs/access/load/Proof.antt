@@ -3,9 +3,10 @@ use mathlib.Core.Path.{sym, ap, _∙_}
 use native.Mathlib.Omega.{arith}
 use borrow.Author.Tests.{not-true, not-false}
 use Rattle.store.specs.State.{state}
-use Rattle.store.specs.CallLaws.{opening-parts, accessed-parts}
+use Rattle.store.specs.laws.Opening.{opening-parts}
+use Rattle.store.specs.laws.Access.{accessed-parts}
 use Rattle.store.specs.declared.answer.Answer.the-variants.{Accepted}
-use Rattle.store.specs.Rows.{load-shut, load-width, load-refused, load-given}
+use Rattle.store.specs.laws.Load.{load-shut, load-width, load-refused, load-given}
 use borrow.Author.Needs.{needs}
 use Rattle.store.proofs.access.load.Statement.{statement}
 use Rattle.store.proofs.access.load.Tie as tie

@@ -2,7 +2,7 @@
 use mathlib.Core.Path.{sym, ap, _∙_}
 use native.Mathlib.Omega.{arith}
 use Rattle.block.specs.Bytes.{field}
-use Rattle.store.specs.CallLaws.{width-last}
+use Rattle.store.specs.laws.Access.{width-last}
 use borrow.Author.Needs.{needs}
 use Rattle.store.proofs.access.read_field.Statement.{statement}
 use Rattle.store.proofs.access.read_field.Tie as tie

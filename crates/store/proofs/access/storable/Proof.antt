@@ -3,8 +3,8 @@ use mathlib.Core.Path.{sym, _∙_}
 use native.Mathlib.Omega.{arith}
 use borrow.Author.Tests.{not-true, not-false}
 use Rattle.store.specs.State.{state}
-use Rattle.store.specs.CallLaws.{opening-parts}
-use Rattle.store.specs.Rows.{store-shut, store-width, store-large, store-access}
+use Rattle.store.specs.laws.Opening.{opening-parts}
+use Rattle.store.specs.laws.Store.{store-shut, store-width, store-large, store-access}
 use borrow.Author.Needs.{needs}
 use Rattle.store.proofs.access.storable.Statement.{statement}
 use Rattle.store.proofs.access.storable.Tie as tie

@@ -3,9 +3,8 @@ use mathlib.Core.Path.{sym, ap, _∙_}
 use mathlib.Core.List.{List}
 use Prim.Native.Nat.{ℕ}
 use Rattle.store.specs.State.{state, outcome}
-use Rattle.store.specs.CallLaws.{store-parts}
+use Rattle.store.specs.laws.Store.{store-parts, store-declined, store-done}
 use Rattle.store.specs.declared.answer.Answer.the-variants.{Accepted}
-use Rattle.store.specs.Rows.{store-declined, store-done}
 use borrow.Author.Needs.{needs}
 use Rattle.store.proofs.access.store.Statement.{statement}
 use Rattle.store.proofs.access.store.Tie as tie

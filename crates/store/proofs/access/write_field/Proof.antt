@@ -3,7 +3,7 @@ use Prim.Native.Nat.{ℕ}
 use mathlib.Core.Path.{sym, ap, _∙_}
 use native.Mathlib.Omega.{arith}
 use Rattle.block.specs.Bytes.{encode, put}
-use Rattle.store.specs.CallLaws.{width-last}
+use Rattle.store.specs.laws.Access.{width-last}
 use borrow.Author.Needs.{needs}
 use Rattle.store.proofs.access.write_field.Statement.{statement}
 use Rattle.store.proofs.access.write_field.Tie as tie

@@ -6,9 +6,9 @@ use Rattle.block.specs.Walk.{firstFit}
 use Rattle.block.specs.declared.walk.Fit.the-variants as fit
 use Rattle.store.specs.State.{state}
 use Rattle.store.specs.Calls.{opening}
-use Rattle.store.specs.CallLaws.{opening-parts}
+use Rattle.store.specs.laws.Opening.{opening-parts}
 use Rattle.store.specs.declared.answer.Answer.the-variants.{Accepted}
-use Rattle.store.specs.Rows.{allocate-shut, allocate-empty, allocate-unsound, allocate-full, allocate-taken, allocate-given}
+use Rattle.store.specs.laws.Allocate.{allocate-shut, allocate-empty, allocate-unsound, allocate-full, allocate-taken, allocate-given}
 use Rattle.store.proofs.Carving.{fit-needs}
 use borrow.Author.Needs.{needs}
 use Rattle.store.proofs.allocation.allocatable.Statement.{statement}

@@ -1,13 +1,12 @@
 -- `store::allocate` meets its contract. Assumes nothing.
 use mathlib.Core.Path.{_≡_, sym, _∙_}
 use native.Mathlib.Omega.{arith}
-use Rattle.frame.specs.TagLaws.{pointer-range}
+use Rattle.frame.specs.laws.Tags.{pointer-range}
 use Rattle.block.specs.Layout.{slotExponent}
 use Rattle.store.specs.State.{state}
 use Rattle.store.specs.Calls.{allocateChecks}
-use Rattle.store.specs.CallLaws.{Allocates, allocate-parts}
+use Rattle.store.specs.laws.Allocate.{Allocates, allocate-parts, allocate-declined, allocate-done}
 use Rattle.store.specs.declared.answer.Answer.the-variants.{Accepted}
-use Rattle.store.specs.Rows.{allocate-declined, allocate-done}
 use Rattle.store.proofs.Carving.{fit-needs}
 use borrow.Author.Needs.{needs}
 use Rattle.store.proofs.allocation.allocate.Statement.{statement}

@@ -2,8 +2,9 @@
 use mathlib.Core.Path.{_≡_, sym, _∙_}
 use native.Mathlib.Omega.{arith}
 use Rattle.block.specs.Layout.{extentAt}
-use Rattle.block.specs.LayoutLaws.{extent-field, sound-in, sound-end}
-use Rattle.store.specs.Written.{carved-whole, carved-rest}
+use Rattle.block.specs.laws.Headers.{extent-field}
+use Rattle.block.specs.laws.Soundness.{sound-in, sound-end}
+use Rattle.store.specs.laws.Allocate.{carved-whole, carved-rest}
 use borrow.Author.Needs.{needs}
 use Rattle.store.proofs.allocation.carve.Statement.{statement}
 use Rattle.store.proofs.allocation.carve.Tie as tie

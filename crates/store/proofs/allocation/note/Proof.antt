@@ -4,8 +4,8 @@ use Prim.Native.Nat.{_<_}
 use native.Mathlib.Omega.{arith}
 use lib.ListN.{length}
 use Rattle.frame.specs.Tags.{wrapper, pointerTo, entryOf}
-use Rattle.frame.specs.TagLaws.{tagged-is-small, tagged-is-large}
-use Rattle.store.specs.Written.{noted-small, noted-large}
+use Rattle.frame.specs.laws.Tags.{tagged-is-small, tagged-is-large}
+use Rattle.store.specs.laws.Entries.{noted-small, noted-large}
 use borrow.Author.Needs.{needs}
 use Rattle.store.proofs.allocation.note.Statement.{statement}
 use Rattle.store.proofs.allocation.note.Tie as tie

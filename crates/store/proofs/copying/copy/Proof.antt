@@ -7,9 +7,8 @@ use lib.ListN.{take, drop}
 use Rattle.frame.specs.declared.parts.Pointer.{Pointer}
 use Rattle.block.specs.Bytes.{put}
 use Rattle.store.specs.State.{state, outcome}
-use Rattle.store.specs.CallLaws.{copy-parts}
+use Rattle.store.specs.laws.Copy.{copy-parts, copy-declined, copy-done}
 use Rattle.store.specs.declared.answer.Answer.the-variants.{Accepted}
-use Rattle.store.specs.Rows.{copy-declined, copy-done}
 use borrow.Author.Needs.{needs}
 use Rattle.store.proofs.copying.copy.Statement.{statement}
 use Rattle.store.proofs.copying.copy.Tie as tie

@@ -2,8 +2,8 @@
 use mathlib.Core.Path.{sym, _∙_}
 use native.Mathlib.Omega.{arith}
 use Rattle.store.specs.State.{state}
-use Rattle.store.specs.CallLaws.{opening-parts}
-use Rattle.store.specs.Rows.{copy-shut, copy-empty, copy-refused, copy-access}
+use Rattle.store.specs.laws.Opening.{opening-parts}
+use Rattle.store.specs.laws.Copy.{copy-shut, copy-empty, copy-refused, copy-access}
 use borrow.Author.Needs.{needs}
 use Rattle.store.proofs.copying.copyable.Statement.{statement}
 use Rattle.store.proofs.copying.copyable.Tie as tie

@@ -1,9 +1,9 @@
 -- `store::tally` meets its contract. Assumes nothing.
 use mathlib.Core.Path.{sym, _∙_}
 use native.Mathlib.Omega.{arith}
-use Rattle.block.specs.WalkLaws.{count-bound}
+use Rattle.block.specs.laws.Counting.{count-bound}
 use Rattle.store.specs.State.{state}
-use Rattle.store.specs.Rows.{tally-shut, tally-unsound, tally-counts}
+use Rattle.store.specs.laws.Tally.{tally-shut, tally-unsound, tally-counts}
 use borrow.Author.Needs.{needs}
 use Rattle.store.proofs.counting.tally.Statement.{statement}
 use Rattle.store.proofs.counting.tally.Tie as tie

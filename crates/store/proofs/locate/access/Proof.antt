@@ -2,14 +2,16 @@
 use mathlib.Core.Path.{sym, ap, _∙_, subst}
 use native.Mathlib.Omega.{arith}
 use Rattle.frame.specs.Pointers.{InRange, unpack}
-use Rattle.frame.specs.PointerLaws.{unpack-range}
+use Rattle.frame.specs.laws.Pointers.{unpack-range}
 use Rattle.frame.specs.declared.parts.Pointer.{Pointer}
-use Rattle.block.specs.LayoutLaws.{size-field, sound-in, sound-end, sound-live}
+use Rattle.block.specs.laws.Headers.{size-field}
+use Rattle.block.specs.laws.Soundness.{sound-in, sound-end, sound-live}
 use Rattle.store.specs.State.{state}
 use Rattle.store.specs.Calls.{located}
-use Rattle.store.specs.CallLaws.{opening-parts, Located, located-parts, located-at}
+use Rattle.store.specs.laws.Opening.{opening-parts}
+use Rattle.store.specs.laws.TagReading.{Located, located-parts, located-at}
 use Rattle.store.specs.declared.answer.Answer.the-variants.{Accepted}
-use Rattle.store.proofs.Locating.{not-located, below-base, past-end, within-body}
+use Rattle.store.specs.laws.Access.{not-located, below-base, past-end, within-body}
 use borrow.Author.Needs.{needs}
 use Rattle.store.proofs.locate.access.Statement.{statement}
 use Rattle.store.proofs.locate.access.Tie as tie

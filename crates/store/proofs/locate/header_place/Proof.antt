@@ -3,8 +3,8 @@ use Prim.Native.Nat.{_^_}
 use mathlib.Core.Path.{_∙_}
 use native.Mathlib.Nat.{div-mul-le-self}
 use native.Mathlib.Omega.{arith}
-use Rattle.frame.specs.PointerLaws.{good-large, reach-large}
-use Rattle.store.proofs.Locating.{place-small, place-large}
+use Rattle.frame.specs.laws.Pointers.{good-large, reach-large}
+use Rattle.store.specs.laws.TagReading.{place-small, place-large}
 use borrow.Author.Needs.{needs}
 use Rattle.store.proofs.locate.header_place.Statement.{statement}
 use Rattle.store.proofs.locate.header_place.Tie as tie

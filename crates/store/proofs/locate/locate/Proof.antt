@@ -2,14 +2,13 @@
 use mathlib.Core.Path.{sym, ap, _∙_}
 use native.Mathlib.Nat.{lt-of-lt-of-le}
 use native.Mathlib.Omega.{arith}
-use Rattle.frame.specs.Pointers.{reach}
-use Rattle.frame.specs.PointerLaws.{reach-within, reach-bad}
-use Rattle.frame.specs.TagLaws.{entry-used}
+use Rattle.frame.specs.laws.Pointers.{reach-within, reach-bad}
+use Rattle.frame.specs.laws.Wrappers.{entry-used}
 use Rattle.store.specs.State.{state}
 use Rattle.store.specs.Calls.{verified}
-use Rattle.store.specs.CallLaws.{opening-parts}
+use Rattle.store.specs.laws.Opening.{opening-parts}
 use Rattle.store.specs.declared.answer.Answer.the-variants.{Accepted}
-use Rattle.store.proofs.Locating.{bad-tag, starts-past, dangling, leads}
+use Rattle.store.specs.laws.TagReading.{bad-tag, starts-past, dangling, leads}
 use borrow.Author.Needs.{needs}
 use Rattle.store.proofs.locate.locate.Statement.{statement}
 use Rattle.store.proofs.locate.locate.Tie as tie

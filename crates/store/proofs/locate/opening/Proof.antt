@@ -1,11 +1,10 @@
 -- `store::opening` meets its contract. Assumes nothing.
 use mathlib.Core.Path.{sym, ap, _∙_}
 use native.Mathlib.Omega.{arith}
-use Rattle.block.specs.LayoutLaws.{superblock-parts, opened-is-good, opened-is-bad}
+use Rattle.block.specs.laws.Superblock.{superblock-parts, opened-is-good, opened-is-bad}
 use Rattle.store.specs.State.{state}
 use Rattle.store.specs.declared.answer.Answer.the-variants.{Accepted}
-use Rattle.store.specs.CallLaws.{opening-passes}
-use Rattle.store.proofs.Locating.{not-open, table-short}
+use Rattle.store.specs.laws.Opening.{opening-passes, not-open, table-short}
 use borrow.Author.Needs.{needs}
 use Rattle.store.proofs.locate.opening.Statement.{statement}
 use Rattle.store.proofs.locate.opening.Tie as tie

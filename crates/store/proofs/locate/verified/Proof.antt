@@ -4,11 +4,11 @@ use borrow.Author.Tests.{not-true, not-false, eq-eqb}
 use native.Mathlib.Omega.{arith}
 use Rattle.frame.specs.Frame.{sameFrame}
 use Rattle.frame.specs.Tags.{tagMatches}
-use Rattle.frame.specs.PointerLaws.{reach-bound}
+use Rattle.frame.specs.laws.Pointers.{reach-bound}
 use Rattle.block.specs.Layout.{kindAt}
-use Rattle.block.specs.LayoutLaws.{sound-low, sound-end, sound-live, examined-is-sound, examined-is-unsound}
+use Rattle.block.specs.laws.Soundness.{sound-low, sound-end, sound-live, examined-is-sound, examined-is-unsound}
 use Rattle.block.specs.declared.header.Header.{Header}
-use Rattle.store.proofs.Locating.{not-sound, not-live, no-match, match}
+use Rattle.store.specs.laws.TagReading.{not-sound, not-live, no-match, match}
 use borrow.Author.Needs.{needs}
 use Rattle.store.proofs.locate.verified.Statement.{statement}
 use Rattle.store.proofs.locate.verified.Tie as tie

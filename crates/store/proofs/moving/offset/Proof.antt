@@ -5,8 +5,8 @@ use lib.IntN.{ℤ}
 use mir.Facts.{toZ-ofZ}
 use Rattle.store.specs.State.{state}
 use Rattle.store.specs.Calls.{moveAnswer}
-use Rattle.store.specs.CallLaws.{opening-parts}
-use Rattle.store.specs.Rows.{move-shut, move-answer}
+use Rattle.store.specs.laws.Opening.{opening-parts}
+use Rattle.store.specs.laws.Move.{move-shut, move-answer}
 use borrow.Author.Needs.{needs}
 use Rattle.store.proofs.moving.offset.Statement.{statement}
 use Rattle.store.proofs.moving.offset.Tie as tie

@@ -4,9 +4,9 @@ use mathlib.Core.Path.{sym, ap, _∙_, subst}
 use native.Mathlib.Omega.{arith}
 use mir.Facts.{toZ-ofZ}
 use Rattle.frame.specs.Pointers.{InRange, moved}
-use Rattle.frame.specs.PointerLaws.{unpack-range, reach-within, reach-bad, moved-range}
+use Rattle.frame.specs.laws.Pointers.{unpack-range, reach-within, reach-bad, moved-range}
 use Rattle.store.specs.declared.answer.Answer.the-variants.{Accepted}
-use Rattle.store.specs.Rows.{moved-bad, moved-out, moved-in}
+use Rattle.store.specs.laws.Move.{moved-bad, moved-out, moved-in}
 use borrow.Author.Needs.{needs}
 use Rattle.store.proofs.moving.offset_in.Statement.{statement}
 use Rattle.store.proofs.moving.offset_in.Tie as tie

@@ -5,11 +5,12 @@ use Prim.Native.Nat.{ℕ, _+_, _≤_, _<_}
 use native.Mathlib.Omega.{arith}
 use lib.ListN.{length}
 use Rattle.block.specs.Layout.{headerAt, extentAt, sound}
-use Rattle.block.specs.LayoutLaws.{extent-field, sound-in, sound-end, examined-is-sound, examined-is-unsound}
+use Rattle.block.specs.laws.Headers.{extent-field}
+use Rattle.block.specs.laws.Soundness.{sound-in, sound-end, examined-is-sound, examined-is-unsound}
 use Rattle.block.specs.Walk.{walkTo}
 use Rattle.block.specs.declared.header.Header.{Header}
 use Rattle.block.specs.declared.walk.Met.the-variants as met
-use Rattle.store.specs.Rows.{released-lost}
+use Rattle.store.specs.laws.Free.{released-lost}
 use Rattle.store.proofs.Merging.{before-in, released-last, released-bad, released-free, released-live}
 use borrow.Author.Needs.{needs}
 use Rattle.store.proofs.release.coalesce.Statement.{statement}

@@ -2,13 +2,13 @@
 use mathlib.Core.Path.{_≡_, sym, _∙_}
 use native.Mathlib.Omega.{arith}
 use Rattle.block.specs.Layout.{slotExponent, sizeAt}
-use Rattle.block.specs.LayoutLaws.{size-field, sound-low}
+use Rattle.block.specs.laws.Headers.{size-field}
+use Rattle.block.specs.laws.Soundness.{sound-low}
 use Rattle.store.specs.State.{state}
 use Rattle.store.specs.Calls.{freeRelease}
-use Rattle.store.specs.CallLaws.{Frees, free-parts}
+use Rattle.store.specs.laws.Free.{Frees, free-parts, free-declined, free-done}
 use Rattle.store.specs.declared.release.Release.the-variants as release
 use Rattle.store.proofs.Carving.{entry-needs}
-use Rattle.store.specs.Rows.{free-declined, free-done}
 use borrow.Author.Needs.{needs}
 use Rattle.store.proofs.release.free.Statement.{statement}
 use Rattle.store.proofs.release.free.Tie as tie

@@ -2,14 +2,15 @@
 use mathlib.Core.Path.{_≡_, sym, ap, _∙_}
 use native.Mathlib.Omega.{arith}
 use Rattle.frame.specs.Pointers.{unpack}
-use Rattle.frame.specs.PointerLaws.{unpack-range}
+use Rattle.frame.specs.laws.Pointers.{unpack-range}
 use Rattle.frame.specs.declared.parts.Pointer.{Pointer}
-use Rattle.block.specs.LayoutLaws.{sound-in}
+use Rattle.block.specs.laws.Soundness.{sound-in}
 use Rattle.store.specs.State.{state}
 use Rattle.store.specs.Calls.{opening, located}
-use Rattle.store.specs.CallLaws.{opening-parts, Located, located-parts}
+use Rattle.store.specs.laws.Opening.{opening-parts}
+use Rattle.store.specs.laws.TagReading.{Located, located-parts}
 use Rattle.store.specs.declared.answer.Answer.the-variants.{Accepted}
-use Rattle.store.specs.Rows.{free-shut, free-refused, free-off-base, free-at-base}
+use Rattle.store.specs.laws.Free.{free-shut, free-refused, free-off-base, free-at-base}
 use borrow.Author.Needs.{needs}
 use Rattle.store.proofs.release.releasable.Statement.{statement}
 use Rattle.store.proofs.release.releasable.Tie as tie

@@ -4,8 +4,7 @@ use native.Mathlib.Omega.{arith}
 use Rattle.store.specs.State.{state}
 use Rattle.store.specs.Calls.{setUpChecks}
 use Rattle.store.specs.declared.answer.Answer.the-variants.{Accepted}
-use Rattle.store.specs.CallLaws.{Settable, settable-parts}
-use Rattle.store.specs.Rows.{set-up-declined, set-up-done}
+use Rattle.store.specs.laws.SetUp.{Settable, settable-parts, set-up-declined, set-up-done}
 use borrow.Author.Needs.{needs}
 use Rattle.store.proofs.setup.set_up.Statement.{statement}
 use Rattle.store.proofs.setup.set_up.Tie as tie

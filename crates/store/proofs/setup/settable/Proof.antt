@@ -3,7 +3,7 @@ use mathlib.Core.Path.{sym}
 use Prim.Native.Nat.{_^_}
 use native.Mathlib.Omega.{arith}
 use lib.ListN.{length}
-use Rattle.store.specs.Rows.{set-up-exponent, set-up-length, set-up-few, set-up-passes}
+use Rattle.store.specs.laws.SetUp.{set-up-exponent, set-up-length, set-up-few, set-up-passes}
 use Rattle.store.proofs.Fresh.{within-low, within-high, within-in}
 use borrow.Author.Needs.{needs}
 use Rattle.store.proofs.setup.settable.Statement.{statement}

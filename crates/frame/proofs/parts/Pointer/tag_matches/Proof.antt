@@ -6,7 +6,7 @@ use borrow.Author.Tests.{not-true, not-false}
 use native.Mathlib.Nat.{div-mul-le-self}
 use native.Mathlib.Omega.{arith}
 use Rattle.frame.specs.Frame.{sameFrame}
-use Rattle.frame.specs.PointerLaws.{good-large}
+use Rattle.frame.specs.laws.Pointers.{good-large}
 use Rattle.frame.specs.Tags.{firstHeld, lastHeld}
 use Rattle.frame.proofs.Tests.{not-small, small, not-within, within}
 use borrow.Author.Needs.{needs}

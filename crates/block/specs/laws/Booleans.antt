@@ -1,4 +1,4 @@
--- Laws of tests, as values of Bool. Assumes nothing.
+-- Tests, as values of Bool. Assumes nothing.
 use mathlib.Core.Path.{_≡_, refl}
 use mathlib.Core.Bool.{Bool, true, false, _&&_}
 use native.Mathlib.Omega.{arith}
@@ -18,15 +18,7 @@ pub refuted : (b : Bool) → (b ≡ true → ⊥) → b ≡ false
 refuted true n = absurd (n refl)
 refuted false n = refl
 
--- laws of a conjunction: with true, with false, shown, taken apart
-pub and-true : (b : Bool) → b && true ≡ b
-and-true true = refl
-and-true false = refl
-
-pub and-false : (a : Bool) → a && false ≡ false
-and-false true = refl
-and-false false = refl
-
+-- laws of a conjunction: shown, taken apart
 pub and-both : (a b : Bool) → a ≡ true → b ≡ true → a && b ≡ true
 and-both true b p q = q
 and-both false b p q = p

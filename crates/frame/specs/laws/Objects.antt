@@ -4,9 +4,9 @@ use mathlib.Core.Path.{_≡_, sym, ap, _∙_}
 use mathlib.Core.Bool.{true}
 use lib.IntN.{ℤ}
 use Rattle.frame.specs.Pointers.{unpack, pack, goodTag, reach, at, moved}
-use Rattle.frame.specs.PointerLaws.{moved-to, moved-range, moved-at, unpack-pack, unpack-range, pack-unpack, good-at, reach-at}
+use Rattle.frame.specs.laws.Pointers.{moved-to, moved-range, moved-at, unpack-pack, unpack-range, pack-unpack, good-at, reach-at}
 use Rattle.frame.specs.Tags.{pointerTo, tagMatches}
-use Rattle.frame.specs.TagLaws.{pointer-good, pointer-range, pointer-reach, pointer-matches, pointer-address, pointer-at, matches-at, matches-pointer}
+use Rattle.frame.specs.laws.Tags.{pointer-good, pointer-range, pointer-reach, pointer-matches, pointer-address, pointer-at, matches-at, matches-pointer}
 use Rattle.frame.specs.declared.parts.Pointer.{Pointer}
 use Rattle.frame.specs.declared.parts.Moved.the-variants.{To}
 

@@ -1,4 +1,4 @@
--- Laws of tagged pointers. Assumes nothing.
+-- Tagged pointers: packing, tag numbers, moves. Assumes nothing.
 use Prim.Native.Nat.{ℕ, zero, suc, _+_, _*_, _/_, _%_, _^_, _≤_, _<_}
 use mathlib.Core.Path.{_≡_, refl, sym, subst}
 use mathlib.Core.Bool.{Bool, true, false, cond, _&&_}

@@ -1,0 +1,14 @@
+-- What other files and crates cite of the definitions.
+pub mod Booleans
+-- bytes
+pub mod Fields
+pub mod Writes
+-- superblock and headers
+pub mod Superblock
+pub mod Headers
+pub mod Soundness
+-- walks
+pub mod Walks
+pub mod FirstFit
+pub mod WalkTo
+pub mod Counting

@@ -1,0 +1,81 @@
+-- Little-endian numbers in bytes: encoding, decoding, reading. Assumes nothing.
+use mathlib.Core.Path.{_≡_, refl, sym, ap, _∙_}
+use mathlib.Core.List.{List, [], _∷_, _++_}
+use Prim.Native.Nat.{_%_, ℕ, zero, suc, _+_, _*_, _/_, _^_, _≤_, _<_}
+use native.Mathlib.Nat.{zero-add, suc-add, div-one, div-div-eq-div-mul, pow-succ', one-mul, mul-assoc, pow-suc, add-suc, add-zero}
+use native.Mathlib.Omega.{arith}
+use lib.ListN.{length, getD, take, drop}
+use lib.Seq.{take-at, drop-drop, take-nil}
+use Rattle.block.specs.Bytes.{encode, decode, field, Bytes}
+
+-- encoding
+
+-- as many bytes as the width says
+pub length-encode : (w v : ℕ) → length (encode w v) ≡ w
+unfolding encode
+length-encode zero v = refl
+length-encode (suc w) v = ap suc (length-encode w (v / 256))
+
+-- in two parts: the low bytes, and the others
+pub encode-add : (v w n : ℕ) → encode (v + w) n ≡ encode v n ++ encode w (n / 256 ^ v)
+unfolding encode
+encode-add zero w n = rw (zero-add w, div-one n)
+encode-add (suc v) w n =
+    rw (suc-add v w, pow-succ' 256 v, ← div-div-eq-div-mul n 256 (256 ^ v)) (ap (λ (l : List ℕ). n % 256 ∷ l) (encode-add v w (n / 256)))
+
+-- a number that fits is read back
+pub decode-encode : (w v : ℕ) → v < 256 ^ w → decode (encode w v) ≡ v
+unfolding encode decode
+decode-encode zero v h = omega arith
+decode-encode (suc w) v h =
+    let p : v / 256 < 256 ^ w = omega (arith, rw pow-suc at h) in
+    rw (decode-encode w (v / 256) p) (omega arith)
+
+-- fields
+
+-- a field is what its bytes are
+pub field-bytes : (image : List ℕ) (at w : ℕ) → field image at w ≡ decode (take w (drop at image))
+unfolding field
+field-bytes image at w = refl
+
+-- a field of no bytes
+pub field-zero : (image : List ℕ) (at : ℕ) → field image at 0 ≡ 0
+unfolding field decode
+field-zero image at = refl
+
+-- a field is its first byte and the field behind that
+pub field-step : (image : List ℕ) (at w : ℕ) → field image at (suc w) ≡ getD image at 0 + 256 * field image (suc at) w
+unfolding field decode
+field-step [] zero w = rw (take-nil w)
+field-step [] (suc at) w = rw (take-nil w)
+field-step (b ∷ bs) zero w = refl
+field-step (b ∷ bs) (suc at) w = field-step bs at w
+
+-- a field in two parts: its low bytes, and the others
+pub field-add : (image : List ℕ) (v w at : ℕ) → field image at (v + w) ≡ field image at v + 256 ^ v * field image (at + v) w
+field-add image zero w at = rw (zero-add w, field-zero image at, add-zero at, one-mul (field image at w)) (omega arith)
+field-add image (suc v) w at =
+    let rest : ℕ = field image (suc (at + v)) w in
+    let ih : field image (suc at) (v + w) ≡ field image (suc at) v + 256 ^ v * rest = rw (suc-add at v) at (field-add image v w (suc at)) in
+    rw (suc-add v w, field-step image at (v + w), field-step image at v, add-suc at v, pow-succ' 256 v, mul-assoc 256 (256 ^ v) rest, ih) (omega arith)
+
+-- a field of bytes is below that power of 256
+pub field-bound : (image : List ℕ) → Bytes image → (w at : ℕ) → field image at w < 256 ^ w
+field-bound image h zero at = rw (field-zero image at) (omega arith)
+field-bound image h (suc w) at = omega (arith, pow-suc 256 w, field-step image at w, field-bound image h w (suc at), h at)
+
+-- equal bytes give equal fields
+pub field-ext : (a b : List ℕ) (w at : ℕ) → ((k : ℕ) → at ≤ k → k < at + w → getD a k 0 ≡ getD b k 0) → field a at w ≡ field b at w
+field-ext a b zero at h = field-zero a at ∙ sym (field-zero b at)
+field-ext a b (suc w) at h =
+    omega (arith, field-step a at w, field-step b at w, h at (omega arith) (omega arith), field-ext a b w (suc at) (λ k l m. h k (omega arith) (omega arith)))
+
+-- a field of what stands from h on
+pub field-drop : (image : List ℕ) (h i w : ℕ) → field image (h + i) w ≡ field (drop h image) i w
+unfolding field
+field-drop image h i w = rw (drop-drop i h image)
+
+-- a field that is the first of a list of bytes
+pub field-front : (bs q : List ℕ) (w : ℕ) → length bs ≡ w → field (bs ++ q) 0 w ≡ decode bs
+unfolding field
+field-front bs q w e = ap decode (take-at bs q w e)

@@ -1,0 +1,17 @@
+-- What other files and crates cite of the definitions.
+-- parts of several calls
+pub mod Refusals
+pub mod Opening
+pub mod Entries
+pub mod TagReading
+pub mod Access
+-- each call
+pub mod SetUp
+pub mod Allocate
+pub mod Move
+pub mod Load
+pub mod Store
+pub mod Fill
+pub mod Copy
+pub mod Free
+pub mod Tally

@@ -1,0 +1,80 @@
+-- Bytes through a pointer: rows 10, 11 and 13. Assumes nothing.
+use Prim.Native.Nat.{ℕ, _+_, _≤_, _<_}
+use mathlib.Core.Path.{_≡_, refl}
+use mathlib.Core.Bool.{Bool, true, false, _&&_, cond}
+use mathlib.Core.List.{List}
+use mathlib.Core.Logic.{_↔_}
+use native.Mathlib.Omega.{arith}
+use lib.Dec.{leb}
+use lib.ListN.{length}
+use borrow.Author.Tests.{leb-true, eqb-true, le-leb, lt-leb, ne-eqb}
+use Rattle.frame.specs.declared.parts.Pointer.{Pointer}
+use Rattle.block.specs.laws.Booleans.{true-false, and-left, and-right}
+use Rattle.block.specs.Layout.{sizeAt}
+use Rattle.block.specs.laws.Soundness.{sound-live, sound-end}
+use Rattle.block.specs.Bytes.{put}
+use Rattle.store.specs.State.{State, demand, Outcome, outcome, IsAccepted, refuse}
+use Rattle.store.specs.Calls.{located, inBody, accessed, goodWidth}
+use Rattle.store.specs.laws.Refusals.{demand-met, and-then-met}
+use Rattle.store.specs.laws.TagReading.{Located, located-parts}
+use Rattle.store.specs.declared.answer.Refusal.{Refusal}
+use Rattle.store.specs.declared.answer.Refusal.the-variants.{OutOfBounds}
+use Rattle.store.specs.declared.answer.Answer.the-variants.{Accepted, Refused}
+
+-- rows 10, 11 and 13 are passed: n bytes from a on lie in the body of the object at h
+pub record Accessed (s : ℕ) (p : Pointer) (n : ℕ) (x : State) (a h : ℕ) : Type 0 where
+  pub object : Located s p x h
+  pub address : a ≡ p .address
+  pub low : h + 16 ≤ a
+  pub high : a + n ≤ h + 16 + sizeAt (x .image) h
+  pub inside : a + n ≤ length (x .image)
+
+pub accessed-parts : (s : ℕ) (p : Pointer) (n : ℕ) (x : State) (a : ℕ) → accessed s p n x ≡ Accepted a → (h : ℕ) × Accessed s p n x a h
+unfolding accessed inBody
+accessed-parts s p n x a e =
+    let (h, l, m) = and-then-met (located s p x) _ a e in
+    let b = demand-met (inBody (x .image) h p n) OutOfBounds _ a m in
+    let q : a ≡ p .address = cc in
+    let o = located-parts s p x h l in
+    let low : h + 16 ≤ p .address = leb-true _ _ (and-left _ (leb (p .address + n) (h + 16 + sizeAt (x .image) h)) (b .0)) in
+    let high : p .address + n ≤ h + 16 + sizeAt (x .image) h = leb-true _ _ (and-right (leb (h + 16) (p .address)) _ (b .0)) in
+    let end = sound-end (x .image) h (o .header .is-sound) in
+    let body = sound-live (x .image) h (o .header .is-sound) (o .header .is-live) .holds in
+    (h, record { object = o; address = q; low = omega arith; high = omega arith; inside = omega arith })
+
+-- row 13, where rows 10 and 11 are passed
+pub accessed-at : (s : ℕ) (p : Pointer) (n : ℕ) (x : State) (h : ℕ) → located s p x ≡ Accepted h
+    → accessed s p n x
+    ≡ demand (leb (h + 16) (p .address) && leb (p .address + n) (h + 16 + sizeAt (x .image) h)) OutOfBounds (Accepted (p .address))
+unfolding accessed inBody
+accessed-at s p n x h e = rw e
+
+-- row 13
+
+module _ (s : ℕ) (p : Pointer) (n : ℕ) (x : State) where
+  pub not-located : (r : Refusal) → located s p x ≡ Refused r → Refused r ≡ accessed s p n x
+  unfolding accessed
+  not-located r e = rw e
+
+  module _ (h : ℕ) (l : located s p x ≡ Accepted h) where
+    pub below-base : p .address < h + 16 → Refused OutOfBounds ≡ accessed s p n x
+    below-base b = rw (accessed-at s p n x h l, lt-leb _ _ b) refl
+
+    pub past-end : h + 16 ≤ p .address → h + 16 + sizeAt (x .image) h < p .address + n → Refused OutOfBounds ≡ accessed s p n x
+    past-end b e = rw (accessed-at s p n x h l, le-leb _ _ b, lt-leb _ _ e) refl
+
+    pub within-body : h + 16 ≤ p .address → p .address + n ≤ h + 16 + sizeAt (x .image) h → Accepted (p .address) ≡ accessed s p n x
+    within-body b e = rw (accessed-at s p n x h l, le-leb _ _ b, le-leb _ _ e) refl
+
+-- bytes put at an address, where the test holds
+abbrev pub through : State → Bool → ℕ → List ℕ → Outcome
+through x b a bytes = cond b (outcome (Accepted 0) (put (x .image) a bytes) (x .table)) (refuse OutOfBounds x)
+
+-- is accepted exactly where it holds
+pub through-iff : (x : State) (b : Bool) (a : ℕ) (bytes : List ℕ) → IsAccepted (through x b a bytes) ↔ (b ≡ true)
+through-iff x true a bytes = ((λ e. refl), λ e. refl)
+through-iff x false a bytes = ((λ e. absurd (omega arith)), λ (e : false ≡ true). absurd (true-false e refl))
+
+-- the widths
+pub width-last : (w : ℕ) → goodWidth w ≡ true → (w ≡ 1 → ⊥) → (w ≡ 2 → ⊥) → (w ≡ 4 → ⊥) → w ≡ 8
+width-last w g a b c = eqb-true w 8 (rw (ne-eqb w 1 a, ne-eqb w 2 b, ne-eqb w 4 c) at g)

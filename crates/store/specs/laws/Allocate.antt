@@ -1,0 +1,239 @@
+-- Allocate.
+-- In order: what is known where its rows are passed; each row, and what is left by the answer; its outcomes; the carved image. Assumes nothing.
+use Prim.Native.Nat.{ℕ, _+_, _^_, _≤_, _<_, _-_}
+use mathlib.Core.Path.{_≡_, refl, sym, ap, _∙_}
+use mathlib.Core.Bool.{true, false}
+use mathlib.Core.List.{List}
+use native.Mathlib.Omega.{arith}
+use lib.Dec.{ltb}
+use lib.ListN.{length}
+use borrow.Author.Tests.{ltb-true, lt-ltb, le-ltb, ltb-false}
+use mathlib.Core.Logic.{inl}
+use Rattle.frame.specs.Tags.{pointerTo, entryOf}
+use Rattle.frame.specs.Pointers.{pack}
+use Rattle.frame.specs.declared.parts.Pointer.{Pointer}
+use Rattle.block.specs.laws.Booleans.{byBool}
+use Rattle.block.specs.Layout.{slotExponent, extentAt, freeHeader, liveHeader, fields, headerAt}
+use Rattle.block.specs.laws.Soundness.{sound-end}
+use Rattle.block.specs.Walk.{firstFit, LowestFit}
+use Rattle.block.specs.laws.FirstFit.{first-fit-lowest}
+use Rattle.block.specs.Bytes.{put}
+use Rattle.block.specs.laws.Writes.{length-put}
+use Rattle.block.specs.laws.Headers.{length-header, headerAt-put, headerAt-put-other}
+use Rattle.block.specs.laws.Superblock.{superblock-kept}
+use Rattle.block.specs.declared.walk.Fit.{Fit}
+use Rattle.store.specs.State.{State, outcome, refuse}
+use Rattle.store.specs.Calls.{opening, entryFree, fitAnswer, allocateChecks, carved, noted, allocate}
+use Rattle.store.specs.laws.Refusals.{demand-met, and-then-met}
+use Rattle.store.specs.laws.Opening.{Open, opening-parts, entry-in}
+use Rattle.store.specs.declared.answer.Refusal.{Refusal}
+use Rattle.store.specs.declared.answer.Refusal.the-variants.{Empty, Unsound, NoSpace, EntryTaken}
+use Rattle.store.specs.declared.answer.Answer.{Answer}
+use Rattle.store.specs.declared.answer.Answer.the-variants.{Accepted, Refused}
+use Rattle.block.specs.declared.walk.Fit.the-variants as fit
+
+-- a fit that came through is a block's place
+pub fit-met : (f : Fit) (next : ℕ → Answer) (v : ℕ) → fitAnswer f next ≡ Accepted v → (h : ℕ) × (f ≡ fit.At h) × (next h ≡ Accepted v)
+unfolding fitAnswer
+fit-met (fit.At h) next v e = (h, refl, e)
+fit-met (fit.Unsound h) next v e = let z : _≡_ {A = ℕ} 0 1 = cc in absurd (omega arith)
+fit-met fit.End next v e = let z : _≡_ {A = ℕ} 0 1 = cc in absurd (omega arith)
+
+-- the rows of allocate are passed: an object of `size` bytes goes into the free block at h
+pub record Allocates (size : ℕ) (x : State) (h : ℕ) : Type 0 where
+  pub opens : Open x (slotExponent (x .image))
+  pub some-size : 1 ≤ size
+  pub found : firstFit (x .image) (16 + size) ≡ fit.At h
+  pub lowest : LowestFit (x .image) (16 + size) h
+  pub inside : h + 16 + size ≤ length (x .image)
+  pub free-entry : entryFree (slotExponent (x .image)) h size (x .table) ≡ true
+  pub indexed : entryOf (slotExponent (x .image)) h size < length (x .table)
+
+-- an accepted allocation passes them
+pub allocate-parts : (size : ℕ) (x : State) (h : ℕ) → allocateChecks size x ≡ Accepted h → Allocates size x h
+unfolding allocateChecks
+allocate-parts size x h e =
+    let (s, a, b) = and-then-met (opening x) _ h e in
+    let o = opening-parts x s a in
+    let c = demand-met (ltb 0 size) Empty _ h b in
+    let (k, f, g) = fit-met (firstFit (x .image) (16 + size)) _ h (c .1) in
+    let d = demand-met (entryFree s k size (x .table)) EntryTaken _ h g in
+    let q : h ≡ k = cc in
+    let w = first-fit-lowest (x .image) (16 + size) k f in
+    let i : k + 16 + size ≤ length (x .image) = omega (arith, w .fits-in, sound-end (x .image) k (w .is-sound)) in
+    let p : Open x (slotExponent (x .image)) = rw (← o .exponent) o in
+    rw q
+    (record {
+      opens = p;
+      some-size = ltb-true 0 size (c .0);
+      found = f;
+      lowest = w;
+      inside = i;
+      free-entry = rw (← o .exponent) (d .0);
+      indexed = entry-in x (slotExponent (x .image)) k size p i;
+    })
+
+-- The rows, and what is left by the answer.
+
+module _ (size : ℕ) (x : State) where
+  -- row 4 or 5
+  pub allocate-shut : (r : Refusal) → opening x ≡ Refused r → Refused r ≡ allocateChecks size x
+  unfolding allocateChecks
+  allocate-shut r e = rw e
+
+  module _ (s : ℕ) (o : opening x ≡ Accepted s) where
+    -- row 6
+    pub allocate-empty : size ≡ 0 → Refused Empty ≡ allocateChecks size x
+    unfolding allocateChecks
+    allocate-empty e = rw (o, le-ltb 0 size (omega arith))
+
+    module _ (n : size ≡ 0 → ⊥) where
+      -- row 7
+      pub allocate-unsound : (h : ℕ) → firstFit (x .image) (16 + size) ≡ fit.Unsound h → Refused Unsound ≡ allocateChecks size x
+      unfolding allocateChecks fitAnswer
+      allocate-unsound h f = rw (o, lt-ltb 0 size (omega arith), f)
+
+      -- row 8
+      pub allocate-full : firstFit (x .image) (16 + size) ≡ fit.End → Refused NoSpace ≡ allocateChecks size x
+      unfolding allocateChecks fitAnswer
+      allocate-full f = rw (o, lt-ltb 0 size (omega arith), f)
+
+      -- row 9
+      pub allocate-taken : (h : ℕ) → firstFit (x .image) (16 + size) ≡ fit.At h → entryFree s h size (x .table) ≡ false → Refused EntryTaken ≡ allocateChecks size x
+      unfolding allocateChecks fitAnswer
+      allocate-taken h f t = rw (o, lt-ltb 0 size (omega arith), f, t)
+
+      -- all are passed
+      pub allocate-given : (h : ℕ) → firstFit (x .image) (16 + size) ≡ fit.At h → entryFree s h size (x .table) ≡ true → Accepted h ≡ allocateChecks size x
+      unfolding allocateChecks fitAnswer
+      allocate-given h f t = rw (o, lt-ltb 0 size (omega arith), f, t)
+
+  -- a refusal leaves all as it was
+  pub allocate-declined : (type : ℕ) (r : Refusal) → allocateChecks size x ≡ Refused r → outcome (Refused r) (x .image) (x .table) ≡ allocate size type x
+  unfolding allocate
+  allocate-declined type r e = rw e
+
+  -- otherwise the block is carved and its entry noted
+  pub allocate-done : (type h s word : ℕ) (p : Pointer) (image table : List ℕ) → allocateChecks size x ≡ Accepted h → s ≡ slotExponent (x .image)
+      → image ≡ carved (x .image) h size type → p ≡ pointerTo s h size → table ≡ noted s h size h (x .table) → word ≡ pack p
+      → outcome (Accepted word) image table ≡ allocate size type x
+  unfolding allocate
+  allocate-done type h s word p image table e k i q t w = rw (e, w, q, i, t, k)
+
+-- What it comes to, where rows 4 and 5 are passed.
+
+module _ (s : ℕ) (x : State) (o : opening x ≡ Accepted s) where
+  -- the size is 0
+  pub allocate-refuses-empty : (size type : ℕ) → ltb 0 size ≡ false → allocate size type x ≡ refuse Empty x
+  allocate-refuses-empty size type e =
+      let z : size ≤ 0 = ltb-false 0 size e in
+      sym (allocate-declined size x type Empty (sym (allocate-empty size x s o (omega arith))))
+
+  module _ (size type : ℕ) (e : ltb 0 size ≡ true) where
+    -- the size is not zero
+    not-empty : size ≡ 0 → ⊥
+    not-empty z = let l = ltb-true 0 size e in omega arith
+
+    -- no block fits
+    pub allocate-refuses-full : firstFit (x .image) (16 + size) ≡ fit.End → allocate size type x ≡ refuse NoSpace x
+    allocate-refuses-full f = sym (allocate-declined size x type NoSpace (sym (allocate-full size x s o not-empty f)))
+
+    -- the block at h is taken
+    pub allocate-at : (h : ℕ) → slotExponent (x .image) ≡ s → firstFit (x .image) (16 + size) ≡ fit.At h → entryFree s h size (x .table) ≡ true
+        → allocate size type x ≡ outcome (Accepted (pack (pointerTo s h size))) (carved (x .image) h size type) (noted s h size h (x .table))
+    allocate-at h q f g =
+        sym (allocate-done size x type h s _ _ _ _ (sym (allocate-given size x s o not-empty h f g)) (sym q) refl refl refl refl)
+
+-- The carved image.
+
+-- carving, for an extent that was read
+
+module _ (image : List ℕ) (h size type extent : ℕ) (e : extent ≡ extentAt image h) where
+  -- all of the block is taken
+  pub carved-whole : extent - (16 + size) < 16 → carved image h size type ≡ put image h (liveHeader extent type size)
+  unfolding carved
+  carved-whole l = rw (← e, lt-ltb _ _ l) refl
+
+  -- the rest stays free
+  pub carved-rest : 16 ≤ extent - (16 + size) → carved image h size type ≡ put (put image h (liveHeader (16 + size) type size)) (h + (16 + size)) (freeHeader (extent - (16 + size)))
+  unfolding carved
+  carved-rest l = rw (← e, le-ltb _ _ l) refl
+
+-- the block that is carved, where the free one has room
+
+module _ (image : List ℕ) (h size type : ℕ) (room : 16 + size ≤ extentAt image h) (inside : h + extentAt image h ≤ length image) where
+  -- carving keeps the length
+  pub length-carved : length (carved image h size type) ≡ length image
+  length-carved =
+      let extent : ℕ = extentAt image h in
+      let n = length-header extent 2 type size in
+      let m = length-header (16 + size) 2 type size in
+      let k = length-header (extent - (16 + size)) 1 0 0 in
+      byBool (ltb (extent - (16 + size)) 16)
+      (λ t. ap length (carved-whole image h size type extent refl (ltb-true _ _ t)) ∙ length-put image h (liveHeader extent type size) (omega arith))
+      (λ t.
+      let rest : 16 ≤ extent - (16 + size) = ltb-false _ _ t in
+      let one : length (put image h (liveHeader (16 + size) type size)) ≡ length image = length-put image h (liveHeader (16 + size) type size) (omega arith) in
+      ap length (carved-rest image h size type extent refl rest)
+      ∙ length-put (put image h (liveHeader (16 + size) type size)) (h + (16 + size)) (freeHeader (extent - (16 + size))) (omega arith)
+      ∙ one)
+
+  -- and the slot exponent
+  pub carved-exponent : 16 ≤ h → slotExponent (carved image h size type) ≡ slotExponent image
+  carved-exponent low =
+      let extent : ℕ = extentAt image h in
+      let n = length-header extent 2 type size in
+      let m = length-header (16 + size) 2 type size in
+      let k = length-header (extent - (16 + size)) 1 0 0 in
+      byBool (ltb (extent - (16 + size)) 16)
+      (λ t.
+      ap slotExponent (carved-whole image h size type extent refl (ltb-true _ _ t))
+      ∙ superblock-kept image h (liveHeader extent type size) (omega arith) low .1)
+      (λ t.
+      let rest : 16 ≤ extent - (16 + size) = ltb-false _ _ t in
+      let one : length (put image h (liveHeader (16 + size) type size)) ≡ length image = length-put image h (liveHeader (16 + size) type size) (omega arith) in
+      ap slotExponent (carved-rest image h size type extent refl rest)
+      ∙ superblock-kept (put image h (liveHeader (16 + size) type size)) (h + (16 + size)) (freeHeader (extent - (16 + size))) (omega arith) (omega arith) .1
+      ∙ superblock-kept image h (liveHeader (16 + size) type size) (omega arith) low .1)
+
+  -- its header: an extent with at most 15 spare bytes, the type and the size
+  pub record CarvedHeader : Type 0 where
+    pub extent : ℕ
+    pub is-header : headerAt (carved image h size type) h ≡ fields extent 2 type size
+    pub holds : 16 + size ≤ extent
+    pub tight : extent ≤ 31 + size
+    pub ends : h + extent ≤ length image
+
+  -- it can be read back
+  pub carved-header : length image ≤ 2 ^ 30 → type < 2 ^ 16 → CarvedHeader
+  carved-header short fits =
+      let extent : ℕ = extentAt image h in
+      let m = length-header (16 + size) 2 type size in
+      let k = length-header (extent - (16 + size)) 1 0 0 in
+      byBool (ltb (extent - (16 + size)) 16)
+      (λ t.
+      let few : extent - (16 + size) < 16 = ltb-true _ _ t in
+      record {
+        extent = extent;
+        is-header =
+            ap (λ (i : List ℕ). headerAt i h) (carved-whole image h size type extent refl few)
+            ∙ headerAt-put image h extent 2 type size (omega arith)
+            (record { extent-fits = omega arith; kind-fits = omega arith; type-fits = fits; size-fits = omega arith });
+        holds = room;
+        tight = omega arith;
+        ends = inside;
+      })
+      (λ t.
+      let rest : 16 ≤ extent - (16 + size) = ltb-false _ _ t in
+      let one : length (put image h (liveHeader (16 + size) type size)) ≡ length image = length-put image h (liveHeader (16 + size) type size) (omega arith) in
+      record {
+        extent = 16 + size;
+        is-header =
+            ap (λ (i : List ℕ). headerAt i h) (carved-rest image h size type extent refl rest)
+            ∙ headerAt-put-other (put image h (liveHeader (16 + size) type size)) (h + (16 + size)) (freeHeader (extent - (16 + size))) h (omega arith) (inl (omega arith))
+            ∙ headerAt-put image h (16 + size) 2 type size (omega arith)
+            (record { extent-fits = omega arith; kind-fits = omega arith; type-fits = fits; size-fits = omega arith });
+        holds = omega arith;
+        tight = omega arith;
+        ends = omega arith;
+      })

@@ -1,0 +1,45 @@
+-- Tests in a row: refused, or gone on. Assumes nothing.
+use Prim.Native.Nat.{ℕ}
+use mathlib.Core.Path.{_≡_, refl}
+use mathlib.Core.Bool.{Bool, true, false}
+use mathlib.Core.Logic.{_↔_}
+use native.Mathlib.Omega.{arith}
+use Rattle.block.specs.laws.Booleans.{true-false}
+use Rattle.store.specs.State.{refusalNumber, returned, demand, andThen}
+use Rattle.store.specs.declared.answer.Refusal.{Refusal}
+use Rattle.store.specs.declared.answer.Refusal.the-variants.{BadExponent, BadLength, TooFewEntries, BadSuperblock, ShortTable, Empty, Unsound, NoSpace, EntryTaken, BadTag, Dangling, Leaves, OutOfBounds, BadWidth, NotBase, TooLarge}
+use Rattle.store.specs.declared.answer.Answer.{Answer}
+use Rattle.store.specs.declared.answer.Answer.the-variants.{Accepted, Refused}
+
+-- no refusal has the number 0
+pub refused-some : (r : Refusal) → refusalNumber r ≡ 0 → ⊥
+refused-some BadExponent e = omega arith
+refused-some BadLength e = omega arith
+refused-some TooFewEntries e = omega arith
+refused-some BadSuperblock e = omega arith
+refused-some ShortTable e = omega arith
+refused-some Empty e = omega arith
+refused-some Unsound e = omega arith
+refused-some NoSpace e = omega arith
+refused-some EntryTaken e = omega arith
+refused-some BadTag e = omega arith
+refused-some Dangling e = omega arith
+refused-some Leaves e = omega arith
+refused-some OutOfBounds e = omega arith
+refused-some BadWidth e = omega arith
+refused-some NotBase e = omega arith
+refused-some TooLarge e = omega arith
+
+-- a test is accepted exactly where it holds
+pub demand-iff : (ok : Bool) (r : Refusal) (v : ℕ) → (returned (demand ok r (Accepted v)) ≡ 0) ↔ (ok ≡ true)
+demand-iff true r v = ((λ e. refl), λ e. refl)
+demand-iff false r v = ((λ e. absurd (refused-some r e)), λ (e : false ≡ true). absurd (true-false e refl))
+
+-- a test that came through is met, and what follows it came through too
+pub demand-met : (ok : Bool) (r : Refusal) (next : Answer) (v : ℕ) → demand ok r next ≡ Accepted v → (ok ≡ true) × (next ≡ Accepted v)
+demand-met true r next v e = (refl, e)
+demand-met false r next v e = let z : _≡_ {A = ℕ} 0 1 = cc in absurd (omega arith)
+
+pub and-then-met : (a : Answer) (next : ℕ → Answer) (v : ℕ) → andThen a next ≡ Accepted v → (u : ℕ) × (a ≡ Accepted u) × (next u ≡ Accepted v)
+and-then-met (Accepted u) next v e = (u, refl, e)
+and-then-met (Refused r) next v e = let z : _≡_ {A = ℕ} 0 1 = cc in absurd (omega arith)

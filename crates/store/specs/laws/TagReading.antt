@@ -1,0 +1,169 @@
+-- Reading a tag: rows 10 and 11.
+-- In order: what is known where they are passed, how they are passed, that an object's pointers lead to it, each way out. Assumes nothing.
+use Prim.Native.Nat.{ℕ, _+_, _*_, _/_, _^_, _≤_, _<_}
+use mathlib.Core.Path.{_≡_, sym, ap, _∙_}
+use mathlib.Core.Bool.{true, false, _&&_}
+use mathlib.Core.List.{List}
+use native.Mathlib.Nat.{div-mul-le-self}
+use native.Mathlib.Omega.{arith}
+use lib.Dec.{ltb}
+use lib.ListN.{length, getD}
+use borrow.Author.Tests.{ltb-true, eqb-true, lt-ltb, eq-eqb, ne-eqb, le-ltb}
+use Rattle.frame.specs.Frame.{frameStart, sameFrame}
+use Rattle.frame.specs.Pointers.{unpack, goodTag, reach, at}
+use Rattle.frame.specs.Tags.{wrapper, pointerTo, entryOf, tagMatches, entryAt}
+use Rattle.frame.specs.laws.Wrappers.{slot-leads, entry-same}
+use Rattle.frame.specs.laws.Tags.{pointer-small, pointer-large, by-frame}
+use Rattle.frame.specs.laws.Objects.{PointerOf, same-reach, object-tag, object-matches}
+use Rattle.frame.specs.declared.parts.Pointer.{Pointer}
+use Rattle.block.specs.laws.Booleans.{and-left, and-right}
+use Rattle.block.specs.Layout.{sound, isLive, sizeAt, kindAt}
+use Rattle.store.specs.State.{State}
+use Rattle.store.specs.Calls.{headerPlace, verified, leadsBack, located}
+use Rattle.store.specs.laws.Refusals.{demand-met}
+use Rattle.store.specs.declared.answer.Refusal.the-variants.{BadTag, Dangling}
+use Rattle.store.specs.declared.answer.Answer.the-variants.{Accepted, Refused}
+
+-- the header at h is the one that the pointer was made for
+pub record Verified (s : ℕ) (p : Pointer) (x : State) (h : ℕ) : Type 0 where
+  pub is-sound : sound (x .image) h ≡ true
+  pub is-live : isLive (x .image) h ≡ true
+  pub matches : tagMatches s h (sizeAt (x .image) h) p ≡ true
+  pub near : h / 2 ^ reach s p ≡ p .address / 2 ^ reach s p
+
+-- rows 10 and 11 are passed: the pointer leads to the header at h
+pub record Located (s : ℕ) (p : Pointer) (x : State) (h : ℕ) : Type 0 where
+  pub good : goodTag s p ≡ true
+  pub starts : frameStart (reach s p) (p .address) < length (x .image)
+  pub place : h ≡ headerPlace s p (x .table)
+  pub header : Verified s p x h
+
+pub located-parts : (s : ℕ) (p : Pointer) (x : State) (h : ℕ) → located s p x ≡ Accepted h → Located s p x h
+unfolding located leadsBack verified
+located-parts s p x h e =
+    let a = demand-met (goodTag s p) BadTag _ h e in
+    let b = demand-met (leadsBack s p x) Dangling _ h (a .1) in
+    let q : h ≡ headerPlace s p (x .table) = cc in
+    let k = headerPlace s p (x .table) in
+    let v : verified s p (x .image) k ≡ true = and-right (ltb (frameStart (reach s p) (p .address)) (length (x .image))) _ (b .0) in
+    let w : isLive (x .image) k && (tagMatches s k (sizeAt (x .image) k) p && sameFrame (reach s p) k (p .address)) ≡ true = and-right (sound (x .image) k) _ v in
+    let u : tagMatches s k (sizeAt (x .image) k) p && sameFrame (reach s p) k (p .address) ≡ true = and-right (isLive (x .image) k) _ w in
+    record {
+      good = a .0;
+      starts = ltb-true _ _ (and-left _ (verified s p (x .image) k) (b .0));
+      place = q;
+      header =
+          rw q
+          (record {
+            is-sound = and-left _ (isLive (x .image) k && (tagMatches s k (sizeAt (x .image) k) p && sameFrame (reach s p) k (p .address))) v;
+            is-live = and-left _ (tagMatches s k (sizeAt (x .image) k) p && sameFrame (reach s p) k (p .address)) w;
+            matches = and-left _ (sameFrame (reach s p) k (p .address)) u;
+            near = eqb-true _ _ (and-right (tagMatches s k (sizeAt (x .image) k) p) _ u);
+          });
+    }
+
+-- how row 11 is passed
+pub located-leads : (s : ℕ) (p : Pointer) (x : State) (h : ℕ) → Located s p x h → leadsBack s p x ≡ true
+unfolding leadsBack verified
+located-leads s p x h l =
+    let k = l .place in
+    let v = l .header in
+    rw (← k, lt-ltb _ _ (l .starts), v .is-sound, v .is-live, v .matches, eq-eqb _ _ (v .near))
+
+-- and both
+pub located-at : (s : ℕ) (p : Pointer) (x : State) (h : ℕ) → Located s p x h → located s p x ≡ Accepted h
+unfolding located
+located-at s p x h l = let k = l .place in rw (l .good, located-leads s p x h l, ← k)
+
+-- an object's pointer leads to its header from every address of its slot or wrapper frame
+place-at : (s h size a : ℕ) (table : List ℕ) → a / 2 ^ reach s (pointerTo s h size) ≡ h / 2 ^ reach s (pointerTo s h size)
+    → (s < wrapper h size → getD table (entryOf s h size) 0 ≡ h) → headerPlace s (at (pointerTo s h size) a) table ≡ h
+unfolding headerPlace reach
+place-at s h size a table near entry =
+    by-frame s h size
+    (λ l. let n : a / 2 ^ s ≡ h / 2 ^ s = rw (pointer-small s h size l) at near in
+    rw (pointer-small s h size l) (slot-leads s h a n))
+    (λ l. let n : a / 2 ^ wrapper h size ≡ h / 2 ^ wrapper h size = rw (pointer-large s h size l) at near in
+    rw (pointer-large s h size l) (ap (λ (j : ℕ). getD table j 0) (entry-same s (wrapper h size) a h n) ∙ entry l))
+
+-- a live object of `size` bytes with a sound header at h, and its place in its table entry where it is large-framed
+pub record Stands (s : ℕ) (x : State) (h size : ℕ) : Type 0 where
+  pub exponent : s ≤ 15
+  pub inside : h + 16 + size ≤ length (x .image)
+  pub short : length (x .image) ≤ 2 ^ 30
+  pub is-sound : sound (x .image) h ≡ true
+  pub is-live : isLive (x .image) h ≡ true
+  pub size-is : sizeAt (x .image) h ≡ size
+  pub entry : s < wrapper h size → getD (x .table) (entryOf s h size) 0 ≡ h
+
+-- its pointers lead to it
+pub located-object : (s : ℕ) (x : State) (h size word : ℕ) → Stands s x h size → PointerOf s h size word → Located s (unpack word) x h
+located-object s x h size word o g =
+    let n : ℕ = reach s (unpack word) in
+    let near : unpack word .address / 2 ^ n ≡ h / 2 ^ n = rw (same-reach s h size word g) (g .near) in
+    record {
+      good = object-tag s h size word (o .exponent) (omega (arith, o .inside, o .short)) g;
+      starts = omega (arith, o .inside, ap (λ (q : ℕ). q * 2 ^ n) near, div-mul-le-self h (2 ^ n));
+      place =
+          sym (ap (λ (q : Pointer). headerPlace s q (x .table)) (g .shape) ∙ place-at s h size (unpack word .address) (x .table) (g .near) (o .entry));
+      header = record {
+        is-sound = o .is-sound;
+        is-live = o .is-live;
+        matches = ap (λ (k : ℕ). tagMatches s h k (unpack word)) (o .size-is) ∙ object-matches s h size word g;
+        near = sym near;
+      };
+    }
+
+-- The ways out.
+
+-- the place that a tag leads to
+
+module _ (s : ℕ) (p : Pointer) (table : List ℕ) where
+  pub place-small : p .flag ≡ true → frameStart s (p .address) + p .tag ≡ headerPlace s p table
+  unfolding headerPlace
+  place-small f = rw f
+
+  pub place-large : p .flag ≡ false → getD table (entryAt s (p .tag) (p .address)) 0 ≡ headerPlace s p table
+  unfolding headerPlace
+  place-large f = rw f
+
+-- the header there
+
+module _ (s : ℕ) (p : Pointer) (image : List ℕ) (h : ℕ) where
+  pub not-sound : sound image h ≡ false → false ≡ verified s p image h
+  unfolding verified
+  not-sound e = rw e
+
+  module _ (so : sound image h ≡ true) where
+    pub not-live : (kindAt image h ≡ 2 → ⊥) → false ≡ verified s p image h
+    unfolding verified
+    not-live n = rw (so, ne-eqb (kindAt image h) 2 n)
+
+    pub no-match : kindAt image h ≡ 2 → tagMatches s h (sizeAt image h) p ≡ false → false ≡ verified s p image h
+    unfolding verified
+    no-match k e = rw (so, eq-eqb (kindAt image h) 2 k, e)
+
+    pub match : kindAt image h ≡ 2 → tagMatches s h (sizeAt image h) p ≡ true → sameFrame (reach s p) h (p .address) ≡ verified s p image h
+    unfolding verified
+    match k e = rw (so, eq-eqb (kindAt image h) 2 k, e)
+
+-- rows 10 and 11
+
+module _ (s : ℕ) (p : Pointer) (x : State) where
+  pub bad-tag : goodTag s p ≡ false → Refused BadTag ≡ located s p x
+  unfolding located
+  bad-tag e = rw e
+
+  module _ (good : goodTag s p ≡ true) where
+    pub starts-past : length (x .image) ≤ frameStart (reach s p) (p .address) → Refused Dangling ≡ located s p x
+    unfolding located leadsBack
+    starts-past l = rw (good, le-ltb _ _ l)
+
+    module _ (starts : frameStart (reach s p) (p .address) < length (x .image)) where
+      pub dangling : verified s p (x .image) (headerPlace s p (x .table)) ≡ false → Refused Dangling ≡ located s p x
+      unfolding located leadsBack
+      dangling e = rw (good, lt-ltb _ _ starts, e)
+
+      pub leads : verified s p (x .image) (headerPlace s p (x .table)) ≡ true → Accepted (headerPlace s p (x .table)) ≡ located s p x
+      unfolding located leadsBack
+      leads e = rw (good, lt-ltb _ _ starts, e)
