@@ -7,7 +7,7 @@ ghost use mathlib.Core.Path.{_≡_};
 ghost use Prim.Native.Nat.{_+_, _≤_, _<_, _^_};
 ghost use lib.ListN.{length};
 ghost use Rattle.block.specs.Bytes.{put};
-ghost use Rattle.block.specs.Layout.{header, freeHeader, liveHeader, headerAt, wellFormed, examined};
+ghost use Rattle.block.specs.Layout.{header, freeHeader, liveHeader, headerAt, extentAt, kindAt, typeAt, sizeAt, wellFormed, examined};
 
 // A block header's fields. `last` is the four bytes that must be zero.
 pub struct Header {
@@ -24,15 +24,47 @@ pub enum Examined {
     Unsound,
 }
 
+// The extent in the header at h, in bytes.
+pub fn extent_at(image: &[u8], h: usize) -> u64
+    requires { ⌜ h + 16 ≤ length (now image) ⌝ }
+    ensures { λ r. ⌜ r ≡ extentAt (now (image .entry)) h ⌝ }
+{
+    read4(image, h)
+}
+
+// Its kind.
+pub fn kind_at(image: &[u8], h: usize) -> u64
+    requires { ⌜ h + 16 ≤ length (now image) ⌝ }
+    ensures { λ r. ⌜ r ≡ kindAt (now (image .entry)) h ⌝ }
+{
+    read2(image, h + 4)
+}
+
+// Its type number.
+fn type_at(image: &[u8], h: usize) -> u64
+    requires { ⌜ h + 16 ≤ length (now image) ⌝ }
+    ensures { λ r. ⌜ r ≡ typeAt (now (image .entry)) h ⌝ }
+{
+    read2(image, h + 6)
+}
+
+// The raw size in it, in bytes.
+pub fn size_at(image: &[u8], h: usize) -> u64
+    requires { ⌜ h + 16 ≤ length (now image) ⌝ }
+    ensures { λ r. ⌜ r ≡ sizeAt (now (image .entry)) h ⌝ }
+{
+    read4(image, h + 8)
+}
+
 // The fields of the header at h.
 pub fn read_header(image: &[u8], h: usize) -> Header
     requires { ⌜ h + 16 ≤ length (now image) ⌝ }
     ensures { λ r. ⌜ r ≡ headerAt (now (image .entry)) h ⌝ }
 {
-    let extent = read4(image, h);
-    let kind = read2(image, h + 4);
-    let ty = read2(image, h + 6);
-    let size = read4(image, h + 8);
+    let extent = extent_at(image, h);
+    let kind = kind_at(image, h);
+    let ty = type_at(image, h);
+    let size = size_at(image, h);
     let last = read4(image, h + 12);
     Header {
         extent,

@@ -7,12 +7,20 @@ ghost use mathlib.Core.Path.{_≡_};
 ghost use Prim.Native.Nat.{_≤_, _<_};
 ghost use lib.ListN.{length};
 ghost use Rattle.block.specs.Bytes.{put};
-ghost use Rattle.block.specs.Layout.{superblock, opened};
+ghost use Rattle.block.specs.Layout.{superblock, slotExponent, opened};
 
 // What an image's superblock says: the slot exponent, or that it is not as laid out.
 pub enum Opened {
     Exponent(u32),
     Bad,
+}
+
+// The slot exponent in the superblock.
+pub fn slot_exponent(image: &[u8]) -> u64
+    requires { ⌜ 16 ≤ length (now image) ⌝ }
+    ensures { λ r. ⌜ r ≡ slotExponent (now (image .entry)) ⌝ }
+{
+    read2(image, 6)
 }
 
 // Tests the superblock of any image.
@@ -38,7 +46,7 @@ pub fn open(image: &[u8]) -> Opened
     if read4(image, 12) != 0 {
         return Opened::Bad;
     }
-    let s = read2(image, 6);
+    let s = slot_exponent(image);
     if s < 6 {
         return Opened::Bad;
     }

@@ -37,8 +37,8 @@ read4-requires-3 c κs = search needs
 returns-6 : tie.Need-returns-6
 returns-6 c = sym (opened-bad _ (λ p. omega arith))
 
-read2-requires-2 : tie.Need-read2-requires-2
-read2-requires-2 c κs = search needs
+slot-exponent-requires : tie.Need-slot-exponent-requires
+slot-exponent-requires c κs = search needs
 
 returns-7 : tie.Need-returns-7
 returns-7 c = sym (opened-bad _ (λ p. omega arith))
@@ -51,7 +51,7 @@ cast-t7 c = search needs
 
 returns-9 : tie.Need-returns-9
 returns-9 c =
-    ap opening.Exponent (c .before .before .read22 .ensures)
+    ap opening.Exponent (c .before .before .slot-exponent .ensures)
     ∙ sym
     (opened-good _
     (superblock-good _
@@ -81,7 +81,7 @@ open-spec =
     returns-5
     read4-requires-3
     returns-6
-    read2-requires-2
+    slot-exponent-requires
     returns-7
     returns-8
     cast-t7
