@@ -1,23 +1,25 @@
 -- Free, way out by way out: where the merged block starts and ends, and the bytes of it. Assumes nothing.
 use mathlib.Core.Path.{_≡_, refl, sym, ap, _∙_}
-use mathlib.Core.Bool.{true, false, and-false}
+use mathlib.Core.Bool.{true, false, cond, and-false}
 use mathlib.Core.List.{List, _++_}
 use Prim.Native.Nat.{ℕ, _+_, _-_, _≤_, _<_}
 use native.Mathlib.Omega.{arith}
-use lib.Dec.{ltb}
+use lib.Dec.{ltb, eqb}
 use lib.ListN.{length, replicate, length-replicate, replicate-append-replicate}
-use borrow.Author.Tests.{le-leb, lt-leb, le-ltb, eq-eqb, ne-eqb}
-use Rattle.block.specs.Bytes.{field, put}
-use Rattle.block.specs.laws.Writes.{put-over}
-use Rattle.block.specs.Layout.{freeHeader, sound, extentAt, kindAt}
-use Rattle.block.specs.laws.Headers.{kind-field, length-header}
-use Rattle.block.specs.laws.Soundness.{sound-in}
+use borrow.Author.Tests.{le-leb, lt-leb, le-ltb, lt-ltb, eq-eqb, ne-eqb}
+use Rattle.block.specs.Bytes.{put}
+use Rattle.block.specs.Layout.{freeHeader, sound, extentAt, kindAt, sizeAt, headerAt}
 use Rattle.block.specs.Walk.{walkTo}
+use Rattle.block.specs.laws.Writes.{put-over}
+use Rattle.block.specs.laws.Headers.{length-header}
+use Rattle.block.specs.laws.Soundness.{sound-in}
 use Rattle.block.specs.laws.WalkTo.{Behind, at-first, at-later, MeetsBlock, walk-to-meets}
+use Rattle.block.specs.declared.header.Header.{Header}
 use Rattle.block.specs.declared.walk.Met.the-variants as met
-use Rattle.store.specs.Calls.{mergeStart, released, merged}
-use Rattle.store.specs.laws.Free.{merge-start-here, merge-start-free, merge-end-last, merge-end-free, merge-end-live, released-merges, released-unsound}
+use Rattle.store.specs.Calls.{mergeStart, mergeEnd, merging, released, merged}
+use Rattle.store.specs.laws.Free.{merge-start-here, merge-start-free, merge-end-last, merge-end-next, released-merges, released-unsound}
 use Rattle.store.specs.declared.answer.Refusal.the-variants.{Unsound}
+use Rattle.store.specs.declared.release.Coalesced.{Coalesced}
 use Rattle.store.specs.declared.release.Release.the-variants as release
 
 -- where the merged block starts
@@ -26,41 +28,56 @@ module _ (image : List ℕ) (before h : ℕ) where
   pub starts-first : before ≡ 0 → mergeStart image before h ≡ h
   starts-first e = merge-start-here image h before (rw (le-ltb 0 before (omega arith)))
 
-  pub starts-before : (before ≡ 0 → ⊥) → field image (before + 4) 2 ≡ 1 → mergeStart image before h ≡ before
-  starts-before n k = merge-start-free image h before (omega arith) (eq-eqb _ _ (kind-field image before ∙ k))
+  pub starts-before : (before ≡ 0 → ⊥) → kindAt image before ≡ 1 → mergeStart image before h ≡ before
+  starts-before n k = merge-start-free image h before (omega arith) (eq-eqb _ _ k)
 
-  pub starts-here : (field image (before + 4) 2 ≡ 1 → ⊥) → mergeStart image before h ≡ h
-  starts-here n = merge-start-here image h before (rw (ne-eqb (kindAt image before) 1 (λ k. n (sym (kind-field image before) ∙ k))) (and-false (ltb 0 before)))
+  pub starts-here : (kindAt image before ≡ 1 → ⊥) → mergeStart image before h ≡ h
+  starts-here n = merge-start-here image h before (rw (ne-eqb (kindAt image before) 1 n) (and-false (ltb 0 before)))
 
+-- the walk meets the sound block at h, behind the one at `before`; `next` is where it ends, and `size` what its header has
+pub record Meets (image : List ℕ) (h before next size : ℕ) : Type 0 where
+  pub met : walkTo image h ≡ met.After before
+  pub follows : next ≡ h + extentAt image h
+  pub is-sound : sound image h ≡ true
+  pub size-is : size ≡ sizeAt image h
+
+module _ {image : List ℕ} {h before next size : ℕ} (m : Meets image h before next size) where
   -- the block before h has room for a header
-  pub before-in : walkTo image h ≡ met.After before → before + 16 ≤ length image
-  before-in e = go before h (m .behind) (sound-in image h (m .is-sound))
+  pub before-in : before + 16 ≤ length image
+  before-in = go before h (b .behind) (sound-in image h (b .is-sound))
     where
-      m : MeetsBlock image h before
-      m = walk-to-meets image h before e
+      b : MeetsBlock image h before
+      b = walk-to-meets image h before (m .met)
 
-      go : (b k : ℕ) → Behind image b k → k + 16 ≤ length image → b + 16 ≤ length image
+      go : (k at : ℕ) → Behind image k at → at + 16 ≤ length image → k + 16 ≤ length image
       go _ _ at-first l = omega arith
-      go _ _ (at-later b w o) l = sound-in image b o
+      go _ _ (at-later k w o) l = sound-in image k o
 
--- what is released
+  -- What is then released.
 
-module _ (image : List ℕ) (h before next : ℕ) (e : next ≡ h + extentAt image h) where
-  pub released-last : length image ≤ next → released image h (met.After before) ≡ release.Merges h (mergeStart image before h) next
+  -- a merged block from `from` to `to`
+  abbrev joins : ℕ → ℕ → Coalesced
+  joins from to = record { header = h; size = size; from = from; to = to }
+
+  -- nothing follows
+  pub released-last : length image ≤ next → released image h (walkTo image h) ≡ release.Merges (joins (mergeStart image before h) next)
   released-last l =
-      let m : length image ≤ h + extentAt image h = omega arith in
-      released-merges image h before (rw (le-leb _ _ m)) ∙ rw (merge-end-last image (h + extentAt image h) m, ← e) refl
+      let n : length image ≤ h + extentAt image h = omega (arith, m .follows) in
+      ap (released image h) (m .met) ∙ released-merges image h before (rw (le-leb _ _ n))
+      ∙ rw (merge-end-last image (h + extentAt image h) n, m .follows, m .size-is) refl
 
-  pub released-bad : next < length image → sound image next ≡ false → released image h (met.After before) ≡ release.Refused Unsound
-  released-bad l o = released-unsound image h before (rw (← e, lt-leb _ _ l, o))
+  module _ (l : next < length image) where
+    -- the next header is unsound
+    pub released-bad : sound image next ≡ false → released image h (walkTo image h) ≡ release.Refused Unsound
+    released-bad o = let e = m .follows in ap (released image h) (m .met) ∙ released-unsound image h before (rw (← e, lt-leb _ _ l, o))
 
-  pub released-free : next < length image → sound image next ≡ true → kindAt image next ≡ 1 → released image h (met.After before) ≡ release.Merges h (mergeStart image before h) (next + extentAt image next)
-  released-free l o k =
-      released-merges image h before (rw (← e, lt-leb _ _ l, o)) ∙ rw (← e, merge-end-free image next l (eq-eqb _ _ k)) refl
-
-  pub released-live : next < length image → sound image next ≡ true → (kindAt image next ≡ 1 → ⊥) → released image h (met.After before) ≡ release.Merges h (mergeStart image before h) next
-  released-live l o k =
-      released-merges image h before (rw (← e, lt-leb _ _ l, o)) ∙ rw (← e, merge-end-live image next (ne-eqb _ _ k)) refl
+    -- it is the sound header d
+    pub released-next : (d : Header) → d ≡ headerAt image next → sound image next ≡ true
+        → released image h (walkTo image h) ≡ release.Merges (joins (mergeStart image before h) (cond (eqb (d .kind) 1) (next + d .extent) next))
+    released-next d k o =
+        let e = m .follows in
+        ap (released image h) (m .met) ∙ released-merges image h before (rw (← e, lt-leb _ _ l, o))
+        ∙ rw (← e, merge-end-next image next l, m .size-is, k) refl
 
 -- a header written over zeros
 pub merged-over : (image : List ℕ) (from to : ℕ) → from + 16 ≤ to → to ≤ length image → put (put image from (replicate (to - from) 0)) from (freeHeader (to - from)) ≡ merged image from to

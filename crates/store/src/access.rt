@@ -10,7 +10,7 @@ ghost use Rattle.store.specs.Calls.{goodWidth, loadAnswer, storeChecks, 
 use crate::answer::Answer;
 use crate::answer::Refusal;
 use crate::locate::access;
-use crate::locate::opening;
+use crate::opening::opening;
 use block::bytes::read1;
 use block::bytes::read2;
 use block::bytes::read4;

@@ -5,7 +5,7 @@ ghost use Rattle.store.specs.Calls.{copyChecks, copy};
 use crate::answer::Answer;
 use crate::answer::Refusal;
 use crate::locate::access;
-use crate::locate::opening;
+use crate::opening::opening;
 use block::bytes::copy_within;
 use frame::Pointer;
 

@@ -4,7 +4,7 @@ ghost use Rattle.store.specs.State.{state};
 ghost use Rattle.store.specs.Calls.{tally};
 use crate::answer::Answer;
 use crate::answer::Refusal;
-use crate::locate::opening;
+use crate::opening::opening;
 use block::walk::Counted;
 use block::walk::count_blocks;
 

@@ -4,8 +4,10 @@ mod allocation;
 mod answer;
 mod copying;
 mod counting;
+mod entries;
 mod locate;
 mod moving;
+mod opening;
 mod release;
 mod setup;
 

@@ -6,36 +6,28 @@ ghost use lib.ListN.{length};
 ghost use Rattle.frame.specs.Frame.{frameStart};
 ghost use Rattle.frame.specs.Pointers.{InRange, unpack, goodTag, reach};
 ghost use Rattle.frame.specs.Tags.{entryAt};
-ghost use Rattle.store.specs.State.{state};
-ghost use Rattle.store.specs.Calls.{opening, headerPlace, verified, located, accessed};
+ghost use Rattle.store.specs.State.{state, demand};
+ghost use Rattle.store.specs.Calls.{opening, headerPlace, verified, accessed};
+ghost use Rattle.store.specs.laws.TagReading.{foundAt, readTag};
 use crate::answer::Answer;
 use crate::answer::Refusal;
-use block::bytes::read4;
 use block::header::Examined;
 use block::header::examine;
-use block::superblock::Opened;
-use block::superblock::open;
 use frame::Pointer;
 use frame::Reach;
 use frame::entry_index;
 use frame::same_frame;
-use frame::used_entries;
 
-// Rows 4 and 5, with which every call but set-up begins; the number is the slot exponent.
-pub fn opening(image: &[u8], table: &[u64]) -> Answer
-    ensures { λ r. ⌜ r ≡ opening (state (now (image .entry)) (now (table .entry))) ⌝ }
-{
-    match open(image) {
-        Opened::Bad => Answer::Refused(Refusal::BadSuperblock),
-        Opened::Exponent(s) => {
-            let used = used_entries(s, image.len() as u64);
-            if (table.len() as u64) < used {
-                Answer::Refused(Refusal::ShortTable)
-            } else {
-                Answer::Accepted(s as u64)
-            }
-        }
-    }
+// The object that a tag leads to: its header's place, and its raw size in bytes.
+pub struct Reading {
+    pub header: u64,
+    pub size: u64,
+}
+
+// What reading a tag answers.
+pub enum Found {
+    At(Reading),
+    Refused(Refusal),
 }
 
 // The place that the tag leads to: in the pointer's slot, or through the table.
@@ -50,42 +42,44 @@ fn header_place(table: &[u64], s: u32, n: u32, p: Pointer) -> u64
     table[entry]
 }
 
-// Whether the header at h, which may be any number, is the one that the pointer was made for.
-fn verified(image: &[u8], s: u32, n: u32, p: Pointer, h: u64) -> bool
+// The object at h, which may be any number, where its header is the one that the pointer was made for.
+fn verified_at(image: &[u8], s: u32, n: u32, p: Pointer, h: u64) -> Found
     requires { ⌜ (s < 16) × (goodTag s p ≡ true) × (n ≡ reach s p) × (length (now image) < 2 ^ 31) ⌝ }
-    ensures { λ r. ⌜ r ≡ verified s p (now (image .entry)) h ⌝ }
+    ensures { λ r. ⌜ r ≡ foundAt (demand (verified s p (now (image .entry)) h) Refusal.Dangling (Answer.Accepted h)) (now (image .entry)) ⌝ }
 {
     match examine(image, h) {
-        Examined::Unsound => false,
+        Examined::Unsound => Found::Refused(Refusal::Dangling),
         Examined::Sound(d) => {
             if d.kind != 2 {
-                return false;
+                return Found::Refused(Refusal::Dangling);
             }
             if !p.tag_matches(s, h, d.size) {
-                return false;
+                return Found::Refused(Refusal::Dangling);
             }
-            same_frame(n, h, p.address)
+            if !same_frame(n, h, p.address) {
+                return Found::Refused(Refusal::Dangling);
+            }
+            Found::At(Reading {
+                header: h,
+                size: d.size,
+            })
         }
     }
 }
 
-// Reads a tag: rows 10 and 11; the number is the header's place.
-pub fn locate(image: &[u8], table: &[u64], s: u32, p: Pointer) -> Answer
+// Reads a tag: rows 10 and 11.
+pub fn locate(image: &[u8], table: &[u64], s: u32, p: Pointer) -> Found
     requires { ⌜ (opening (state (now image) (now table)) ≡ Answer.Accepted s) × (InRange p) ⌝ }
-    ensures { λ r. ⌜ r ≡ located s p (state (now (image .entry)) (now (table .entry))) ⌝ }
+    ensures { λ r. ⌜ r ≡ readTag s p (state (now (image .entry)) (now (table .entry))) ⌝ }
 {
     match p.reach(s) {
-        Reach::BadTag => Answer::Refused(Refusal::BadTag),
+        Reach::BadTag => Found::Refused(Refusal::BadTag),
         Reach::Within(n) => {
             if (image.len() as u64) <= p.frame_start(n) {
-                return Answer::Refused(Refusal::Dangling);
+                return Found::Refused(Refusal::Dangling);
             }
             let h = header_place(table, s, n, p);
-            if verified(image, s, n, p, h) {
-                Answer::Accepted(h)
-            } else {
-                Answer::Refused(Refusal::Dangling)
-            }
+            verified_at(image, s, n, p, h)
         }
     }
 }
@@ -97,11 +91,10 @@ pub fn access(image: &[u8], table: &[u64], s: u32, pointer: u64, n: u64) -> Answ
 {
     let p = Pointer::unpack(pointer);
     match locate(image, table, s, p) {
-        Answer::Refused(r) => Answer::Refused(r),
-        Answer::Accepted(h) => {
-            let size = read4(image, h as usize + 8);
-            let base = h + 16;
-            let end = base + size;
+        Found::Refused(r) => Answer::Refused(r),
+        Found::At(o) => {
+            let base = o.header + 16;
+            let end = base + o.size;
             let at = p.address;
             if at < base {
                 return Answer::Refused(Refusal::OutOfBounds);

@@ -6,7 +6,7 @@ ghost use Rattle.store.specs.State.{state};
 ghost use Rattle.store.specs.Calls.{movedBy, moveAnswer};
 use crate::answer::Answer;
 use crate::answer::Refusal;
-use crate::locate::opening;
+use crate::opening::opening;
 use frame::Moved;
 use frame::Pointer;
 use frame::Reach;

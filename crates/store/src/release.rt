@@ -1,30 +1,41 @@
 // Free: the block joins the free blocks directly before and after it.
 ghost use mathlib.Core.Path.{_≡_};
-ghost use mathlib.Core.Bool.{true};
-ghost use Prim.Native.Nat.{_+_, _≤_};
+ghost use mathlib.Core.Bool.{true, cond};
+ghost use Prim.Native.Nat.{_+_, _≤_, _<_, _^_};
+ghost use lib.Dec.{eqb};
 ghost use lib.ListN.{length};
-ghost use Rattle.block.specs.Layout.{sound};
+ghost use Rattle.block.specs.Layout.{sound, sizeAt};
 ghost use Rattle.block.specs.Walk.{walkTo};
 ghost use Rattle.store.specs.State.{state, outcome};
-ghost use Rattle.store.specs.Calls.{mergeStart, released, freeRelease, merged, free};
-use crate::allocation::note;
+ghost use Rattle.store.specs.Calls.{opening, mergeStart, released, freeRelease, merged, free};
 use crate::answer::Answer;
 use crate::answer::Refusal;
+use crate::entries::note;
+use crate::locate::Found;
 use crate::locate::locate;
-use crate::locate::opening;
+use crate::opening::opening;
 use block::bytes::fill;
-use block::bytes::read2;
-use block::bytes::read4;
 use block::header::Examined;
+use block::header::Header;
 use block::header::examine;
+use block::header::extent_at;
+use block::header::kind_at;
 use block::header::write_free;
 use block::walk::Met;
 use block::walk::walk_to;
 use frame::Pointer;
 
-// What a free does: the object's header place, and from where to where the free block then reaches.
+// What a free does: the object's header place and raw size, and from where to where the free block then reaches.
+pub struct Coalesced {
+    pub header: u64,
+    pub size: u64,
+    pub from: u64,
+    pub to: u64,
+}
+
+// What is released, or why it is not.
 pub enum Release {
-    Merges(u64, u64, u64),
+    Merges(Coalesced),
     Refused(Refusal),
 }
 
@@ -36,56 +47,68 @@ fn merge_start(image: &[u8], before: u64, h: u64) -> u64
     if before == 0 {
         return h;
     }
-    if read2(image, before as usize + 4) == 1 {
+    if kind_at(image, before as usize) == 1 {
         before
     } else {
         h
     }
 }
 
-// Row 7 of free, and what is merged with the sound block at h.
-fn coalesce(image: &[u8], h: u64) -> Release
-    requires { ⌜ sound (now image) h ≡ true ⌝ }
+// Where the merged block ends: behind the block d at `next`, where it is free.
+fn merge_end(next: u64, d: Header) -> u64
+    requires { ⌜ next + d .extent < 2 ^ 64 ⌝ }
+    ensures { λ r. ⌜ r ≡ cond (eqb (d .kind) 1) (next + d .extent) next ⌝ }
+{
+    if d.kind == 1 { next + d.extent } else { next }
+}
+
+// Row 7 of free, and what is merged with the sound block at h, whose object has `size` bytes.
+fn coalesce(image: &[u8], h: u64, size: u64) -> Release
+    requires { ⌜ (sound (now image) h ≡ true) × (size ≡ sizeAt (now image) h) ⌝ }
     ensures { λ r. ⌜ r ≡ released (now (image .entry)) h (walkTo (now (image .entry)) h) ⌝ }
 {
     match walk_to(image, h) {
         Met::Lost => Release::Refused(Refusal::Unsound),
         Met::After(before) => {
-            let next = h + read4(image, h as usize);
+            let next = h + extent_at(image, h as usize);
             let from = merge_start(image, before, h);
             if next == image.len() as u64 {
-                return Release::Merges(h, from, next);
+                return Release::Merges(Coalesced {
+                    header: h,
+                    size,
+                    from,
+                    to: next,
+                });
             }
             match examine(image, next) {
                 Examined::Unsound => Release::Refused(Refusal::Unsound),
                 Examined::Sound(d) => {
-                    if d.kind == 1 {
-                        return Release::Merges(h, from, next + d.extent);
-                    }
-                    Release::Merges(h, from, next)
+                    let to = merge_end(next, d);
+                    Release::Merges(Coalesced {
+                        header: h,
+                        size,
+                        from,
+                        to,
+                    })
                 }
             }
         }
     }
 }
 
-// The rows of free.
-fn releasable(image: &[u8], table: &[u64], pointer: u64) -> Release
+// The rows of free after 4 and 5.
+fn releasable(image: &[u8], table: &[u64], s: u32, pointer: u64) -> Release
+    requires { ⌜ opening (state (now image) (now table)) ≡ Answer.Accepted s ⌝ }
     ensures { λ r. ⌜ r ≡ freeRelease pointer (state (now (image .entry)) (now (table .entry))) ⌝ }
 {
-    match opening(image, table) {
-        Answer::Refused(r) => Release::Refused(r),
-        Answer::Accepted(s) => {
-            let p = Pointer::unpack(pointer);
-            match locate(image, table, s as u32, p) {
-                Answer::Refused(r) => Release::Refused(r),
-                Answer::Accepted(h) => {
-                    if p.address != h + 16 {
-                        return Release::Refused(Refusal::NotBase);
-                    }
-                    coalesce(image, h)
-                }
+    let p = Pointer::unpack(pointer);
+    match locate(image, table, s, p) {
+        Found::Refused(r) => Release::Refused(r),
+        Found::At(o) => {
+            if p.address != o.header + 16 {
+                return Release::Refused(Refusal::NotBase);
             }
+            coalesce(image, o.header, o.size)
         }
     }
 }
@@ -103,14 +126,15 @@ fn merge(image: &mut [u8], from: u64, to: u64)
 pub fn free(image: &mut [u8], table: &mut [u64], pointer: u64) -> Answer
     ensures { λ r. ⌜ outcome r (now (image .exit)) (now (table .exit)) ≡ free pointer (state (now (image .entry)) (now (table .entry))) ⌝ }
 {
-    match releasable(image, table, pointer) {
-        Release::Refused(r) => Answer::Refused(r),
-        Release::Merges(h, from, to) => {
-            let s = read2(image, 6) as u32;
-            let size = read4(image, h as usize + 8);
-            merge(image, from, to);
-            note(table, s, h, size, 0);
-            Answer::Accepted(0)
-        }
+    match opening(image, table) {
+        Answer::Refused(r) => Answer::Refused(r),
+        Answer::Accepted(s) => match releasable(image, table, s as u32, pointer) {
+            Release::Refused(r) => Answer::Refused(r),
+            Release::Merges(m) => {
+                merge(image, m.from, m.to);
+                note(table, s as u32, m.header, m.size, 0);
+                Answer::Accepted(0)
+            }
+        },
     }
 }

@@ -1,12 +1,12 @@
 // Set-up: a fresh store on any image and table.
 ghost use mathlib.Core.Path.{_≡_};
-ghost use mathlib.Core.List.{_++_};
 ghost use Prim.Native.Nat.{_<_, _≤_, _^_};
-ghost use lib.ListN.{length, drop, replicate};
+ghost use lib.ListN.{length};
 ghost use Rattle.store.specs.State.{state, outcome};
 ghost use Rattle.store.specs.Calls.{setUpChecks, fresh, setUp};
 use crate::answer::Answer;
 use crate::answer::Refusal;
+use crate::entries::clear_entries;
 use block::bytes::fill;
 use block::header::write_free;
 use block::superblock::write_superblock;
@@ -44,18 +44,6 @@ fn lay_out(image: &mut [u8], s: u32)
     fill(image, 0, len, 0);
     write_superblock(image, s);
     write_free(image, 16, len as u64 - 16);
-}
-
-// Zeroes the first n entries.
-fn clear_entries(table: &mut [u64], n: usize)
-    requires { ⌜ n ≤ length (now table) ⌝ }
-    ensures { λ _. ⌜ now (table .exit) ≡ replicate n 0 ++ drop n (now (table .entry)) ⌝ }
-{
-    let mut i = 0;
-    while i < n {
-        table[i] = 0;
-        i += 1;
-    }
 }
 
 // A fresh store with slot exponent s.

@@ -13,7 +13,8 @@ use Rattle.block.specs.laws.Fields.{length-encode, encode-add, decode-en
 
 -- replaced bytes
 
-put-def : (image : List ℕ) (at : ℕ) (bs : List ℕ) → put image at bs ≡ take at image ++ (bs ++ drop (at + length bs) image)
+-- what they stand between
+pub put-def : (image : List ℕ) (at : ℕ) (bs : List ℕ) → put image at bs ≡ take at image ++ (bs ++ drop (at + length bs) image)
 unfolding put
 put-def image at bs = refl
 

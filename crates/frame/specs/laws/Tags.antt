@@ -85,6 +85,15 @@ pub pointer-large : (s h size : ℕ) → s < wrapper h size → pointerTo s h si
 unfolding pointerTo tagNumber
 pointer-large s h size l = rw (lt-leb (wrapper h size) s l)
 
+-- the slot or frame that it may move in
+pub reach-slot : (s h size : ℕ) → wrapper h size ≤ s → reach s (pointerTo s h size) ≡ s
+unfolding reach
+reach-slot s h size l = rw (pointer-small s h size l)
+
+pub reach-wrapper : (s h size : ℕ) → s < wrapper h size → reach s (pointerTo s h size) ≡ wrapper h size
+unfolding reach
+reach-wrapper s h size l = rw (pointer-large s h size l)
+
 -- its address is the start of the body
 pub pointer-address : (s h size : ℕ) → pointerTo s h size .address ≡ h + 16
 unfolding pointerTo

@@ -1,8 +1,8 @@
 -- Reading a tag: rows 10 and 11.
 -- In order: what is known where they are passed, how they are passed, that an object's pointers lead to it, each way out. Assumes nothing.
 use Prim.Native.Nat.{ℕ, _+_, _*_, _/_, _^_, _≤_, _<_}
-use mathlib.Core.Path.{_≡_, sym, ap, _∙_}
-use mathlib.Core.Bool.{true, false, _&&_}
+use mathlib.Core.Path.{_≡_, refl, sym, ap, _∙_}
+use mathlib.Core.Bool.{Bool, true, false, _&&_}
 use mathlib.Core.List.{List}
 use native.Mathlib.Nat.{div-mul-le-self}
 use native.Mathlib.Omega.{arith}
@@ -13,16 +13,21 @@ use Rattle.frame.specs.Frame.{frameStart, sameFrame}
 use Rattle.frame.specs.Pointers.{unpack, goodTag, reach, at}
 use Rattle.frame.specs.Tags.{wrapper, pointerTo, entryOf, tagMatches, entryAt}
 use Rattle.frame.specs.laws.Wrappers.{slot-leads, entry-same}
-use Rattle.frame.specs.laws.Tags.{pointer-small, pointer-large, by-frame}
+use Rattle.frame.specs.laws.Tags.{pointer-small, pointer-large, reach-slot, reach-wrapper, by-frame}
 use Rattle.frame.specs.laws.Objects.{PointerOf, same-reach, object-tag, object-matches}
 use Rattle.frame.specs.declared.parts.Pointer.{Pointer}
 use Rattle.block.specs.laws.Booleans.{and-left, and-right}
 use Rattle.block.specs.Layout.{sound, isLive, sizeAt, kindAt}
-use Rattle.store.specs.State.{State}
+use Rattle.store.specs.State.{State, demand}
 use Rattle.store.specs.Calls.{headerPlace, verified, leadsBack, located}
 use Rattle.store.specs.laws.Refusals.{demand-met}
+use Rattle.store.specs.declared.answer.Refusal.{Refusal}
 use Rattle.store.specs.declared.answer.Refusal.the-variants.{BadTag, Dangling}
+use Rattle.store.specs.declared.answer.Answer.{Answer}
 use Rattle.store.specs.declared.answer.Answer.the-variants.{Accepted, Refused}
+use Rattle.store.specs.declared.locate.Reading.{Reading}
+use Rattle.store.specs.declared.locate.Found.{Found}
+use Rattle.store.specs.declared.locate.Found.the-variants as found
 
 -- the header at h is the one that the pointer was made for
 pub record Verified (s : ℕ) (p : Pointer) (x : State) (h : ℕ) : Type 0 where
@@ -78,12 +83,12 @@ located-at s p x h l = let k = l .place in rw (l .good, located-leads s p x h l,
 -- an object's pointer leads to its header from every address of its slot or wrapper frame
 place-at : (s h size a : ℕ) (table : List ℕ) → a / 2 ^ reach s (pointerTo s h size) ≡ h / 2 ^ reach s (pointerTo s h size)
     → (s < wrapper h size → getD table (entryOf s h size) 0 ≡ h) → headerPlace s (at (pointerTo s h size) a) table ≡ h
-unfolding headerPlace reach
+unfolding headerPlace
 place-at s h size a table near entry =
     by-frame s h size
-    (λ l. let n : a / 2 ^ s ≡ h / 2 ^ s = rw (pointer-small s h size l) at near in
+    (λ l. let n : a / 2 ^ s ≡ h / 2 ^ s = rw (reach-slot s h size l) at near in
     rw (pointer-small s h size l) (slot-leads s h a n))
-    (λ l. let n : a / 2 ^ wrapper h size ≡ h / 2 ^ wrapper h size = rw (pointer-large s h size l) at near in
+    (λ l. let n : a / 2 ^ wrapper h size ≡ h / 2 ^ wrapper h size = rw (reach-wrapper s h size l) at near in
     rw (pointer-large s h size l) (ap (λ (j : ℕ). getD table j 0) (entry-same s (wrapper h size) a h n) ∙ entry l))
 
 -- a live object of `size` bytes with a sound header at h, and its place in its table entry where it is large-framed
@@ -130,22 +135,23 @@ module _ (s : ℕ) (p : Pointer) (table : List ℕ) where
 -- the header there
 
 module _ (s : ℕ) (p : Pointer) (image : List ℕ) (h : ℕ) where
-  pub not-sound : sound image h ≡ false → false ≡ verified s p image h
+  pub not-sound : sound image h ≡ false → verified s p image h ≡ false
   unfolding verified
   not-sound e = rw e
 
   module _ (so : sound image h ≡ true) where
-    pub not-live : (kindAt image h ≡ 2 → ⊥) → false ≡ verified s p image h
+    pub not-live : (kindAt image h ≡ 2 → ⊥) → verified s p image h ≡ false
     unfolding verified
     not-live n = rw (so, ne-eqb (kindAt image h) 2 n)
 
-    pub no-match : kindAt image h ≡ 2 → tagMatches s h (sizeAt image h) p ≡ false → false ≡ verified s p image h
-    unfolding verified
-    no-match k e = rw (so, eq-eqb (kindAt image h) 2 k, e)
+    module _ (k : kindAt image h ≡ 2) where
+      pub no-match : tagMatches s h (sizeAt image h) p ≡ false → verified s p image h ≡ false
+      unfolding verified
+      no-match e = rw (so, eq-eqb (kindAt image h) 2 k, e)
 
-    pub match : kindAt image h ≡ 2 → tagMatches s h (sizeAt image h) p ≡ true → sameFrame (reach s p) h (p .address) ≡ verified s p image h
-    unfolding verified
-    match k e = rw (so, eq-eqb (kindAt image h) 2 k, e)
+      pub match : tagMatches s h (sizeAt image h) p ≡ true → verified s p image h ≡ sameFrame (reach s p) h (p .address)
+      unfolding verified
+      match e = rw (so, eq-eqb (kindAt image h) 2 k, e)
 
 -- rows 10 and 11
 
@@ -159,11 +165,65 @@ module _ (s : ℕ) (p : Pointer) (x : State) where
     unfolding located leadsBack
     starts-past l = rw (good, le-ltb _ _ l)
 
-    module _ (starts : frameStart (reach s p) (p .address) < length (x .image)) where
-      pub dangling : verified s p (x .image) (headerPlace s p (x .table)) ≡ false → Refused Dangling ≡ located s p x
-      unfolding located leadsBack
-      dangling e = rw (good, lt-ltb _ _ starts, e)
+    pub starts-in : (h : ℕ) → frameStart (reach s p) (p .address) < length (x .image) → h ≡ headerPlace s p (x .table)
+        → demand (verified s p (x .image) h) Dangling (Accepted h) ≡ located s p x
+    unfolding located leadsBack
+    starts-in h l e = rw (e, good, lt-ltb _ _ l) refl
 
-      pub leads : verified s p (x .image) (headerPlace s p (x .table)) ≡ true → Accepted (headerPlace s p (x .table)) ≡ located s p x
-      unfolding located leadsBack
-      leads e = rw (good, lt-ltb _ _ starts, e)
+-- What the tag reader answers.
+
+-- the object with its raw size, for the answer of its tests
+unfoldable pub foundAt : Answer → List ℕ → Found
+foundAt (Accepted h) image = found.At (record { header = h; size = sizeAt image h })
+foundAt (Refused r) image = found.Refused r
+
+-- and for the tests of a tag
+unfoldable pub readTag : ℕ → Pointer → State → Found
+readTag s p x = foundAt (located s p x) (x .image)
+
+-- its answer, by that of the tests
+pub found-by : (s : ℕ) (p : Pointer) (x : State) (a : Answer) → a ≡ located s p x → foundAt a (x .image) ≡ readTag s p x
+unfolding readTag
+found-by s p x a e = rw e
+
+pub found-refused : (r : Refusal) (image : List ℕ) → found.Refused r ≡ foundAt (Refused r) image
+unfolding foundAt
+found-refused r image = refl
+
+-- the header's test decides on 11
+
+pub found-verified : (b : Bool) (image : List ℕ) (h size : ℕ) → b ≡ true → size ≡ sizeAt image h
+    → found.At (record { header = h; size = size }) ≡ foundAt (demand b Dangling (Accepted h)) image
+unfolding foundAt
+found-verified b image h size e n = rw (e, n) refl
+
+pub found-dangling : (b : Bool) (image : List ℕ) (h : ℕ) → b ≡ false → found.Refused Dangling ≡ foundAt (demand b Dangling (Accepted h)) image
+unfolding foundAt
+found-dangling b image h e = rw e
+
+-- the answers of the tests, by those of the reader
+
+-- what it found
+pub record FoundAt (s : ℕ) (p : Pointer) (x : State) (o : Reading) : Type 0 where
+  pub tested : located s p x ≡ Accepted (o .header)
+  pub size-is : o .size ≡ sizeAt (x .image) (o .header)
+  pub object : Located s p x (o .header)
+
+pub read-found : (s : ℕ) (p : Pointer) (x : State) (o : Reading) → readTag s p x ≡ found.At o → FoundAt s p x o
+unfolding readTag foundAt
+read-found s p x o e = go (located s p x) refl
+  where
+    go : (a : Answer) → located s p x ≡ a → FoundAt s p x o
+    go (Accepted h) q =
+        let w : record { header = h; size = sizeAt (x .image) h } ≡ o = cc in
+        rw (← w) (record { tested = q; size-is = refl; object = located-parts s p x h q })
+    go (Refused r) q = let z : _≡_ {A = ℕ} 0 1 = cc in absurd (omega arith)
+
+-- why it found nothing
+pub read-refused : (s : ℕ) (p : Pointer) (x : State) (r : Refusal) → readTag s p x ≡ found.Refused r → located s p x ≡ Refused r
+unfolding readTag foundAt
+read-refused s p x r e = go (located s p x) refl
+  where
+    go : (a : Answer) → located s p x ≡ a → located s p x ≡ Refused r
+    go (Accepted h) q = let z : _≡_ {A = ℕ} 0 1 = cc in absurd (omega arith)
+    go (Refused t) q = let w : t ≡ r = cc in q ∙ ap Refused w

@@ -1,85 +1,84 @@
--- `store::allocate` meets its contract. Assumes nothing.
+-- `store::allocate` meets its contract: refused by `opening` or `allocatable`, or the block is carved and its entry noted. Assumes nothing.
 use mathlib.Core.Path.{_≡_, sym, _∙_}
 use native.Mathlib.Omega.{arith}
 use Rattle.frame.specs.laws.Tags.{pointer-range}
-use Rattle.block.specs.Layout.{slotExponent}
-use Rattle.store.specs.State.{state}
-use Rattle.store.specs.Calls.{allocateChecks}
-use Rattle.store.specs.laws.Allocate.{Allocates, allocate-parts, allocate-declined, allocate-done}
+use Rattle.store.specs.State.{State, state}
+use Rattle.store.specs.Calls.{opening, allocateChecks}
+use Rattle.store.specs.laws.Opening.{Open, opening-parts}
+use Rattle.store.specs.laws.Allocate.{Allocates, allocate-parts, allocate-shut, allocate-declined, allocate-done}
 use Rattle.store.specs.declared.answer.Answer.the-variants.{Accepted}
 use Rattle.store.proofs.Carving.{fit-needs}
 use borrow.Author.Needs.{needs}
 use Rattle.store.proofs.allocation.allocate.Statement.{statement}
 use Rattle.store.proofs.allocation.allocate.Tie as tie
 
-allocatable-requires : tie.Need-allocatable-requires
-allocatable-requires c κs = search needs
+-- The places: where rows 4 and 5 are passed, where all are, and where the entry is noted.
+abbrev start : tie.After-s → tie.Start
+start c = c .before .before .before .before .before .before .before
 
-enum-known-r : tie.Need-enum-known-r
-enum-known-r c = search needs
+abbrev at-open : tie.After-h → tie.After-s
+at-open c = c .before .before .before .before .before .before
 
-enum-known-h : tie.Need-enum-known-h
-enum-known-h c = search needs
+abbrev at-passed : tie.After-note-arg → tie.After-h
+at-passed c = c .before .before .before .before .before .before
 
--- the rows are passed
-accepted : (c : tie.After-known-told2) → let a = c .before .before .before .before .before .before .before .before .args in allocateChecks (a .size) (state (a .image .now) (a .table .now)) ≡ Accepted (c .before .h .given .0 .0)
-accepted c = sym (c .before .before .before .allocatable .ensures) ∙ c .before .h .given .1
+abbrev given : tie.Start → State
+given c = state (c .args .image .now) (c .args .table .now)
 
-allocates : (c : tie.After-known-told2) → let a = c .before .before .before .before .before .before .before .before .args in Allocates (a .size) (state (a .image .now) (a .table .now)) (c .before .h .given .0 .0)
+is-open : (c : tie.After-s) → opening (given (start c)) ≡ Accepted (c .s .given .0 .0)
+is-open c = sym (c .before .before .opening .ensures) ∙ c .s .given .1
+
+opens : (c : tie.After-s) → Open (given (start c)) (c .s .given .0 .0)
+opens c = opening-parts _ _ (is-open c)
+
+accepted : (c : tie.After-h) → let b = start (at-open c) in allocateChecks (b .args .size) (given b) ≡ Accepted (c .h .given .0 .0)
+accepted c = sym (c .before .before .allocatable .ensures) ∙ c .h .given .1
+
+allocates : (c : tie.After-h) → let b = start (at-open c) in Allocates (b .args .size) (given b) (c .h .given .0 .0)
 allocates c = allocate-parts _ (state _ _) _ (accepted c)
 
-read2-requires : tie.Need-read2-requires
-read2-requires c κs = let p = allocates (c .before) in omega (arith, p .opens .long)
-
--- the slot exponent that was read
-exponent : (c : tie.After-read2) → c .read2 .result ≡ slotExponent (c .before .before .before .before .before .before .before .before .before .before .args .image .now)
-exponent c = c .read2 .ensures
-
-cast-s : tie.Need-cast-s
-cast-s c = let p = allocates (c .before .before) in omega (arith, p .opens .exponent, p .opens .high, exponent c)
-
-carve-requires : tie.Need-carve-requires
-carve-requires c κs = let p = allocates (c .before .before .before) in (p .lowest .is-sound, p .lowest .fits-in)
-
-note-requires : tie.Need-note-requires
-note-requires c κs = let p = allocates (c .before .before .before .before .before .before .before) in rw (exponent (c .before .before .before .before .before)) (fit-needs (state _ _) _ _ _ (p .opens) (p .found))
-
 pack-requires : tie.Need-pack-requires
-pack-requires c κs = let p = allocates (c .before .before .before .before .before .before .before .before .before .before) in rw (c .before .before .note .ensures .0, exponent (c .before .before .before .before .before .before .before .before)) (pointer-range _ _ _ (p .opens .high) (omega (arith, p .inside, p .opens .short)))
+pack-requires c κs =
+    let h = at-passed (c .before .before .before) in
+    let o = opens (at-open h) in
+    rw (c .before .before .note .ensures .0) (pointer-range _ _ _ (o .high) (omega (arith, allocates h .inside, o .short)))
 
-same-length : tie.Need-same-length
-same-length c = search needs
-
-same-length-2 : tie.Need-same-length-2
-same-length-2 c = search needs
-
+-- row 4 or 5
 returns : tie.Need-returns
-returns c = allocate-declined _ _ _ _ (sym (c .before .before .before .allocatable .ensures) ∙ c .before .r .given .1)
+returns c = allocate-declined _ (state _ _) _ _ (sym (allocate-shut _ (state _ _) _ (sym (c .before .before .before .opening .ensures) ∙ c .before .r .given .1)))
 
-same-length-3 : tie.Need-same-length-3
-same-length-3 c = search needs
-
-same-length-4 : tie.Need-same-length-4
-same-length-4 c = search needs
-
+-- row 6, 7, 8 or 9
 returns-2 : tie.Need-returns-2
-returns-2 c = allocate-done _ (state _ _) _ _ _ _ _ _ _ (accepted (c .before .before .before .before .before .before .before .before .before .before .before)) (exponent (c .before .before .before .before .before .before .before .before .before)) (c .before .before .before .before .before .before .before .carve .ensures) (c .before .before .before .note .ensures .0) (c .before .before .before .note .ensures .1) (c .pack .ensures)
+returns-2 c = allocate-declined _ (state _ _) _ _ (sym (c .before .before .before .allocatable .ensures) ∙ c .before .r2 .given .1)
+
+-- the object
+returns-3 : tie.Need-returns-3
+returns-3 c =
+    let n = c .before .before .before in
+    let h = at-passed (n .before) in
+    allocate-done _ (state _ _) _ _ _ _ _ _ _ (accepted h) (opens (at-open h) .exponent) (n .before .before .before .before .carve .ensures) (n .note .ensures .0) (n .note .ensures .1) (c .pack .ensures)
 
 pub allocate-spec : {M : Type 1} → statement M
 allocate-spec =
     tie.close
     (tie.spec
-    allocatable-requires
-    enum-known-r
-    enum-known-h
-    read2-requires
-    cast-s
-    carve-requires
-    note-requires
+    (λ c κs. search needs)
+    (λ c. search needs)
+    (λ c. search needs)
+    (λ c. omega (arith, opens (c .before .before .before) .high))
+    (λ c κs. is-open (c .before .before .before))
+    (λ c. search needs)
+    (λ c. search needs)
+    (λ c κs. let w = allocates (c .before .before) .lowest in (w .is-sound, w .fits-in))
+    (λ c. omega (arith, opens (at-open (at-passed c)) .high))
+    (λ c κs. fit-needs (state _ _) _ _ _ (opens (at-open (at-passed c))) (allocates (at-passed c) .found))
     pack-requires
-    same-length
-    same-length-2
+    (λ c. search needs)
+    (λ c. search needs)
     returns
-    same-length-3
-    same-length-4
-    returns-2)
+    (λ c. search needs)
+    (λ c. search needs)
+    returns-2
+    (λ c. search needs)
+    (λ c. search needs)
+    returns-3)

@@ -1,67 +1,54 @@
--- `store::allocation::carve` meets its contract. Assumes nothing.
-use mathlib.Core.Path.{_≡_, sym, _∙_}
+-- `store::allocation::carve` meets its contract: the live block takes all of the free one, or a rest of 16 bytes or more stays free. Assumes nothing.
 use native.Mathlib.Omega.{arith}
-use Rattle.block.specs.Layout.{extentAt}
-use Rattle.block.specs.laws.Headers.{extent-field}
 use Rattle.block.specs.laws.Soundness.{sound-in, sound-end}
 use Rattle.store.specs.laws.Allocate.{carved-whole, carved-rest}
 use borrow.Author.Needs.{needs}
 use Rattle.store.proofs.allocation.carve.Statement.{statement}
 use Rattle.store.proofs.allocation.carve.Tie as tie
 
-read4-requires : tie.Need-read4-requires
-read4-requires c κs = omega (arith, sound-in _ _ (c .before .before .pre .0))
+-- The places: where the extent is read, and where the live header is written before a rest.
+abbrev start : tie.After-extent-at → tie.Start
+start c = c .before .before .before
 
--- the extent that was read
-extent : (c : tie.After-read4) → c .read4 .result ≡ extentAt (c .before .before .before .args .image .now) (c .before .before .before .args .h)
-extent c = c .read4 .ensures ∙ sym (extent-field _ _)
-
-add-need : tie.Need-add-need
-add-need c = omega (arith, sound-end _ _ (c .before .before .before .pre .0))
-
-sub-rest : tie.Need-sub-rest
-sub-rest c = omega (arith, extent c)
-
-write-live-requires : tie.Need-write-live-requires
-write-live-requires c κs = sound-in _ _ (c .before .before .before .before .before .pre .0)
-
-write-live-requires-2 : tie.Need-write-live-requires-2
-write-live-requires-2 c κs = sound-in _ _ (c .before .before .before .before .before .pre .0)
+abbrev at-rest : tie.After-write-free-arg → tie.Else1
+at-rest c = c .before .before .before .before .before
 
 add-write-free : tie.Need-add-write-free
-add-write-free c = omega (arith, extent (c .before .before .before .before .before .before), sound-end _ _ (c .before .before .before .before .before .before .before .before .before .pre .0))
+add-write-free c =
+    let e = at-rest c .before in
+    omega (arith, e .extent-at .ensures, sound-end _ _ (start e .pre .0))
 
 write-free-requires : tie.Need-write-free-requires
-write-free-requires c κs = omega (arith, extent (c .before .before .before .before .before .before), sound-end _ _ (c .before .before .before .before .before .before .before .before .before .pre .0))
+write-free-requires c κs =
+    let e = at-rest c .before in
+    omega (arith, e .extent-at .ensures, sound-end _ _ (start e .pre .0))
 
-same-length : tie.Need-same-length
-same-length c = search needs
-
+-- all of it
 returns : tie.Need-returns
 returns c =
-    let a = c .before .before .before .before .before .before .before .before .args in
-    cc (carved-whole (a .image .now) (a .h) (a .size) (a .ty) _ (extent (c .before .before .before .before .before)) (c .before .before .before .before .if1 .taken))
+    let t = c .before .before .before .before in
+    let a = start (t .before) .args in
+    cc (carved-whole (a .image .now) (a .h) (a .size) (a .ty) _ (t .before .extent-at .ensures) (t .if1 .taken))
 
-same-length-2 : tie.Need-same-length-2
-same-length-2 c = search needs
-
+-- and a rest
 returns-2 : tie.Need-returns-2
 returns-2 c =
-    let a = c .before .before .before .before .before .before .before .before .before .before .before .before .args in
-    cc (carved-rest (a .image .now) (a .h) (a .size) (a .ty) _ (extent (c .before .before .before .before .before .before .before .before .before)) (c .before .before .before .before .before .before .before .before .if1 .left))
+    let t = at-rest (c .before .before .before) in
+    let a = start (t .before) .args in
+    cc (carved-rest (a .image .now) (a .h) (a .size) (a .ty) _ (t .before .extent-at .ensures) (t .if1 .left))
 
 pub carve-spec : {M : Type 1} → statement M
 carve-spec =
     tie.close
     (tie.spec
-    read4-requires
-    add-need
-    sub-rest
-    write-live-requires
-    write-live-requires-2
+    (λ c κs. sound-in _ _ (c .before .before .pre .0))
+    (λ c. omega (arith, sound-end _ _ (start c .pre .0)))
+    (λ c. omega (arith, c .extent-at .ensures))
+    (λ c κs. sound-in _ _ (start (c .before .before) .pre .0))
+    (λ c κs. sound-in _ _ (start (c .before .before) .pre .0))
     add-write-free
     write-free-requires
-    same-length
+    (λ c. search needs)
     returns
-    same-length-2
+    (λ c. search needs)
     returns-2)

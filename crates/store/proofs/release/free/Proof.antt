@@ -1,94 +1,80 @@
--- `store::free` meets its contract. Assumes nothing.
+-- `store::free` meets its contract: refused by `opening` or `releasable`, or the blocks are merged and the entry is cleared. Assumes nothing.
 use mathlib.Core.Path.{_≡_, sym, _∙_}
 use native.Mathlib.Omega.{arith}
-use Rattle.block.specs.Layout.{slotExponent, sizeAt}
-use Rattle.block.specs.laws.Headers.{size-field}
 use Rattle.block.specs.laws.Soundness.{sound-low}
-use Rattle.store.specs.State.{state}
-use Rattle.store.specs.Calls.{freeRelease}
-use Rattle.store.specs.laws.Free.{Frees, free-parts, free-declined, free-done}
+use Rattle.store.specs.State.{State, state}
+use Rattle.store.specs.Calls.{opening, freeRelease}
+use Rattle.store.specs.laws.Opening.{Open, opening-parts}
+use Rattle.store.specs.laws.Free.{Frees, free-parts, free-shut, free-declined, free-done}
+use Rattle.store.specs.declared.answer.Answer.the-variants.{Accepted}
 use Rattle.store.specs.declared.release.Release.the-variants as release
 use Rattle.store.proofs.Carving.{entry-needs}
 use borrow.Author.Needs.{needs}
 use Rattle.store.proofs.release.free.Statement.{statement}
 use Rattle.store.proofs.release.free.Tie as tie
 
-releasable-requires : tie.Need-releasable-requires
-releasable-requires c κs = search needs
+-- The places: where rows 4 and 5 are passed, and where all are.
+abbrev start : tie.After-s → tie.Start
+start c = c .before .before .before .before .before .before .before
 
-enum-known-r : tie.Need-enum-known-r
-enum-known-r c = search needs
+abbrev at-open : tie.After-m → tie.After-s
+at-open c = c .before .before .before .before .before .before
 
-enum-known-h : tie.Need-enum-known-h
-enum-known-h c = search needs
+abbrev given : tie.Start → State
+given c = state (c .args .image .now) (c .args .table .now)
 
--- the rows are passed
-accepted : (c : tie.After-known-told2) → let a = c .before .before .before .before .before .before .before .before .args in freeRelease (a .pointer) (state (a .image .now) (a .table .now)) ≡ release.Merges (c .before .h .given .0 .0) (c .before .h .given .0 .1 .0) (c .before .h .given .0 .1 .1 .0)
-accepted c = sym (c .before .before .before .releasable .ensures) ∙ c .before .h .given .1
+is-open : (c : tie.After-s) → opening (given (start c)) ≡ Accepted (c .s .given .0 .0)
+is-open c = sym (c .before .before .opening .ensures) ∙ c .s .given .1
 
-frees : (c : tie.After-known-told2) → let a = c .before .before .before .before .before .before .before .before .args in Frees (a .pointer) (state (a .image .now) (a .table .now)) (c .before .h .given .0 .0) (c .before .h .given .0 .1 .0) (c .before .h .given .0 .1 .1 .0)
-frees c = free-parts _ (state _ _) _ _ _ (accepted c)
+opens : (c : tie.After-s) → Open (given (start c)) (c .s .given .0 .0)
+opens c = opening-parts _ _ (is-open c)
 
-read2-requires : tie.Need-read2-requires
-read2-requires c κs = let p = frees (c .before) in omega (arith, p .opens .long)
+accepted : (c : tie.After-m) → let b = start (at-open c) in freeRelease (b .args .pointer) (given b) ≡ release.Merges (c .m .given .0 .0)
+accepted c = sym (c .before .before .releasable .ensures) ∙ c .m .given .1
 
--- the slot exponent that was read
-exponent : (c : tie.After-read2) → c .read2 .result ≡ slotExponent (c .before .before .before .before .before .before .before .before .before .before .args .image .now)
-exponent c = c .read2 .ensures
-
-cast-s : tie.Need-cast-s
-cast-s c = let p = frees (c .before .before) in omega (arith, p .opens .high, exponent c)
-
-add-read4 : tie.Need-add-read4
-add-read4 c = let p = frees (c .before .before .before) in omega (arith, p .opens .short, p .inside)
-
-read4-requires : tie.Need-read4-requires
-read4-requires c κs = let p = frees (c .before .before .before) in omega (arith, p .inside)
-
--- the size that was read
-size : (c : tie.After-read4) → c .read4 .result ≡ sizeAt (c .before .before .before .before .before .before .before .before .before .before .before .before .args .image .now) (c .before .before .before .before .before .h .given .0 .0)
-size c = c .read4 .ensures ∙ sym (size-field _ _)
-
-merge-requires : tie.Need-merge-requires
-merge-requires c κs = let p = frees (c .before .before .before .before .before) in (p .room, p .high)
+frees : (c : tie.After-m) → let b = start (at-open c) in Frees (b .args .pointer) (given b) (c .m .given .0 .0)
+frees c = free-parts _ (state _ _) _ (accepted c)
 
 note-requires : tie.Need-note-requires
-note-requires c κs = let p = frees (c .before .before .before .before .before .before .before .before .before) in rw (exponent (c .before .before .before .before .before .before .before), size (c .before .before .before .before .before)) (entry-needs (state _ _) _ _ _ (p .opens) (sound-low _ _ (p .object .header .is-sound)) (p .inside))
+note-requires c κs =
+    let m = c .before .before .before .before .before .before in
+    entry-needs (state _ _) _ _ _ (opens (at-open m)) (sound-low _ _ (frees m .object .header .is-sound)) (frees m .inside)
 
-same-length : tie.Need-same-length
-same-length c = search needs
-
-same-length-2 : tie.Need-same-length-2
-same-length-2 c = search needs
-
+-- row 4 or 5
 returns : tie.Need-returns
-returns c = free-declined _ _ _ (sym (c .before .before .before .releasable .ensures) ∙ c .before .r .given .1)
+returns c = free-declined _ (state _ _) _ (sym (free-shut _ (state _ _) _ (sym (c .before .before .before .opening .ensures) ∙ c .before .r .given .1)))
 
-same-length-3 : tie.Need-same-length-3
-same-length-3 c = search needs
-
-same-length-4 : tie.Need-same-length-4
-same-length-4 c = search needs
-
+-- row 10, 11, 15 or 7
 returns-2 : tie.Need-returns-2
-returns-2 c = free-done _ (state _ _) _ _ _ _ _ _ _ (accepted (c .before .before .before .before .before .before .before .before .before .before .before .before)) (exponent (c .before .before .before .before .before .before .before .before .before .before)) (size (c .before .before .before .before .before .before .before .before)) (c .before .before .before .before .before .before .merge .ensures) (c .before .before .note .ensures .1)
+returns-2 c = free-declined _ (state _ _) _ (sym (c .before .before .before .releasable .ensures) ∙ c .before .r2 .given .1)
+
+-- the object is freed
+returns-3 : tie.Need-returns-3
+returns-3 c =
+    let n = c .before .before in
+    let m = n .before .before .before .before .before .before .before in
+    free-done _ (state _ _) _ _ _ _ (accepted m) (opens (at-open m) .exponent) (n .before .before .before .before .merge .ensures) (n .note .ensures .1)
 
 pub free-spec : {M : Type 1} → statement M
 free-spec =
     tie.close
     (tie.spec
-    releasable-requires
-    enum-known-r
-    enum-known-h
-    read2-requires
-    cast-s
-    add-read4
-    read4-requires
-    merge-requires
+    (λ c κs. search needs)
+    (λ c. search needs)
+    (λ c. search needs)
+    (λ c. omega (arith, opens (c .before .before .before) .high))
+    (λ c κs. is-open (c .before .before .before))
+    (λ c. search needs)
+    (λ c. search needs)
+    (λ c κs. (frees (c .before .before) .room, frees (c .before .before) .high))
+    (λ c. omega (arith, opens (at-open (c .before .before .before .before .before .before)) .high))
     note-requires
-    same-length
-    same-length-2
+    (λ c. search needs)
+    (λ c. search needs)
     returns
-    same-length-3
-    same-length-4
-    returns-2)
+    (λ c. search needs)
+    (λ c. search needs)
+    returns-2
+    (λ c. search needs)
+    (λ c. search needs)
+    returns-3)

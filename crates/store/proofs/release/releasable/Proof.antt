@@ -1,92 +1,78 @@
--- `store::release::releasable` meets its contract. Assumes nothing.
-use mathlib.Core.Path.{_≡_, sym, ap, _∙_}
+-- `store::release::releasable` meets its contract: 10 and 11 (`locate`), 15, then 7 (`coalesce`). Assumes nothing.
+use mathlib.Core.Path.{_≡_, sym, ap, _∙_, subst}
 use native.Mathlib.Omega.{arith}
-use Rattle.frame.specs.Pointers.{unpack}
+use Rattle.frame.specs.Pointers.{InRange, unpack}
 use Rattle.frame.specs.laws.Pointers.{unpack-range}
 use Rattle.frame.specs.declared.parts.Pointer.{Pointer}
 use Rattle.block.specs.laws.Soundness.{sound-in}
-use Rattle.store.specs.State.{state}
-use Rattle.store.specs.Calls.{opening, located}
+use Rattle.store.specs.State.{State, state}
 use Rattle.store.specs.laws.Opening.{opening-parts}
-use Rattle.store.specs.laws.TagReading.{Located, located-parts}
-use Rattle.store.specs.declared.answer.Answer.the-variants.{Accepted}
-use Rattle.store.specs.laws.Free.{free-shut, free-refused, free-off-base, free-at-base}
+use Rattle.store.specs.laws.TagReading.{readTag, FoundAt, read-found, read-refused}
+use Rattle.store.specs.laws.Free.{free-refused, free-off-base, free-at-base}
 use borrow.Author.Needs.{needs}
 use Rattle.store.proofs.release.releasable.Statement.{statement}
 use Rattle.store.proofs.release.releasable.Tie as tie
 
-opening-requires : tie.Need-opening-requires
-opening-requires c κs = search needs
+-- The places: where the tag was read, and where it led to the object o.
+abbrev start : tie.After-locate → tie.Start
+start c = c .before .before .before .before
 
-enum-known-r : tie.Need-enum-known-r
-enum-known-r c = search needs
+abbrev at-read : tie.After-o → tie.After-locate
+at-read c = c .before .before
 
-enum-known-s : tie.Need-enum-known-s
-enum-known-s c = search needs
+abbrev given : tie.Start → State
+given c = state (c .args .image .now) (c .args .table .now)
 
--- rows 4 and 5 are passed
-opened : (c : tie.After-known-told2) → let a = c .before .before .before .before .before .before .args in opening (state (a .image .now) (a .table .now)) ≡ Accepted (c .before .s .given .0 .0)
-opened c = sym (c .before .before .before .opening .ensures) ∙ c .before .s .given .1
+-- the pointer's parts
+unpacked : (c : tie.After-locate) → c .before .unpack .result ≡ unpack (start c .args .pointer)
+unpacked c = c .before .unpack .ensures
 
-unpack-requires : tie.Need-unpack-requires
-unpack-requires c κs = search needs
+address-is : (c : tie.After-o) → c .before .before .before .unpack .result .address ≡ unpack (start (at-read c) .args .pointer) .address
+address-is c = ap (λ (p : Pointer). p .address) (unpacked (at-read c))
 
-cast-locate : tie.Need-cast-locate
-cast-locate c = let o = opening-parts (state _ _) _ (opened (c .before)) in omega (arith, o .high)
+-- what its tag was read as
+read : (c : tie.After-locate) → readTag (start c .args .s) (unpack (start c .args .pointer)) (given (start c)) ≡ c .locate .result
+read c = ap (λ (p : Pointer). readTag (start c .args .s) p (given (start c))) (sym (unpacked c)) ∙ sym (c .locate .ensures)
 
-locate-requires : tie.Need-locate-requires
-locate-requires c κs = (opened (c .before), rw (c .unpack .ensures) (unpack-range _))
-
--- what locating the pointer answered
-asked : (c : tie.After-locate) → let a = c .before .before .before .before .before .before .before .before .args in located (c .before .before .before .s .given .0 .0) (unpack (a .pointer)) (state (a .image .now) (a .table .now)) ≡ c .locate .result
-asked c = let a = c .before .before .before .before .before .before .before .before .args in ap (λ (p : Pointer). located (c .before .before .before .s .given .0 .0) p (state (a .image .now) (a .table .now))) (sym (c .before .unpack .ensures)) ∙ sym (c .locate .ensures)
-
-enum-known-r-2 : tie.Need-enum-known-r-2
-enum-known-r-2 c = search needs
-
-enum-known-h : tie.Need-enum-known-h
-enum-known-h c = search needs
-
--- the object that the pointer leads to
-found : (c : tie.After-known-told4) → let a = c .before .before .before .before .before .before .before .before .before .before .before .args in located (c .before .before .before .before .before .before .s .given .0 .0) (unpack (a .pointer)) (state (a .image .now) (a .table .now)) ≡ Accepted (c .before .h .given .0 .0)
-found c = asked (c .before .before .before) ∙ c .before .h .given .1
-
-object : (c : tie.After-known-told4) → let a = c .before .before .before .before .before .before .before .before .before .before .before .args in Located (c .before .before .before .before .before .before .s .given .0 .0) (unpack (a .pointer)) (state (a .image .now) (a .table .now)) (c .before .h .given .0 .0)
-object c = located-parts _ _ (state _ _) _ (found c)
+object : (c : tie.After-o) → let b = start (at-read c) in FoundAt (b .args .s) (unpack (b .args .pointer)) (given b) (c .o .given .0 .0)
+object c = read-found _ _ (state _ _) _ (read (at-read c) ∙ c .o .given .1)
 
 add-if1 : tie.Need-add-if1
-add-if1 c = let o = opening-parts (state _ _) _ (opened (c .before .before .before .before .before)) in omega (arith, o .short, sound-in _ _ (object c .header .is-sound))
+add-if1 c =
+    let o = c .before .before in
+    omega (arith, opening-parts _ _ (start (at-read o) .pre) .short, sound-in _ _ (object o .object .header .is-sound))
 
+-- row 15
 returns : tie.Need-returns
-returns c = free-off-base _ (state _ _) _ (opened (c .before .before .before .before .before .before .before)) _ (found (c .before .before)) (λ k. c .if1 .taken (ap (λ (p : Pointer). p .address) (c .before .before .before .before .before .before .unpack .ensures) ∙ k))
+returns c =
+    let o = c .before .before .before .before in
+    free-off-base _ (state _ _) _ (start (at-read o) .pre) _ (object o .tested) (λ k. c .if1 .taken (address-is o ∙ k))
 
 coalesce-requires : tie.Need-coalesce-requires
-coalesce-requires c κs = object (c .before .before) .header .is-sound
+coalesce-requires c κs = let o = object (c .before .before .before .before) in (o .object .header .is-sound, o .size-is)
 
+-- row 10 or 11
 returns-2 : tie.Need-returns-2
-returns-2 c = free-shut _ (state _ _) _ (sym (c .before .before .before .opening .ensures) ∙ c .before .r .given .1)
+returns-2 c =
+    let l = c .before .before .before in
+    free-refused _ (state _ _) _ (start l .pre) _ (read-refused _ _ (state _ _) _ (read l ∙ c .before .r .given .1))
 
+-- row 7, or what is merged
 returns-3 : tie.Need-returns-3
-returns-3 c = free-refused _ (state _ _) _ (opened (c .before .before .before .before .before)) _ (asked (c .before .before .before) ∙ c .before .r2 .given .1)
-
-returns-4 : tie.Need-returns-4
-returns-4 c = c .coalesce .ensures ∙ free-at-base _ (state _ _) _ (opened (c .before .before .before .before .before .before .before .before)) _ (found (c .before .before .before)) (sym (ap (λ (p : Pointer). p .address) (c .before .before .before .before .before .before .before .unpack .ensures)) ∙ c .before .if1 .left)
+returns-3 c =
+    let o = c .before .before .before .before .before in
+    c .coalesce .ensures ∙ free-at-base _ (state _ _) _ (start (at-read o) .pre) _ (object o .tested) (sym (address-is o) ∙ c .before .if1 .left)
 
 pub releasable-spec : {M : Type 1} → statement M
 releasable-spec =
     tie.close
     (tie.spec
-    opening-requires
-    enum-known-r
-    enum-known-s
-    unpack-requires
-    cast-locate
-    locate-requires
-    enum-known-r-2
-    enum-known-h
+    (λ c κs. search needs)
+    (λ c κs. (c .before .before .before .pre, subst InRange (sym (c .unpack .ensures)) (unpack-range _)))
+    (λ c. search needs)
+    (λ c. search needs)
     add-if1
     returns
     coalesce-requires
     returns-2
-    returns-3
-    returns-4)
+    returns-3)

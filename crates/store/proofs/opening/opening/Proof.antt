@@ -6,8 +6,8 @@ use Rattle.store.specs.State.{state}
 use Rattle.store.specs.declared.answer.Answer.the-variants.{Accepted}
 use Rattle.store.specs.laws.Opening.{opening-passes, not-open, table-short}
 use borrow.Author.Needs.{needs}
-use Rattle.store.proofs.locate.opening.Statement.{statement}
-use Rattle.store.proofs.locate.opening.Tie as tie
+use Rattle.store.proofs.opening.opening.Statement.{statement}
+use Rattle.store.proofs.opening.opening.Tie as tie
 
 open-requires : tie.Need-open-requires
 open-requires c κs = search needs

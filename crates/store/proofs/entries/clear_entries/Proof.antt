@@ -5,8 +5,8 @@ use Prim.Native.Nat.{ℕ, _-_, _≤_}
 use native.Mathlib.Omega.{arith}
 use lib.ListN.{length, drop, set, replicate, length-set}
 use Rattle.store.proofs.Fresh.{clear-turn}
-use Rattle.store.proofs.setup.clear_entries.Statement.{statement}
-use Rattle.store.proofs.setup.clear_entries.Tie as tie
+use Rattle.store.proofs.entries.clear_entries.Statement.{statement}
+use Rattle.store.proofs.entries.clear_entries.Tie as tie
 
 abbrev Inv-loop : tie.InvT-loop
 Inv-loop table₀ n i₀ table i = (i ≤ n) × (length table ≡ length table₀) × (table ≡ replicate i 0 ++ drop i table₀)

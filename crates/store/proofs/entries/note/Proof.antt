@@ -7,8 +7,8 @@ use Rattle.frame.specs.Tags.{wrapper, pointerTo, entryOf}
 use Rattle.frame.specs.laws.Tags.{tagged-is-small, tagged-is-large}
 use Rattle.store.specs.laws.Entries.{noted-small, noted-large}
 use borrow.Author.Needs.{needs}
-use Rattle.store.proofs.allocation.note.Statement.{statement}
-use Rattle.store.proofs.allocation.note.Tie as tie
+use Rattle.store.proofs.entries.note.Statement.{statement}
+use Rattle.store.proofs.entries.note.Tie as tie
 
 tag-object-requires : tie.Need-tag-object-requires
 tag-object-requires c κs = search needs
