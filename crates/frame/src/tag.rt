@@ -5,6 +5,7 @@ ghost use Prim.Native.Nat.{_+_, _<_, _≤_, _^_};
 ghost use Rattle.frame.specs.Frame.{frameStart};
 ghost use Rattle.frame.specs.Pointers.{goodTag};
 ghost use Rattle.frame.specs.Tags.{firstHeld, lastHeld, wrapper, tagged, tagMatches, usedEntries, entryAt};
+ghost use Rattle.frame.specs.laws.Tags.{taggedPointer};
 use crate::number::frame_number;
 use crate::number::frame_start;
 use crate::number::same_frame;
@@ -32,12 +33,12 @@ fn last_held(h: u64, size: u64) -> u64
     h + 16 + size
 }
 
-// The exponent of the wrapper frame of the object of `size` bytes whose header is at h.
-pub fn wrapper(h: u64, size: u64) -> u32
-    requires { ⌜ (16 ≤ h) × (h + size < 2 ^ 62) ⌝ }
+// The exponent of the wrapper frame of a large-framed object. Its ends part above the slot, so that halving them begins there.
+fn wrapper_above(s: u32, h: u64, size: u64) -> u32
+    requires { ⌜ (s < 16) × (16 ≤ h) × (h + 16 + size ≤ 2 ^ 30) × (s < wrapper h size) ⌝ }
     ensures { λ r. ⌜ r ≡ wrapper h size ⌝ }
 {
-    frame_number(first_held(h), last_held(h, size))
+    s + frame_number(first_held(h) >> s, last_held(h, size) >> s)
 }
 
 // How many table entries an image of `len` bytes uses.
@@ -68,7 +69,7 @@ pub fn tag_object(s: u32, h: u64, size: u64) -> Tagged
             address: h + 16,
         })
     } else {
-        let n = wrapper(h, size);
+        let n = wrapper_above(s, h, size);
         let entry = entry_index(s, n, h);
         Tagged::Large(
             Pointer {
@@ -78,6 +79,18 @@ pub fn tag_object(s: u32, h: u64, size: u64) -> Tagged
             },
             entry,
         )
+    }
+}
+
+impl Tagged {
+    // The pointer alone.
+    pub fn pointer(self) -> Pointer
+        ensures { λ r. ⌜ r ≡ taggedPointer self ⌝ }
+    {
+        match self {
+            Tagged::Small(p) => p,
+            Tagged::Large(p, _) => p,
+        }
     }
 }
 

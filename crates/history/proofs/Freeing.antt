@@ -14,7 +14,7 @@ use Rattle.block.specs.Walk.{stopped, walk, reaching, walkTo}
 use Rattle.block.specs.laws.Walks.{walk-stopped}
 use Rattle.block.specs.laws.WalkTo.{walk-to-stopped}
 use Rattle.block.specs.declared.walk.Met.the-variants as met
-use Rattle.store.specs.Calls.{released, mergeStart, mergeEnd, merging, merged}
+use Rattle.store.specs.Calls.{released, mergeStart, mergeEnd, merged}
 use Rattle.store.specs.laws.Free.{merge-start-here, merge-start-free, merge-end-last, merge-end-free, merge-end-live, released-merges, merged-parts}
 use Rattle.store.specs.declared.release.Release.the-variants as release
 use Rattle.history.proofs.Gaps.{Block, extent, Layout, last, item, zeros, render, lookup, Remade}
@@ -79,7 +79,7 @@ module _ (image : List ℕ) (l : Layout) (k g : ℕ) (b : Block) (m : Layout) (f
 
   -- what free answers, what it leaves, and which blocks are left
 
-  pub free-merges : released image (k + g) (walkTo image (k + g)) ≡ release.Merges (merging image (k + g) k (k + joined))
+  pub free-merges : released image (k + g) (walkTo image (k + g)) ≡ release.Merges (k + g) k (k + joined)
   free-merges =
       let n : Focus image l (k + g + extent b) m = focus-next image l k g b m f in
       let e : k + g + extent b + gap m ≡ k + joined = omega arith in

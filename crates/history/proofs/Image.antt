@@ -12,7 +12,7 @@ use Rattle.block.specs.Layout.{fields, headerAt, sound, isFree, isLive, extentA
 use Rattle.block.specs.Walk.{firstFit, walkTo, countBlocks, OnWalk}
 use Rattle.block.specs.declared.walk.Fit.the-variants as fit
 use Rattle.block.specs.declared.walk.Counted.the-variants as counted
-use Rattle.store.specs.Calls.{merging, fresh, carved, released, merged}
+use Rattle.store.specs.Calls.{fresh, carved, released, merged}
 use Rattle.store.specs.declared.answer.Refusal.the-variants.{Unsound}
 use Rattle.store.specs.declared.release.Release.the-variants as release
 use Rattle.history.proofs.Gaps.{Block, extent, Layout, last, item, blockAt, BlockOk, Placed, Remade, Clear, patched}
@@ -116,7 +116,7 @@ fitted image l p n type least fits = go (first-fit image l p (16 + n) (omega ari
 pub record Freed (image : List ℕ) (l : Layout) (h : ℕ) (b : Block) : Type 0 where
   pub from : ℕ
   pub to : ℕ
-  pub merges : released image h (walkTo image h) ≡ release.Merges (merging image h from to)
+  pub merges : released image h (walkTo image h) ≡ release.Merges h from to
   pub next : Layout
   pub remade : Remade image (merged image from to) next
   pub looks : (k : ℕ) → blockAt next k ≡ cond (eqb k h) none (blockAt l k)

@@ -119,11 +119,11 @@ module _ (x : State) where
     where
       go : (a : Release) → freeRelease word x ≡ a → Ended exponent x (free word x)
       go (release.Refused r) e = subst (Ended exponent x) (free-declined word x r e) (refused refl refl)
-      go (release.Merges m) e =
-          let f : Frees word x m = free-parts word x m e in
-          subst (Ended exponent x) (free-done word x m exponent _ _ e refl refl refl)
+      go (release.Merges h from to) e =
+          let f : Frees word x h from to = free-parts word x h from to e in
+          subst (Ended exponent x) (free-done word x h from to exponent _ _ e refl refl refl)
           (accepted refl
-          (entered exponent x _ (m .header) (m .size) 0 (f .opens) (f .inside) (length-merged (x .image) (m .from) (m .to) (f .room) (f .high))))
+          (entered exponent x _ h (sizeAt (x .image) h) 0 (f .opens) (f .inside) (length-merged (x .image) from to (f .room) (f .high))))
 
   -- move
   ended-move : (word : ℕ) (d : ℤ) → Ended exponent x (move word d x)

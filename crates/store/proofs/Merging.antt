@@ -8,7 +8,7 @@ use lib.Dec.{ltb, eqb}
 use lib.ListN.{length, replicate, length-replicate, replicate-append-replicate}
 use borrow.Author.Tests.{le-leb, lt-leb, le-ltb, lt-ltb, eq-eqb, ne-eqb}
 use Rattle.block.specs.Bytes.{put}
-use Rattle.block.specs.Layout.{freeHeader, sound, extentAt, kindAt, sizeAt, headerAt}
+use Rattle.block.specs.Layout.{freeHeader, sound, extentAt, kindAt, headerAt}
 use Rattle.block.specs.Walk.{walkTo}
 use Rattle.block.specs.laws.Writes.{put-over}
 use Rattle.block.specs.laws.Headers.{length-header}
@@ -16,10 +16,9 @@ use Rattle.block.specs.laws.Soundness.{sound-in}
 use Rattle.block.specs.laws.WalkTo.{Behind, at-first, at-later, MeetsBlock, walk-to-meets}
 use Rattle.block.specs.declared.header.Header.{Header}
 use Rattle.block.specs.declared.walk.Met.the-variants as met
-use Rattle.store.specs.Calls.{mergeStart, mergeEnd, merging, released, merged}
+use Rattle.store.specs.Calls.{mergeStart, mergeEnd, released, merged}
 use Rattle.store.specs.laws.Free.{merge-start-here, merge-start-free, merge-end-last, merge-end-next, released-merges, released-unsound}
 use Rattle.store.specs.declared.answer.Refusal.the-variants.{Unsound}
-use Rattle.store.specs.declared.release.Coalesced.{Coalesced}
 use Rattle.store.specs.declared.release.Release.the-variants as release
 
 -- where the merged block starts
@@ -34,14 +33,13 @@ module _ (image : List ℕ) (before h : ℕ) where
   pub starts-here : (kindAt image before ≡ 1 → ⊥) → mergeStart image before h ≡ h
   starts-here n = merge-start-here image h before (rw (ne-eqb (kindAt image before) 1 n) (and-false (ltb 0 before)))
 
--- the walk meets the sound block at h, behind the one at `before`; `next` is where it ends, and `size` what its header has
-pub record Meets (image : List ℕ) (h before next size : ℕ) : Type 0 where
+-- the walk meets the sound block at h, behind the one at `before`; `next` is where it ends
+pub record Meets (image : List ℕ) (h before next : ℕ) : Type 0 where
   pub met : walkTo image h ≡ met.After before
   pub follows : next ≡ h + extentAt image h
   pub is-sound : sound image h ≡ true
-  pub size-is : size ≡ sizeAt image h
 
-module _ {image : List ℕ} {h before next size : ℕ} (m : Meets image h before next size) where
+module _ {image : List ℕ} {h before next : ℕ} (m : Meets image h before next) where
   -- the block before h has room for a header
   pub before-in : before + 16 ≤ length image
   before-in = go before h (b .behind) (sound-in image h (b .is-sound))
@@ -55,16 +53,12 @@ module _ {image : List ℕ} {h before next size : ℕ} (m : Meets image h before
 
   -- What is then released.
 
-  -- a merged block from `from` to `to`
-  abbrev joins : ℕ → ℕ → Coalesced
-  joins from to = record { header = h; size = size; from = from; to = to }
-
   -- nothing follows
-  pub released-last : length image ≤ next → released image h (walkTo image h) ≡ release.Merges (joins (mergeStart image before h) next)
+  pub released-last : length image ≤ next → released image h (walkTo image h) ≡ release.Merges h (mergeStart image before h) next
   released-last l =
       let n : length image ≤ h + extentAt image h = omega (arith, m .follows) in
       ap (released image h) (m .met) ∙ released-merges image h before (rw (le-leb _ _ n))
-      ∙ rw (merge-end-last image (h + extentAt image h) n, m .follows, m .size-is) refl
+      ∙ rw (merge-end-last image (h + extentAt image h) n, m .follows) refl
 
   module _ (l : next < length image) where
     -- the next header is unsound
@@ -73,11 +67,11 @@ module _ {image : List ℕ} {h before next size : ℕ} (m : Meets image h before
 
     -- it is the sound header d
     pub released-next : (d : Header) → d ≡ headerAt image next → sound image next ≡ true
-        → released image h (walkTo image h) ≡ release.Merges (joins (mergeStart image before h) (cond (eqb (d .kind) 1) (next + d .extent) next))
+        → released image h (walkTo image h) ≡ release.Merges h (mergeStart image before h) (cond (eqb (d .kind) 1) (next + d .extent) next)
     released-next d k o =
         let e = m .follows in
         ap (released image h) (m .met) ∙ released-merges image h before (rw (← e, lt-leb _ _ l, o))
-        ∙ rw (← e, merge-end-next image next l, m .size-is, k) refl
+        ∙ rw (← e, merge-end-next image next l, k) refl
 
 -- a header written over zeros
 pub merged-over : (image : List ℕ) (from to : ℕ) → from + 16 ≤ to → to ≤ length image → put (put image from (replicate (to - from) 0)) from (freeHeader (to - from)) ≡ merged image from to

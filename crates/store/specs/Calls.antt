@@ -25,7 +25,6 @@ use Rattle.store.specs.State.{State, Outcome, outcome, demand, andThen, 
 use Rattle.store.specs.declared.answer.Refusal.the-variants.{BadExponent, BadLength, TooFewEntries, BadSuperblock, ShortTable, Empty, Unsound, NoSpace, EntryTaken, BadTag, Dangling, Leaves, OutOfBounds, BadWidth, NotBase, TooLarge}
 use Rattle.store.specs.declared.answer.Answer.{Answer}
 use Rattle.store.specs.declared.answer.Answer.the-variants.{Accepted, Refused}
-use Rattle.store.specs.declared.release.Coalesced.{Coalesced}
 use Rattle.store.specs.declared.release.Release.{Release}
 use Rattle.store.specs.declared.release.Release.the-variants as release
 use Rattle.store.specs.declared.counting.Usage.{Usage}
@@ -223,16 +222,11 @@ freeChecks word x =
     andThen (opening x) λ s.
     andThen (located s (unpack word) x) λ h. demand (eqb (unpack word .address) (h + 16)) NotBase (Accepted h)
 
--- what a free of the object at h merges: the object's header place and raw size, and from where to where the free block reaches
-abbrev pub merging : List ℕ → ℕ → ℕ → ℕ → Coalesced
-merging image h from to = record { header = h; size = sizeAt image h; from = from; to = to }
-
--- 7: the walk meets h, and the next header, below the image's end, is sound
+-- 7: the walk meets h, and the next header, below the image's end, is sound; then the object's header place, and from where to where the free block reaches
 unfoldable pub released : List ℕ → ℕ → Met → Release
 released image h (met.After before) =
     let next : ℕ = h + extentAt image h in
-    cond (leb (length image) next || sound image next) (release.Merges (merging image h (mergeStart image before h) (mergeEnd image next)))
-    (release.Refused Unsound)
+    cond (leb (length image) next || sound image next) (release.Merges h (mergeStart image before h) (mergeEnd image next)) (release.Refused Unsound)
 released image h met.Lost = release.Refused Unsound
 
 -- 7, on the number that the tests up to 15 found
@@ -246,8 +240,8 @@ freeRelease word x = releasedAt (freeChecks word x) (x .image)
 
 -- what the release of an object leaves
 unfoldable pub freed : Release → State → Outcome
-freed (release.Merges m) x =
-    outcome (Accepted 0) (merged (x .image) (m .from) (m .to)) (noted (slotExponent (x .image)) (m .header) (m .size) 0 (x .table))
+freed (release.Merges h from to) x =
+    outcome (Accepted 0) (merged (x .image) from to) (noted (slotExponent (x .image)) h (sizeAt (x .image) h) 0 (x .table))
 freed (release.Refused r) x = refuse r x
 
 -- its outcome

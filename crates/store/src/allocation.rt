@@ -5,6 +5,7 @@ ghost use Prim.Native.Nat.{_+_, _≤_};
 ghost use Rattle.block.specs.Layout.{sound, extentAt};
 ghost use Rattle.store.specs.State.{state, outcome};
 ghost use Rattle.store.specs.Calls.{opening, allocateChecks, carved, allocate};
+ghost use Rattle.store.specs.laws.Allocate.{siteOf};
 use crate::answer::Answer;
 use crate::answer::Refusal;
 use crate::entries::entry_free;
@@ -15,23 +16,32 @@ use block::header::write_free;
 use block::header::write_live;
 use block::walk::Fit;
 use block::walk::first_fit;
+use frame::Tagged;
+use frame::tag_object;
 
-// The rows of allocate after 4 and 5; the number is the place of the block that is taken.
-fn allocatable(image: &[u8], table: &[u64], s: u32, size: u32) -> Answer
+// Where a new object goes: the place of the block that is taken, and the object's pointer with its entry.
+pub enum Site {
+    At(u64, Tagged),
+    Refused(Refusal),
+}
+
+// The rows of allocate after 4 and 5.
+fn allocatable(image: &[u8], table: &[u64], s: u32, size: u32) -> Site
     requires { ⌜ opening (state (now image) (now table)) ≡ Answer.Accepted s ⌝ }
-    ensures { λ r. ⌜ r ≡ allocateChecks size (state (now (image .entry)) (now (table .entry))) ⌝ }
+    ensures { λ r. ⌜ r ≡ siteOf s size (allocateChecks size (state (now (image .entry)) (now (table .entry)))) ⌝ }
 {
     if size == 0 {
-        return Answer::Refused(Refusal::Empty);
+        return Site::Refused(Refusal::Empty);
     }
     match first_fit(image, 16 + size as u64) {
-        Fit::Unsound(_) => Answer::Refused(Refusal::Unsound),
-        Fit::End => Answer::Refused(Refusal::NoSpace),
+        Fit::Unsound(_) => Site::Refused(Refusal::Unsound),
+        Fit::End => Site::Refused(Refusal::NoSpace),
         Fit::At(h) => {
-            if entry_free(table, s, h, size as u64) {
-                Answer::Accepted(h)
+            let t = tag_object(s, h, size as u64);
+            if entry_free(table, t) {
+                Site::At(h, t)
             } else {
-                Answer::Refused(Refusal::EntryTaken)
+                Site::Refused(Refusal::EntryTaken)
             }
         }
     }
@@ -60,11 +70,11 @@ pub fn allocate(image: &mut [u8], table: &mut [u64], size: u32, ty: u16) -> Answ
     match opening(image, table) {
         Answer::Refused(r) => Answer::Refused(r),
         Answer::Accepted(s) => match allocatable(image, table, s as u32, size) {
-            Answer::Refused(r) => Answer::Refused(r),
-            Answer::Accepted(h) => {
+            Site::Refused(r) => Answer::Refused(r),
+            Site::At(h, t) => {
                 carve(image, h, size as u64, ty as u64);
-                let p = note(table, s as u32, h, size as u64, h);
-                Answer::Accepted(p.pack())
+                note(table, t, h);
+                Answer::Accepted(t.pointer().pack())
             }
         },
     }

@@ -1,13 +1,16 @@
 // Table entries: 48 for each division, one of them for each large-framed object.
 ghost use mathlib.Core.Path.{_≡_};
+ghost use mathlib.Core.Bool.{true, false};
 ghost use mathlib.Core.List.{_++_};
-ghost use Prim.Native.Nat.{_+_, _<_, _≤_, _^_};
+ghost use Prim.Native.Nat.{_<_, _≤_, _^_};
 ghost use lib.ListN.{length, drop, replicate};
-ghost use Rattle.frame.specs.Tags.{entryOf, pointerTo, wrapper};
-ghost use Rattle.store.specs.Calls.{entryFree, noted};
+ghost use Rattle.frame.specs.Frame.{frameStart};
+ghost use Rattle.frame.specs.Pointers.{goodTag, reach};
+ghost use Rattle.frame.specs.Tags.{entryAt};
+ghost use Rattle.store.specs.laws.Entries.{entryCleared, EntryIn, freeFor, notedFor};
 use frame::Pointer;
 use frame::Tagged;
-use frame::tag_object;
+use frame::entry_index;
 
 // Zeroes the first n entries.
 pub fn clear_entries(table: &mut [u64], n: usize)
@@ -21,27 +24,35 @@ pub fn clear_entries(table: &mut [u64], n: usize)
     }
 }
 
-// Row 9: whether the object at h needs no entry, or its entry is zero.
-pub fn entry_free(table: &[u64], s: u32, h: u64, size: u64) -> bool
-    requires { ⌜ (s < 16) × (16 ≤ h) × (h + 16 + size ≤ 2 ^ 30) × (s < wrapper h size → entryOf s h size < length (now table)) ⌝ }
-    ensures { λ r. ⌜ r ≡ entryFree s h size (now (table .entry)) ⌝ }
+// Clears the entry that the pointer's tag leads through, where it leads through one.
+pub fn clear_entry(table: &mut [u64], s: u32, p: Pointer)
+    requires { ⌜ (s < 16) × (goodTag s p ≡ true) × (frameStart (reach s p) (p .address) < 2 ^ 30) × (p .flag ≡ false → entryAt s (p .tag) (p .address) < length (now table)) ⌝ }
+    ensures { λ _. ⌜ now (table .exit) ≡ entryCleared s p (now (table .entry)) ⌝ }
 {
-    match tag_object(s, h, size) {
+    if !p.flag {
+        let entry = entry_index(s, p.tag as u32, p.address);
+        table[entry] = 0;
+    }
+}
+
+// Row 9: whether the object needs no entry, or its entry is zero.
+pub fn entry_free(table: &[u64], t: Tagged) -> bool
+    requires { ⌜ EntryIn t (now table) ⌝ }
+    ensures { λ r. ⌜ r ≡ freeFor t (now (table .entry)) ⌝ }
+{
+    match t {
         Tagged::Small(_) => true,
         Tagged::Large(_, entry) => table[entry] == 0,
     }
 }
 
-// Sets the entry of the object at h, where it is large-framed; the answer is its pointer.
-pub fn note(table: &mut [u64], s: u32, h: u64, size: u64, entry: u64) -> Pointer
-    requires { ⌜ (s < 16) × (16 ≤ h) × (h + 16 + size ≤ 2 ^ 30) × (s < wrapper h size → entryOf s h size < length (now table)) ⌝ }
-    ensures { λ r. ⌜ (r ≡ pointerTo s h size) × (now (table .exit) ≡ noted s h size entry (now (table .entry))) ⌝ }
+// Puts the header place h into the object's entry, where it has one.
+pub fn note(table: &mut [u64], t: Tagged, h: u64)
+    requires { ⌜ EntryIn t (now table) ⌝ }
+    ensures { λ _. ⌜ now (table .exit) ≡ notedFor t h (now (table .entry)) ⌝ }
 {
-    match tag_object(s, h, size) {
-        Tagged::Small(p) => p,
-        Tagged::Large(p, index) => {
-            table[index] = entry;
-            p
-        }
+    match t {
+        Tagged::Small(_) => {}
+        Tagged::Large(_, entry) => table[entry] = h,
     }
 }

@@ -4,13 +4,13 @@ ghost use mathlib.Core.Bool.{true, cond};
 ghost use Prim.Native.Nat.{_+_, _≤_, _<_, _^_};
 ghost use lib.Dec.{eqb};
 ghost use lib.ListN.{length};
-ghost use Rattle.block.specs.Layout.{sound, sizeAt};
+ghost use Rattle.block.specs.Layout.{sound};
 ghost use Rattle.block.specs.Walk.{walkTo};
 ghost use Rattle.store.specs.State.{state, outcome};
 ghost use Rattle.store.specs.Calls.{opening, mergeStart, released, freeRelease, merged, free};
 use crate::answer::Answer;
 use crate::answer::Refusal;
-use crate::entries::note;
+use crate::entries::clear_entry;
 use crate::locate::Found;
 use crate::locate::locate;
 use crate::opening::opening;
@@ -25,17 +25,9 @@ use block::walk::Met;
 use block::walk::walk_to;
 use frame::Pointer;
 
-// What a free does: the object's header place and raw size, and from where to where the free block then reaches.
-pub struct Coalesced {
-    pub header: u64,
-    pub size: u64,
-    pub from: u64,
-    pub to: u64,
-}
-
-// What is released, or why it is not.
+// What a free does: the object's header place, and from where to where the free block then reaches.
 pub enum Release {
-    Merges(Coalesced),
+    Merges(u64, u64, u64),
     Refused(Refusal),
 }
 
@@ -62,9 +54,9 @@ fn merge_end(next: u64, d: Header) -> u64
     if d.kind == 1 { next + d.extent } else { next }
 }
 
-// Row 7 of free, and what is merged with the sound block at h, whose object has `size` bytes.
-fn coalesce(image: &[u8], h: u64, size: u64) -> Release
-    requires { ⌜ (sound (now image) h ≡ true) × (size ≡ sizeAt (now image) h) ⌝ }
+// Row 7 of free, and what is merged with the sound block at h.
+fn coalesce(image: &[u8], h: u64) -> Release
+    requires { ⌜ sound (now image) h ≡ true ⌝ }
     ensures { λ r. ⌜ r ≡ released (now (image .entry)) h (walkTo (now (image .entry)) h) ⌝ }
 {
     match walk_to(image, h) {
@@ -73,24 +65,11 @@ fn coalesce(image: &[u8], h: u64, size: u64) -> Release
             let next = h + extent_at(image, h as usize);
             let from = merge_start(image, before, h);
             if next == image.len() as u64 {
-                return Release::Merges(Coalesced {
-                    header: h,
-                    size,
-                    from,
-                    to: next,
-                });
+                return Release::Merges(h, from, next);
             }
             match examine(image, next) {
                 Examined::Unsound => Release::Refused(Refusal::Unsound),
-                Examined::Sound(d) => {
-                    let to = merge_end(next, d);
-                    Release::Merges(Coalesced {
-                        header: h,
-                        size,
-                        from,
-                        to,
-                    })
-                }
+                Examined::Sound(d) => Release::Merges(h, from, merge_end(next, d)),
             }
         }
     }
@@ -108,7 +87,7 @@ fn releasable(image: &[u8], table: &[u64], s: u32, pointer: u64) -> Release
             if p.address != o.header + 16 {
                 return Release::Refused(Refusal::NotBase);
             }
-            coalesce(image, o.header, o.size)
+            coalesce(image, o.header)
         }
     }
 }
@@ -130,9 +109,9 @@ pub fn free(image: &mut [u8], table: &mut [u64], pointer: u64) -> Answer
         Answer::Refused(r) => Answer::Refused(r),
         Answer::Accepted(s) => match releasable(image, table, s as u32, pointer) {
             Release::Refused(r) => Answer::Refused(r),
-            Release::Merges(m) => {
-                merge(image, m.from, m.to);
-                note(table, s as u32, m.header, m.size, 0);
+            Release::Merges(_, from, to) => {
+                merge(image, from, to);
+                clear_entry(table, s as u32, Pointer::unpack(pointer));
                 Answer::Accepted(0)
             }
         },

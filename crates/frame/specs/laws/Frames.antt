@@ -2,7 +2,7 @@
 use Prim.Native.Nat.{ℕ, zero, suc, _+_, _-_, _*_, _/_, _^_, _≤_, _<_, zero-le, suc-le-suc}
 use mathlib.Core.Path.{_≡_, refl, sym, ap, _∙_}
 use mathlib.Core.Logic.{_↔_}
-use native.Mathlib.Nat.{le-refl, le-of-lt, lt-of-not-le, div-one, pow-succ', div-div-eq-div-mul, div-lt-iff-lt-mul, le-div-iff-mul-le, add-sub-of-le, mul-comm}
+use native.Mathlib.Nat.{zero-add, suc-add, le-refl, le-of-lt, lt-of-not-le, div-one, pow-succ', div-div-eq-div-mul, div-lt-iff-lt-mul, le-div-iff-mul-le, add-sub-of-le, mul-comm}
 use native.Mathlib.Decide.{ℕ-discrete}
 use native.Mathlib.Omega.{arith}
 use lib.Pow.{pow-pos, shr-shr, shr-mono}
@@ -70,6 +70,14 @@ least-step n a b ih (no f) = rw (number-ne a b f) (suc-le-suc ih)
 pub number-least : (n a b : ℕ) → a / 2 ^ n ≡ b / 2 ^ n → frameNumber a b ≤ n
 number-least zero a b h = rw (number-eq a b (sym (div-one a) ∙ h ∙ div-one b)) zero-le
 number-least (suc n) a b h = least-step n a b (number-least n (a / 2) (b / 2) (half-shr a n ∙ h ∙ sym (half-shr b n))) (ℕ-discrete a b)
+
+-- the halvings below an exponent at which they differ, all at once
+pub number-above : (n a b : ℕ) → (a / 2 ^ n ≡ b / 2 ^ n → ⊥) → frameNumber a b ≡ n + frameNumber (a / 2 ^ n) (b / 2 ^ n)
+number-above zero a b d = rw (div-one a, div-one b) (sym (zero-add (frameNumber a b)))
+number-above (suc n) a b d =
+    number-ne a b (λ e. d (ap (λ (x : ℕ). x / 2 ^ suc n) e))
+    ∙ ap suc (number-above n (a / 2) (b / 2) (λ e. d (sym (half-shr a n) ∙ e ∙ half-shr b n)))
+    ∙ rw (half-shr a n, half-shr b n) (sym (suc-add n (frameNumber (a / 2 ^ suc n) (b / 2 ^ suc n))))
 
 -- a larger frame holds both too
 pub wider : (a b m n : ℕ) → m ≤ n → a / 2 ^ m ≡ b / 2 ^ m → a / 2 ^ n ≡ b / 2 ^ n

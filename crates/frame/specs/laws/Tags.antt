@@ -14,6 +14,7 @@ use Rattle.frame.specs.laws.Pointers.{and-left, and-right, good-large}
 use Rattle.frame.specs.Tags.{firstHeld, lastHeld, wrapper, isSmall, tagNumber, pointerTo, tagMatches, entryOf, tagged}
 use Rattle.frame.specs.laws.Wrappers.{wrapper-iff, wrapper-holds, wrapper-at-most, slot-place}
 use Rattle.frame.specs.declared.parts.Pointer.{Pointer}
+use Rattle.frame.specs.declared.tag.Tagged.{Tagged}
 use Rattle.frame.specs.declared.tag.Tagged.the-variants.{Small, Large}
 
 -- The tag.
@@ -168,6 +169,15 @@ matches-pointer s h size p e =
     λ i. record { flag = f i; tag = t i; address = p .address }
 
 -- and with its entry
+
+-- the pointer of a tagged object
+unfoldable pub taggedPointer : Tagged → Pointer
+taggedPointer (Small p) = p
+taggedPointer (Large p i) = p
+
+pub tagged-pointer : (s h size : ℕ) → taggedPointer (tagged s h size) ≡ pointerTo s h size
+unfolding taggedPointer tagged
+tagged-pointer s h size = by-frame s h size (λ l. rw (le-leb _ _ l)) (λ l. rw (lt-leb _ _ l))
 
 pub tagged-small : (s h size : ℕ) → wrapper h size ≤ s → tagged s h size ≡ Small (pointerTo s h size)
 unfolding tagged

@@ -9,7 +9,7 @@ use lib.Dec.{ltb}
 use lib.ListN.{length}
 use borrow.Author.Tests.{ltb-true, lt-ltb, le-ltb, ltb-false}
 use mathlib.Core.Logic.{inl}
-use Rattle.frame.specs.Tags.{pointerTo, entryOf}
+use Rattle.frame.specs.Tags.{pointerTo, entryOf, tagged}
 use Rattle.frame.specs.Pointers.{pack}
 use Rattle.frame.specs.declared.parts.Pointer.{Pointer}
 use Rattle.block.specs.laws.Booleans.{byBool}
@@ -29,6 +29,9 @@ use Rattle.store.specs.laws.Opening.{Open, opening-parts, entry-in}
 use Rattle.store.specs.declared.answer.Refusal.{Refusal}
 use Rattle.store.specs.declared.answer.Refusal.the-variants.{Empty, Unsound, NoSpace, EntryTaken}
 use Rattle.store.specs.declared.answer.Answer.{Answer}
+use Rattle.store.specs.declared.allocation.Site.{Site}
+use Rattle.store.specs.declared.allocation.Site.the-variants as site
+use Rattle.frame.specs.declared.tag.Tagged.{Tagged}
 use Rattle.store.specs.declared.answer.Answer.the-variants.{Accepted, Refused}
 use Rattle.block.specs.declared.walk.Fit.the-variants as fit
 
@@ -119,6 +122,33 @@ module _ (size : ℕ) (x : State) where
       → outcome (Accepted word) image table ≡ allocate size type x
   unfolding allocate
   allocate-done type h s word p image table e k i q t w = rw (e, w, q, i, t, k)
+
+-- The answer of its tests, with the object's pointer and entry.
+unfoldable pub siteOf : ℕ → ℕ → Answer → Site
+siteOf s size (Accepted h) = site.At h (tagged s h size)
+siteOf s size (Refused r) = site.Refused r
+
+pub site-refused : (s size : ℕ) (r : Refusal) (a : Answer) → Refused r ≡ a → site.Refused r ≡ siteOf s size a
+unfolding siteOf
+site-refused s size r a e = rw (← e) refl
+
+pub site-at : (s size h : ℕ) (t : Tagged) (a : Answer) → t ≡ tagged s h size → Accepted h ≡ a → site.At h t ≡ siteOf s size a
+unfolding siteOf
+site-at s size h t a p e = rw (p, ← e) refl
+
+-- and back
+pub site-declined : (s size : ℕ) (a : Answer) (r : Refusal) → siteOf s size a ≡ site.Refused r → a ≡ Refused r
+unfolding siteOf
+site-declined s size (Accepted h) r e = let z : _≡_ {A = ℕ} 0 1 = cc in absurd (omega arith)
+site-declined s size (Refused t) r e = let w : t ≡ r = cc in ap Refused w
+
+pub site-chosen : (s size : ℕ) (a : Answer) (h : ℕ) (t : Tagged) → siteOf s size a ≡ site.At h t → (a ≡ Accepted h) × (t ≡ tagged s h size)
+unfolding siteOf
+site-chosen s size (Accepted k) h t e =
+    let p : k ≡ h = cc in
+    let q : tagged s k size ≡ t = cc in
+    (ap Accepted p, sym q ∙ ap (λ (j : ℕ). tagged s j size) p)
+site-chosen s size (Refused r) h t e = let z : _≡_ {A = ℕ} 0 1 = cc in absurd (omega arith)
 
 -- What it comes to, where rows 4 and 5 are passed.
 

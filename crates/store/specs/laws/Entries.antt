@@ -1,14 +1,21 @@
--- Table entries: row 9, and noting an object's header place. Assumes nothing.
-use Prim.Native.Nat.{ℕ, _≤_, _<_}
-use mathlib.Core.Path.{_≡_, refl, ap, _∙_}
-use mathlib.Core.Bool.{true}
+-- Table entries: row 9, noting an object's header place, and clearing it.
+-- In order: of an object by its header place and size; by its pointer with its entry; by a pointer that leads to it. Assumes nothing.
+use Prim.Native.Nat.{ℕ, _/_, _^_, _≤_, _<_}
+use mathlib.Core.Path.{_≡_, refl, sym, ap, _∙_}
+use mathlib.Core.Bool.{Bool, true, false, cond}
 use mathlib.Core.List.{List}
 use lib.ListN.{length, drop, getD, set, length-set}
 use lib.Seq.{getD-set-same, drop-set-lt}
 use lib.Dec.{eqb}
 use borrow.Author.Tests.{le-leb, lt-leb, eq-eqb}
-use Rattle.frame.specs.Tags.{wrapper, entryOf}
-use Rattle.frame.specs.laws.Tags.{by-frame}
+use Rattle.frame.specs.Pointers.{reach, at}
+use Rattle.frame.specs.Tags.{wrapper, pointerTo, tagMatches, entryAt, entryOf, tagged}
+use Rattle.frame.specs.laws.Pointers.{reach-large}
+use Rattle.frame.specs.laws.Wrappers.{entry-same}
+use Rattle.frame.specs.laws.Tags.{by-frame, pointer-small, pointer-large, matches-pointer, tagged-small, tagged-large}
+use Rattle.frame.specs.declared.parts.Pointer.{Pointer}
+use Rattle.frame.specs.declared.tag.Tagged.{Tagged}
+use Rattle.frame.specs.declared.tag.Tagged.the-variants.{Small, Large}
 use Rattle.store.specs.Calls.{entryFree, noted}
 
 module _ (s h size : ℕ) where
@@ -59,3 +66,72 @@ module _ (s h size : ℕ) where
   noted-entry entry table u l =
       ap (λ (t : List ℕ). getD t (entryOf s h size) 0) (noted-large entry table (entryOf s h size) l refl)
       ∙ getD-set-same table (entryOf s h size) entry 0 u
+
+-- By the pointer with its entry, as the code has it.
+
+-- the table has the entry, where there is one
+unfoldable pub EntryIn : Tagged → List ℕ → Type 0
+EntryIn (Small p) table = Unit
+EntryIn (Large p i) table = i < length table
+
+-- row 9
+unfoldable pub freeFor : Tagged → List ℕ → Bool
+freeFor (Small p) table = true
+freeFor (Large p i) table = eqb (getD table i 0) 0
+
+-- the table with the entry set
+unfoldable pub notedFor : Tagged → ℕ → List ℕ → List ℕ
+notedFor (Small p) entry table = table
+notedFor (Large p i) entry table = set table i entry
+
+module _ (s h size : ℕ) (table : List ℕ) where
+  pub tagged-in : (s < wrapper h size → entryOf s h size < length table) → EntryIn (tagged s h size) table
+  unfolding EntryIn
+  tagged-in f = by-frame s h size (λ l. rw (tagged-small s h size l) tt) (λ l. rw (tagged-large s h size l) (f l))
+
+  pub tagged-free : freeFor (tagged s h size) table ≡ entryFree s h size table
+  unfolding freeFor
+  tagged-free =
+      by-frame s h size
+      (λ l. rw (tagged-small s h size l) (sym (free-small s h size table l)))
+      (λ l. rw (tagged-large s h size l) (sym (free-large s h size table (entryOf s h size) l refl)))
+
+  pub tagged-noted : (entry : ℕ) → notedFor (tagged s h size) entry table ≡ noted s h size entry table
+  unfolding notedFor
+  tagged-noted entry =
+      by-frame s h size
+      (λ l. rw (tagged-small s h size l) (sym (noted-small s h size entry table l)))
+      (λ l. rw (tagged-large s h size l) (sym (noted-large s h size entry table (entryOf s h size) l refl)))
+
+-- By a pointer whose tag leads to the object.
+
+-- the table with the entry that the tag leads through zero
+unfoldable pub entryCleared : ℕ → Pointer → List ℕ → List ℕ
+entryCleared s p table = cond (p .flag) table (set table (entryAt s (p .tag) (p .address)) 0)
+
+-- no entry, or that one
+pub cleared-small : (s : ℕ) (p : Pointer) (table : List ℕ) → p .flag ≡ true → entryCleared s p table ≡ table
+unfolding entryCleared
+cleared-small s p table e = rw e
+
+pub cleared-large : (s : ℕ) (p : Pointer) (table : List ℕ) → p .flag ≡ false → entryCleared s p table ≡ set table (entryAt s (p .tag) (p .address)) 0
+unfolding entryCleared
+cleared-large s p table e = rw e
+
+-- it is the object's
+pub cleared-noted : (s h size : ℕ) (p : Pointer) (table : List ℕ) → tagMatches s h size p ≡ true → h / 2 ^ reach s p ≡ p .address / 2 ^ reach s p
+    → entryCleared s p table ≡ noted s h size 0 table
+cleared-noted s h size p table m near =
+    let q : p ≡ at (pointerTo s h size) (p .address) = matches-pointer s h size p m in
+    let flag : p .flag ≡ pointerTo s h size .flag = ap (λ (r : Pointer). r .flag) q in
+    let tag : p .tag ≡ pointerTo s h size .tag = ap (λ (r : Pointer). r .tag) q in
+    by-frame s h size
+    (λ l.
+    let o : pointerTo s h size .flag ≡ true = ap (λ (r : Pointer). r .flag) (pointer-small s h size l) in
+    cleared-small s p table (flag ∙ o) ∙ sym (noted-small s h size 0 table l))
+    (λ l.
+    let o : pointerTo s h size .flag ≡ false = ap (λ (r : Pointer). r .flag) (pointer-large s h size l) in
+    let t : p .tag ≡ wrapper h size = tag ∙ ap (λ (r : Pointer). r .tag) (pointer-large s h size l) in
+    let n : h / 2 ^ wrapper h size ≡ p .address / 2 ^ wrapper h size = rw (reach-large s p (flag ∙ o), t) at near in
+    let e : entryAt s (p .tag) (p .address) ≡ entryOf s h size = ap (λ (k : ℕ). entryAt s k (p .address)) t ∙ entry-same s (wrapper h size) (p .address) h (sym n) in
+    cleared-large s p table (flag ∙ o) ∙ sym (noted-large s h size 0 table (entryAt s (p .tag) (p .address)) l e))

@@ -2,8 +2,8 @@
 -- In order: where the merged block starts and ends; what is known where the rows are passed; each row, and what is left by the answer; its outcomes; the merged image.
 -- Assumes nothing.
 use Prim.Native.Nat.{ℕ, _+_, _-_, _≤_, _<_}
-use mathlib.Core.Path.{_≡_, refl, sym, ap, _∙_, subst}
-use mathlib.Core.Bool.{true, false, cond, _&&_, _||_, and-false}
+use mathlib.Core.Path.{_≡_, refl, sym, ap, _∙_}
+use mathlib.Core.Bool.{Bool, true, false, cond, _&&_, _||_, and-false}
 use mathlib.Core.List.{List, _++_}
 use native.Mathlib.Omega.{arith}
 use lib.Dec.{leb, ltb, eqb}
@@ -20,7 +20,7 @@ use Rattle.block.specs.laws.Writes.{length-put, put-def}
 use Rattle.block.specs.laws.Headers.{length-header}
 use Rattle.block.specs.declared.walk.Met.{Met}
 use Rattle.store.specs.State.{State, outcome, refuse}
-use Rattle.store.specs.Calls.{opening, noted, located, mergeStart, mergeEnd, merging, released, freeChecks, releasedAt, freeRelease, merged, freed, free}
+use Rattle.store.specs.Calls.{opening, noted, located, mergeStart, mergeEnd, released, freeChecks, releasedAt, freeRelease, merged, freed, free}
 use Rattle.store.specs.laws.Refusals.{demand-met, and-then-met}
 use Rattle.store.specs.laws.Opening.{Open, opening-parts, entry-in}
 use Rattle.store.specs.laws.TagReading.{Located, located-parts}
@@ -29,7 +29,6 @@ use Rattle.store.specs.declared.answer.Refusal.the-variants.{Unsound, No
 use Rattle.store.specs.declared.answer.Answer.the-variants.{Accepted, Refused}
 use Rattle.store.specs.declared.answer.Answer.{Answer}
 use Rattle.block.specs.declared.walk.Met.the-variants as met
-use Rattle.store.specs.declared.release.Coalesced.{Coalesced}
 use Rattle.store.specs.declared.release.Release.the-variants as release
 
 -- where the merged block starts
@@ -73,7 +72,7 @@ module _ (image : List ℕ) (next : ℕ) where
 module _ (image : List ℕ) (h : ℕ) where
   -- the next header is sound, or there is none
   pub released-merges : (before : ℕ) → leb (length image) (h + extentAt image h) || sound image (h + extentAt image h) ≡ true
-      → released image h (met.After before) ≡ release.Merges (merging image h (mergeStart image before h) (mergeEnd image (h + extentAt image h)))
+      → released image h (met.After before) ≡ release.Merges h (mergeStart image before h) (mergeEnd image (h + extentAt image h))
   unfolding released
   released-merges before e = rw e
 
@@ -116,90 +115,82 @@ pub record Releases (image : List ℕ) (h from to before : ℕ) : Type 0 where
   pub ends : to ≡ mergeEnd image (h + extentAt image h)
 
 -- what a release that merges was made of
-pub record Released (image : List ℕ) (h : ℕ) (m : Coalesced) : Type 0 where
-  pub is-merging : m ≡ merging image h (m .from) (m .to)
-  pub before : ℕ
-  pub merges : Releases image h (m .from) (m .to) before
-
-released-parts : (image : List ℕ) (h : ℕ) (m : Coalesced) → released image h (walkTo image h) ≡ release.Merges m → Released image h m
+released-parts : (image : List ℕ) (k h from to : ℕ) → released image k (walkTo image k) ≡ release.Merges h from to → (h ≡ k) × (before : ℕ) × Releases image k from to before
 unfolding released
-released-parts image h m e = go (walkTo image h) refl e
+released-parts image k h from to e = go (walkTo image k) refl e
   where
-    go : (w : Met) → walkTo image h ≡ w → released image h w ≡ release.Merges m → Released image h m
+    ok : Bool
+    ok = leb (length image) (k + extentAt image k) || sound image (k + extentAt image k)
+
+    go : (m : Met) → walkTo image k ≡ m → released image k m ≡ release.Merges h from to → (h ≡ k) × (before : ℕ) × Releases image k from to before
     go (met.After before) p e =
-        byBool (leb (length image) (h + extentAt image h) || sound image (h + extentAt image h))
+        byBool ok
         (λ t.
-        let q : release.Merges (merging image h (mergeStart image before h) (mergeEnd image (h + extentAt image h))) ≡ release.Merges m = rw t at e in
-        let r : merging image h (mergeStart image before h) (mergeEnd image (h + extentAt image h)) ≡ m = cc in
-        rw (← r) (record { is-merging = refl; before = before; merges = record { meets = p; next-good = t; starts = refl; ends = refl } }))
+        let q : release.Merges k (mergeStart image before k) (mergeEnd image (k + extentAt image k)) ≡ release.Merges h from to = rw t at e in
+        (cc, before, record { meets = p; next-good = t; starts = cc; ends = cc }))
         (λ t. let z : _≡_ {A = ℕ} 0 1 = cc in absurd (omega arith))
     go met.Lost p e = let z : _≡_ {A = ℕ} 0 1 = cc in absurd (omega arith)
 
 -- the same, with the test that found the object
-released-at-parts : (a : Answer) (image : List ℕ) (m : Coalesced) → releasedAt a image ≡ release.Merges m → (a ≡ Accepted (m .header)) × Released image (m .header) m
+released-at-parts : (a : Answer) (image : List ℕ) (h from to : ℕ) → releasedAt a image ≡ release.Merges h from to
+    → (a ≡ Accepted h) × (before : ℕ) × Releases image h from to before
 unfolding releasedAt
-released-at-parts (Accepted h) image m e =
-    let r = released-parts image h m e in
-    let q : m .header ≡ h = ap (λ (n : Coalesced). n .header) (r .is-merging) in
-    (ap Accepted (sym q), subst (λ (k : ℕ). Released image k m) (sym q) r)
-released-at-parts (Refused r) image m e = let z : _≡_ {A = ℕ} 0 1 = cc in absurd (omega arith)
+released-at-parts (Accepted k) image h from to e =
+    let (q, before, r) = released-parts image k h from to e in
+    rw q (refl, before, r)
+released-at-parts (Refused r) image h from to e = let z : _≡_ {A = ℕ} 0 1 = cc in absurd (omega arith)
 
--- the rows of free are passed: the object goes, and a free block reaches from `from` to `to`
-pub record Frees (word : ℕ) (x : State) (m : Coalesced) : Type 0 where
+-- the rows of free are passed: the object at h goes, and a free block reaches from `from` to `to`
+pub record Frees (word : ℕ) (x : State) (h from to : ℕ) : Type 0 where
   pub opens : Open x (slotExponent (x .image))
-  pub object : Located (slotExponent (x .image)) (unpack word) x (m .header)
-  pub base : unpack word .address ≡ m .header + 16
-  pub size-is : m .size ≡ sizeAt (x .image) (m .header)
+  pub object : Located (slotExponent (x .image)) (unpack word) x h
+  pub base : unpack word .address ≡ h + 16
   pub before : ℕ
-  pub merges : Releases (x .image) (m .header) (m .from) (m .to) before
-  pub block : MeetsBlock (x .image) (m .header) before
-  pub low : 16 ≤ m .from
-  pub starts : m .from ≤ m .header
-  pub ends : m .header + extentAt (x .image) (m .header) ≤ m .to
-  pub room : m .from + 16 ≤ m .to
-  pub high : m .to ≤ length (x .image)
-  pub inside : m .header + 16 + m .size ≤ length (x .image)
-  pub indexed : entryOf (slotExponent (x .image)) (m .header) (m .size) < length (x .table)
+  pub merges : Releases (x .image) h from to before
+  pub block : MeetsBlock (x .image) h before
+  pub low : 16 ≤ from
+  pub starts : from ≤ h
+  pub ends : h + extentAt (x .image) h ≤ to
+  pub room : from + 16 ≤ to
+  pub high : to ≤ length (x .image)
+  pub inside : h + 16 + sizeAt (x .image) h ≤ length (x .image)
+  pub indexed : entryOf (slotExponent (x .image)) h (sizeAt (x .image) h) < length (x .table)
 
 -- a free that merges passes them
-pub free-parts : (word : ℕ) (x : State) (m : Coalesced) → freeRelease word x ≡ release.Merges m → Frees word x m
+pub free-parts : (word : ℕ) (x : State) (h from to : ℕ) → freeRelease word x ≡ release.Merges h from to → Frees word x h from to
 unfolding freeRelease freeChecks
-free-parts word x m e =
-    let h : ℕ = m .header in
-    let (a, re) = released-at-parts (freeChecks word x) (x .image) m e in
-    let (s, o, u) = and-then-met (opening x) _ h a in
-    let (k, l, n) = and-then-met (located s (unpack word) x) _ h u in
+free-parts word x h from to e =
+    let (a, before, r) = released-at-parts (freeChecks word x) (x .image) h from to e in
+    let (s, o, m) = and-then-met (opening x) _ h a in
+    let (k, l, n) = and-then-met (located s (unpack word) x) _ h m in
     let d = demand-met (eqb (unpack word .address) (k + 16)) NotBase _ h n in
     let g : h ≡ k = cc in
     let b : unpack word .address ≡ h + 16 = eqb-true _ _ (d .0) ∙ ap (λ (j : ℕ). j + 16) (sym g) in
     let q : s ≡ slotExponent (x .image) = opening-parts x s o .exponent in
     let op : Open x (slotExponent (x .image)) = opening-parts x (slotExponent (x .image)) (rw (← q) o) in
     let ob : Located (slotExponent (x .image)) (unpack word) x h = located-parts (slotExponent (x .image)) (unpack word) x h (rw (← q) (l ∙ ap Accepted (sym g))) in
-    let z : m .size ≡ sizeAt (x .image) h = ap (λ (y : Coalesced). y .size) (re .is-merging) in
-    let r = re .merges in
     let so = ob .header .is-sound in
-    let w = walk-to-meets (x .image) h (re .before) (r .meets) in
+    let w = walk-to-meets (x .image) h before (r .meets) in
     let end = sound-end (x .image) h so in
     let long = sound-extent (x .image) h so in
     let holds = sound-live (x .image) h so (ob .header .is-live) .holds in
-    let f = merge-start-in (x .image) (re .before) h (w .behind) (sound-low (x .image) h so) in
+    let f = merge-start-in (x .image) before h (w .behind) (sound-low (x .image) h so) in
     let t = merge-end-in (x .image) (h + extentAt (x .image) h) end (r .next-good) in
-    let i : h + 16 + m .size ≤ length (x .image) = omega arith in
+    let i : h + 16 + sizeAt (x .image) h ≤ length (x .image) = omega arith in
     record {
       opens = op;
       object = ob;
       base = b;
-      size-is = z;
-      before = re .before;
+      before = before;
       merges = r;
       block = w;
-      low = omega (arith, r .starts, f .0);
-      starts = omega (arith, r .starts, f .1);
-      ends = omega (arith, r .ends, t .0);
+      low = rw (r .starts) (f .0);
+      starts = rw (r .starts) (f .1);
+      ends = rw (r .ends) (t .0);
       room = omega (arith, r .starts, r .ends, f .1, t .0);
-      high = omega (arith, r .ends, t .1);
+      high = rw (r .ends) (t .1);
       inside = i;
-      indexed = entry-in x (slotExponent (x .image)) h (m .size) op i;
+      indexed = entry-in x (slotExponent (x .image)) h (sizeAt (x .image) h) op i;
     }
 
 -- The rows, and what is left by the answer.
@@ -233,11 +224,11 @@ module _ (word : ℕ) (x : State) where
   free-declined r e = rw e
 
   -- otherwise the blocks are merged and the entry cleared
-  pub free-done : (m : Coalesced) (s : ℕ) (image table : List ℕ) → freeRelease word x ≡ release.Merges m → s ≡ slotExponent (x .image)
-      → image ≡ merged (x .image) (m .from) (m .to) → table ≡ noted s (m .header) (m .size) 0 (x .table)
+  pub free-done : (h from to s : ℕ) (image table : List ℕ) → freeRelease word x ≡ release.Merges h from to → s ≡ slotExponent (x .image)
+      → image ≡ merged (x .image) from to → table ≡ noted s h (sizeAt (x .image) h) 0 (x .table)
       → outcome (Accepted 0) image table ≡ free word x
   unfolding free freed
-  free-done m s image table e k i t = rw (e, i, t, k)
+  free-done h from to s image table e k i t = rw (e, i, t, k)
 
 -- What it comes to, where rows 4 and 5 are passed.
 
@@ -257,10 +248,10 @@ module _ (s : ℕ) (x : State) (o : opening x ≡ Accepted s) where
       free-lost r g = sym (free-declined p x r (sym (free-at-base p x s o h e (eqb-true _ _ f)) ∙ g))
 
       -- the blocks are merged
-      pub free-merges : (from to : ℕ) → slotExponent (x .image) ≡ s → released (x .image) h (walkTo (x .image) h) ≡ release.Merges (merging (x .image) h from to)
+      pub free-merges : (from to : ℕ) → slotExponent (x .image) ≡ s → released (x .image) h (walkTo (x .image) h) ≡ release.Merges h from to
           → free p x ≡ outcome (Accepted 0) (merged (x .image) from to) (noted s h (sizeAt (x .image) h) 0 (x .table))
       free-merges from to q g =
-          sym (free-done p x (merging (x .image) h from to) s _ _ (sym (free-at-base p x s o h e (eqb-true _ _ f)) ∙ g) (sym q) refl refl)
+          sym (free-done p x h from to s _ _ (sym (free-at-base p x s o h e (eqb-true _ _ f)) ∙ g) (sym q) refl refl)
 
 -- The merged image.
 

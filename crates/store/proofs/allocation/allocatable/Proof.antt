@@ -1,11 +1,16 @@
 -- `store::allocation::allocatable` meets its contract: 6, then 7 or 8 as first fit ends, then 9 (`entry_free`). Assumes nothing.
-use mathlib.Core.Path.{_≡_, sym, _∙_}
-use Prim.Native.Nat.{_+_}
+use mathlib.Core.Path.{_≡_, sym, ap, _∙_}
+use Prim.Native.Nat.{_+_, _^_, _≤_, _<_}
+use lib.ListN.{length}
+use Rattle.frame.specs.Tags.{wrapper, entryOf}
+use Rattle.frame.specs.declared.tag.Tagged.{Tagged}
 use Rattle.block.specs.Walk.{firstFit}
 use Rattle.block.specs.declared.walk.Fit.the-variants as fit
 use Rattle.store.specs.State.{state}
+use Rattle.store.specs.Calls.{entryFree}
 use Rattle.store.specs.laws.Opening.{opening-parts}
-use Rattle.store.specs.laws.Allocate.{allocate-empty, allocate-unsound, allocate-full, allocate-taken, allocate-given}
+use Rattle.store.specs.laws.Entries.{freeFor, tagged-in, tagged-free}
+use Rattle.store.specs.laws.Allocate.{site-refused, site-at, allocate-empty, allocate-unsound, allocate-full, allocate-taken, allocate-given}
 use Rattle.store.proofs.Carving.{fit-needs}
 use borrow.Author.Needs.{needs}
 use Rattle.store.proofs.allocation.allocatable.Statement.{statement}
@@ -22,36 +27,54 @@ at-some c = c .before .before .before
 found : (c : tie.After-h) → let a = start (at-some c) .args in firstFit (a .image .now) (16 + a .size) ≡ fit.At (c .h .given .0 .0)
 found c = sym (c .before .before .first-fit .ensures) ∙ c .h .given .1
 
+-- what its tag asks for
+needed : (c : tie.After-h) → let a = start (at-some c) .args in let h = c .h .given .0 .0 in
+    (a .s < 16) × (16 ≤ h) × (h + 16 + a .size ≤ 2 ^ 30) × (a .s < wrapper h (a .size) → entryOf (a .s) h (a .size) < length (a .table .now))
+needed c = fit-needs (state _ _) _ _ _ (opening-parts _ _ (start (at-some c) .pre)) (found c)
+
+tag-object-requires : tie.Need-tag-object-requires
+tag-object-requires c κs = let n = needed (c .before) in (n .0, n .1, n .2)
+
 entry-free-requires : tie.Need-entry-free-requires
-entry-free-requires c κs = fit-needs (state _ _) _ _ _ (opening-parts _ _ (start (at-some (c .before)) .pre)) (found (c .before))
+entry-free-requires c κs = rw (c .tag-object .ensures) (tagged-in _ _ _ _ (needed (c .before .before) .3))
+
+-- row 9, as it was tested
+tested : (c : tie.After-entry-free) → let h = c .before .before .before in let a = start (at-some h) .args in
+    entryFree (a .s) (h .h .given .0 .0) (a .size) (a .table .now) ≡ c .entry-free .result
+tested c =
+    let h = c .before .before .before in
+    let a = start (at-some h) .args in
+    sym (tagged-free (a .s) (h .h .given .0 .0) (a .size) (a .table .now)) ∙ ap (λ (t : Tagged). freeFor t (a .table .now)) (sym (c .before .tag-object .ensures))
+    ∙ sym (c .entry-free .ensures)
 
 -- row 6
 returns : tie.Need-returns
-returns c = allocate-empty _ (state _ _) _ (c .before .before .before .pre) (c .if1 .taken)
+returns c = site-refused _ _ _ _ (allocate-empty _ (state _ _) _ (c .before .before .before .pre) (c .if1 .taken))
 
 -- row 7
 returns-2 : tie.Need-returns-2
 returns-2 c =
     let b = c .before .before .before in
-    allocate-unsound _ (state _ _) _ (start b .pre) (b .if1 .left) _ (sym (c .before .before .first-fit .ensures) ∙ c .enum-told .given .1)
+    site-refused _ _ _ _ (allocate-unsound _ (state _ _) _ (start b .pre) (b .if1 .left) _ (sym (c .before .before .first-fit .ensures) ∙ c .enum-told .given .1))
 
 -- row 8
 returns-3 : tie.Need-returns-3
 returns-3 c =
     let b = c .before .before .before in
-    allocate-full _ (state _ _) _ (start b .pre) (b .if1 .left) (sym (c .before .before .first-fit .ensures) ∙ c .enum-told2 .given .1)
+    site-refused _ _ _ _ (allocate-full _ (state _ _) _ (start b .pre) (b .if1 .left) (sym (c .before .before .first-fit .ensures) ∙ c .enum-told2 .given .1))
 
 -- the block at h is taken
 returns-4 : tie.Need-returns-4
 returns-4 c =
-    let h = c .before .before .before in
-    allocate-given _ (state _ _) _ (start (at-some h) .pre) (at-some h .if1 .left) _ (found h) (sym (c .before .entry-free .ensures) ∙ c .if2 .taken)
+    let h = c .before .before .before .before in
+    site-at _ _ _ _ _ (c .before .before .tag-object .ensures)
+    (allocate-given _ (state _ _) _ (start (at-some h) .pre) (at-some h .if1 .left) _ (found h) (tested (c .before) ∙ c .if2 .taken))
 
 -- row 9
 returns-5 : tie.Need-returns-5
 returns-5 c =
-    let h = c .before .before .before in
-    allocate-taken _ (state _ _) _ (start (at-some h) .pre) (at-some h .if1 .left) _ (found h) (sym (c .before .entry-free .ensures) ∙ c .if2 .left)
+    let h = c .before .before .before .before in
+    site-refused _ _ _ _ (allocate-taken _ (state _ _) _ (start (at-some h) .pre) (at-some h .if1 .left) _ (found h) (tested (c .before) ∙ c .if2 .left))
 
 pub allocatable-spec : {M : Type 1} → statement M
 allocatable-spec =
@@ -63,6 +86,7 @@ allocatable-spec =
     (λ c. search needs)
     (λ c. search needs)
     (λ c. search needs)
+    tag-object-requires
     entry-free-requires
     returns-2
     returns-3

@@ -1,11 +1,14 @@
 -- `store::allocate` meets its contract: refused by `opening` or `allocatable`, or the block is carved and its entry noted. Assumes nothing.
-use mathlib.Core.Path.{_≡_, sym, _∙_}
+use mathlib.Core.Path.{_≡_, sym, ap, _∙_}
 use native.Mathlib.Omega.{arith}
-use Rattle.frame.specs.laws.Tags.{pointer-range}
+use Rattle.frame.specs.Tags.{pointerTo, tagged}
+use Rattle.frame.specs.laws.Tags.{pointer-range, taggedPointer, tagged-pointer}
+use Rattle.frame.specs.declared.tag.Tagged.{Tagged}
 use Rattle.store.specs.State.{State, state}
 use Rattle.store.specs.Calls.{opening, allocateChecks}
 use Rattle.store.specs.laws.Opening.{Open, opening-parts}
-use Rattle.store.specs.laws.Allocate.{Allocates, allocate-parts, allocate-shut, allocate-declined, allocate-done}
+use Rattle.store.specs.laws.Allocate.{Allocates, allocate-parts, allocate-shut, allocate-declined, allocate-done, site-declined, site-chosen}
+use Rattle.store.specs.laws.Entries.{notedFor, tagged-in, tagged-noted}
 use Rattle.store.specs.declared.answer.Answer.the-variants.{Accepted}
 use Rattle.store.proofs.Carving.{fit-needs}
 use borrow.Author.Needs.{needs}
@@ -31,17 +34,30 @@ is-open c = sym (c .before .before .opening .ensures) ∙ c .s .given .1
 opens : (c : tie.After-s) → Open (given (start c)) (c .s .given .0 .0)
 opens c = opening-parts _ _ (is-open c)
 
-accepted : (c : tie.After-h) → let b = start (at-open c) in allocateChecks (b .args .size) (given b) ≡ Accepted (c .h .given .0 .0)
-accepted c = sym (c .before .before .allocatable .ensures) ∙ c .h .given .1
+chosen : (c : tie.After-h) → let b = start (at-open c) in let h = c .h .given .0 .0 in
+    (allocateChecks (b .args .size) (given b) ≡ Accepted h) × (c .h .given .0 .1 .0 ≡ tagged (at-open c .s .given .0 .0) h (b .args .size))
+chosen c = site-chosen _ _ _ _ _ (sym (c .before .before .allocatable .ensures) ∙ c .h .given .1)
 
 allocates : (c : tie.After-h) → let b = start (at-open c) in Allocates (b .args .size) (given b) (c .h .given .0 .0)
-allocates c = allocate-parts _ (state _ _) _ (accepted c)
+allocates c = allocate-parts _ (state _ _) _ (chosen c .0)
+
+note-requires : tie.Need-note-requires
+note-requires c κs =
+    let h = at-passed c in
+    rw (chosen h .1) (tagged-in _ _ _ _ (fit-needs (given (start (at-open h))) _ _ _ (opens (at-open h)) (allocates h .found) .3))
+
+-- the object's pointer
+pointer-is : (c : tie.After-pointer) → let h = at-passed (c .before .before .before .before) in let o = at-open h in
+    c .pointer .result ≡ pointerTo (o .s .given .0 .0) (h .h .given .0 .0) (start o .args .size)
+pointer-is c =
+    let h = at-passed (c .before .before .before .before) in
+    c .pointer .ensures ∙ ap taggedPointer (chosen h .1) ∙ tagged-pointer _ _ _
 
 pack-requires : tie.Need-pack-requires
 pack-requires c κs =
-    let h = at-passed (c .before .before .before) in
+    let h = at-passed (c .before .before .before .before) in
     let o = opens (at-open h) in
-    rw (c .before .before .note .ensures .0) (pointer-range _ _ _ (o .high) (omega (arith, allocates h .inside, o .short)))
+    rw (pointer-is c) (pointer-range _ _ _ (o .high) (omega (arith, allocates h .inside, o .short)))
 
 -- row 4 or 5
 returns : tie.Need-returns
@@ -49,14 +65,16 @@ returns c = allocate-declined _ (state _ _) _ _ (sym (allocate-shut _ (state _ _
 
 -- row 6, 7, 8 or 9
 returns-2 : tie.Need-returns-2
-returns-2 c = allocate-declined _ (state _ _) _ _ (sym (c .before .before .before .allocatable .ensures) ∙ c .before .r2 .given .1)
+returns-2 c = allocate-declined _ (state _ _) _ _ (site-declined _ _ _ _ (sym (c .before .before .before .allocatable .ensures) ∙ c .before .r2 .given .1))
 
 -- the object
 returns-3 : tie.Need-returns-3
 returns-3 c =
-    let n = c .before .before .before in
+    let n = c .before .before .before .before in
     let h = at-passed (n .before) in
-    allocate-done _ (state _ _) _ _ _ _ _ _ _ (accepted h) (opens (at-open h) .exponent) (n .before .before .before .before .carve .ensures) (n .note .ensures .0) (n .note .ensures .1) (c .pack .ensures)
+    allocate-done _ (state _ _) _ _ _ _ _ _ _ (chosen h .0) (opens (at-open h) .exponent) (n .before .before .before .before .carve .ensures) (pointer-is (c .before))
+    (n .note .ensures ∙ ap (λ (t : Tagged). notedFor t (h .h .given .0 .0) (start (at-open h) .args .table .now)) (chosen h .1) ∙ tagged-noted _ _ _ _ _)
+    (c .pack .ensures)
 
 pub allocate-spec : {M : Type 1} → statement M
 allocate-spec =
@@ -70,8 +88,8 @@ allocate-spec =
     (λ c. search needs)
     (λ c. search needs)
     (λ c κs. let w = allocates (c .before .before) .lowest in (w .is-sound, w .fits-in))
-    (λ c. omega (arith, opens (at-open (at-passed c)) .high))
-    (λ c κs. fit-needs (state _ _) _ _ _ (opens (at-open (at-passed c))) (allocates (at-passed c) .found))
+    note-requires
+    (λ c κs. search needs)
     pack-requires
     (λ c. search needs)
     (λ c. search needs)

@@ -36,13 +36,12 @@ abbrev next : tie.After-extent-at → ℕ
 next c = start (at-met c) .args .h + c .extent-at .result
 
 -- the walk meets h, and `next` follows its block
-meets : (c : tie.After-extent-at) → let a = start (at-met c) .args in Meets (image c) (a .h) (at-met c .before .before2 .given .0 .0) (next c) (a .size)
+meets : (c : tie.After-extent-at) → let a = start (at-met c) .args in Meets (image c) (a .h) (at-met c .before .before2 .given .0 .0) (next c)
 meets c =
     record {
       met = cc;
       follows = ap (λ (n : ℕ). start (at-met c) .args .h + n) (c .extent-at .ensures);
-      is-sound = start (at-met c) .pre .0;
-      size-is = start (at-met c) .pre .1;
+      is-sound = start (at-met c) .pre;
     }
 
 add-next : tie.Need-add-next
@@ -87,7 +86,7 @@ coalesce-spec =
     (λ c κs. search needs)
     (λ c. search needs)
     (λ c. search needs)
-    (λ c κs. omega (arith, sound-in _ _ (start c .pre .0)))
+    (λ c κs. omega (arith, sound-in _ _ (start c .pre)))
     add-next
     (λ c κs. before-in (meets c))
     returns

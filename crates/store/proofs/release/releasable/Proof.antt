@@ -49,7 +49,7 @@ returns c =
     free-off-base _ (state _ _) _ (start (at-read o) .pre) _ (object o .tested) (λ k. c .if1 .taken (address-is o ∙ k))
 
 coalesce-requires : tie.Need-coalesce-requires
-coalesce-requires c κs = let o = object (c .before .before .before .before) in (o .object .header .is-sound, o .size-is)
+coalesce-requires c κs = object (c .before .before .before .before) .object .header .is-sound
 
 -- row 10 or 11
 returns-2 : tie.Need-returns-2
