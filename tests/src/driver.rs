@@ -3,7 +3,7 @@
 use crate::case::{Action, Case, Counts, Run};
 use crate::generate::Generator;
 use crate::shrink::shrink;
-use crate::store::{Store, NAMES};
+use crate::store::{Store, KINDS, ROWS};
 use std::fmt;
 use std::sync::atomic::{AtomicU64, Ordering};
 
@@ -46,7 +46,7 @@ fn one(expected: &impl Store, tested: &impl Store, seed: u64, counts: &mut Count
     counts.largest_image = counts.largest_image.max(length);
     counts.slot_exponents[generator.slot_exponent() as usize] += 1;
     let mut run = Run::new(expected, tested, &case.buffers);
-    while let Some(step) = generator.next(&run) {
+    while let Some(step) = generator.next(&run.view()) {
         case.steps.push(step);
         let numbers = match step.action {
             Action::Call(call) => Some(call.map(|arg| run.resolve(arg))),
@@ -68,24 +68,25 @@ fn one(expected: &impl Store, tested: &impl Store, seed: u64, counts: &mut Count
     Ok(())
 }
 
-/// The rows of the refusal table that never occurred.
-pub fn missing(counts: &Counts) -> Vec<usize> {
-    (1..=16).filter(|&row| counts.rows[row] == 0).collect()
+/// The calls, and those of their rows that never occurred.
+pub fn missing(counts: &Counts) -> Vec<(&'static str, u32)> {
+    let pairs = KINDS.iter().zip(&counts.by_call).flat_map(|(kind, answers)| kind.rows.iter().map(move |&row| (kind.name, row, answers)));
+    pairs.filter(|(_, row, answers)| answers[*row as usize] == 0).map(|(name, row, _)| (name, row)).collect()
 }
 
 /// The counts as a table: a row for each answer, a column for each call.
 pub fn table(counts: &Counts) -> String {
     let mut text = format!("{:>8}", "answer");
-    for name in NAMES {
-        text += &format!("{name:>10}");
+    for kind in KINDS {
+        text += &format!("{:>10}", kind.name);
     }
     text += &format!("{:>11}\n", "all");
-    for row in 0..17 {
+    for row in 0..=ROWS {
         text += &if row == 0 { format!("{:>8}", "accepted") } else { format!("{row:>8}") };
-        for kind in &counts.by_call {
-            text += &if kind[row] == 0 { format!("{:>10}", ".") } else { format!("{:>10}", kind[row]) };
+        for answers in &counts.by_call {
+            text += &if answers[row] == 0 { format!("{:>10}", ".") } else { format!("{:>10}", answers[row]) };
         }
-        text += &format!("{:>11}\n", counts.rows[row]);
+        text += &format!("{:>11}\n", counts.by_call.iter().map(|answers| answers[row]).sum::<u64>());
     }
     text += &format!("{} calls in {} cases, ", counts.calls, counts.cases);
     text += &format!("{} of them with images of 64 KiB up to {} bytes\n", counts.large_images, counts.largest_image);
