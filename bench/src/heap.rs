@@ -10,10 +10,11 @@ use std::alloc::{alloc, dealloc, Layout};
 const LENGTH: usize = 192 << 10;
 const SLOT_EXPONENT: u32 = 8;
 const LARGEST: u64 = 512;
-const OBJECTS: usize = 400;
-const STEPS: usize = 4_000;
+/// Around so many are live.
+const OBJECTS: u64 = 400;
+const STEPS_BEFORE: usize = 4_000;
+const STEPS_TIMED: usize = 500;
 
-/// The object's number is its place in a list of its own, for `malloc`.
 enum Step {
     Allocate { size: u32 },
     Free { pointer: u64, object: usize },
@@ -21,84 +22,89 @@ enum Step {
 
 struct Heap {
     lent: Lent,
-    /// Pointer, size and number of each live object.
-    live: Vec<(u64, u32, usize)>,
-    steps: Vec<Step>,
     random: Random,
-    allocated: usize,
+    /// The size of each object, by its number.
+    sizes: Vec<u32>,
+    /// Pointer and number.
+    live: Vec<(u64, usize)>,
 }
 
 impl Heap {
-    fn allocate(&mut self) {
-        let size = self.random.within(1, LARGEST) as u32;
-        self.live.push((self.lent.allocate(size), size, self.allocated));
-        self.allocated += 1;
-        self.steps.push(Step::Allocate { size });
+    fn steps(&mut self, count: usize) -> Vec<Step> {
+        (0..count).map(|_| if self.random.below(2 * OBJECTS) < self.live.len() as u64 { self.free() } else { self.allocate() }).collect()
     }
 
-    fn free(&mut self) {
-        let (pointer, _, object) = self.live.swap_remove(self.random.below(self.live.len() as u64) as usize);
+    fn allocate(&mut self) -> Step {
+        let size = self.random.within(1, LARGEST) as u32;
+        self.live.push((self.lent.allocate(size), self.sizes.len()));
+        self.sizes.push(size);
+        Step::Allocate { size }
+    }
+
+    fn free(&mut self) -> Step {
+        let (pointer, object) = self.live.swap_remove(self.random.below(self.live.len() as u64) as usize);
         Model::free(&mut self.lent, pointer).unwrap();
-        self.steps.push(Step::Free { pointer, object });
+        Step::Free { pointer, object }
+    }
+
+    /// Pointers into live objects, 8 bytes of them at each.
+    fn pointers(&mut self, count: usize) -> Vec<u64> {
+        let wide: Vec<(u64, usize)> = self.live.iter().copied().filter(|&(_, object)| self.sizes[object] >= 8).collect();
+        let inside = |_| {
+            let (pointer, object) = self.random.pick(&wide);
+            pointer + self.random.below(u64::from(self.sizes[object]) - 7)
+        };
+        (0..count).map(inside).collect()
     }
 }
 
-/// The same steps by `malloc` and `free`; objects left over are freed untimed.
-fn by_malloc(steps: &[Step], sizes: &[u32]) -> f64 {
+/// The same steps by `malloc` and `free`, only the later ones timed.
+fn by_malloc(before: &[Step], timed: &[Step], sizes: &[u32]) -> f64 {
     let layout = |size: u32| Layout::array::<u8>(size as usize).unwrap();
     let mut objects: Vec<*mut u8> = Vec::with_capacity(sizes.len());
-    // SAFETY: no layout is empty; each object is freed once, with its own layout.
-    unsafe {
-        let ns = time(|| {
-            for step in steps {
-                match *step {
-                    Step::Allocate { size } => objects.push(alloc(layout(size))),
-                    Step::Free { object, .. } => {
-                        dealloc(objects[object], layout(sizes[object]));
-                        objects[object] = std::ptr::null_mut();
-                    }
-                }
+    let mut make = |steps: &[Step]| {
+        for step in steps {
+            match *step {
+                // SAFETY: no layout is empty.
+                Step::Allocate { size } => objects.push(unsafe { alloc(layout(size)) }),
+                // SAFETY: allocated before with this layout, and not freed.
+                Step::Free { object, .. } => unsafe { dealloc(std::mem::replace(&mut objects[object], std::ptr::null_mut()), layout(sizes[object])) },
             }
-        });
-        objects.iter().zip(sizes).filter(|(object, _)| !object.is_null()).for_each(|(&object, &size)| dealloc(object, layout(size)));
-        ns
+        }
+    };
+    make(before);
+    let ns = time(|| make(timed));
+    for (object, &size) in objects.into_iter().zip(sizes).filter(|(object, _)| !object.is_null()) {
+        // SAFETY: as above.
+        unsafe { dealloc(object, layout(size)) };
     }
+    ns
 }
 
 pub fn measure(bench: &mut Bench) {
-    let lent = Lent::new(LENGTH, SLOT_EXPONENT);
-    let mut heap = Heap { lent, live: Vec::new(), steps: Vec::new(), random: Random::new(1), allocated: 0 };
-    while heap.steps.len() < STEPS {
-        // around OBJECTS live ones
-        if heap.random.below(2 * OBJECTS as u64) < heap.live.len() as u64 {
-            heap.free();
-        } else {
-            heap.allocate();
-        }
-    }
-    let Heap { mut lent, live, steps, mut random, .. } = heap;
-    let sizes: Vec<u32> = steps.iter().filter_map(|step| if let Step::Allocate { size } = *step { Some(size) } else { None }).collect();
-    let large = live.iter().filter(|object| !is_small(object.0)).count();
-    heading(&format!("random heap: {} live, {large} large-framed", live.len()), "malloc");
+    let mut heap = Heap { lent: Lent::new(LENGTH, SLOT_EXPONENT), random: Random::new(1), sizes: Vec::new(), live: Vec::new() };
+    let before = heap.steps(STEPS_BEFORE);
+    let start = heap.lent.clone();
+    let large = heap.live.iter().filter(|&&(pointer, _)| !is_small(pointer)).count();
+    heading(&format!("random heap: {} live, {large} large-framed", heap.live.len()), "malloc");
+    let pointers = heap.pointers(1024);
+    let timed = heap.steps(STEPS_TIMED);
     let replay = both!(|C, lent: Lent| {
-        Model::set_up(lent, SLOT_EXPONENT).unwrap();
+        lent.image.copy_from_slice(&start.image);
+        lent.table.copy_from_slice(&start.table);
         time(|| {
-            for step in &steps {
-                match *step {
-                    Step::Allocate { size } => sink(C::allocate(lent, size).unwrap()),
-                    Step::Free { pointer, .. } => sink(C::free(lent, pointer).unwrap()),
-                }
+            for step in &timed {
+                sink(match *step {
+                    Step::Allocate { size } => C::allocate(lent, size).unwrap(),
+                    Step::Free { pointer, .. } => C::free(lent, pointer).unwrap(),
+                })
             }
         })
     });
-    bench.line("allocate or free, random heap", steps.len(), &mut lent.clone(), replay, Other::Shown(&mut |_| by_malloc(&steps, &sizes)));
+    let sizes = heap.sizes;
+    bench.line("allocate or free, random heap", STEPS_TIMED, &mut heap.lent, replay, Other::Shown(&mut |_| by_malloc(&before, &timed, &sizes)));
     heading("random heap, a call", "unchecked");
-    let wide: Vec<(u64, u32, usize)> = live.into_iter().filter(|object| object.1 >= 8).collect();
-    let inside = |_| {
-        let (pointer, size, _) = random.pick(&wide);
-        pointer + random.below(u64::from(size) - 7)
-    };
-    let pointers: Vec<u64> = (0..1024).map(inside).collect();
+    let mut lent = start.clone();
     load(bench, "load 8, random heap", &mut lent, &pointers, 8);
     store(bench, "store 8, random heap", &mut lent, &pointers, 8);
 }

@@ -16,7 +16,7 @@ use measure::{Bench, LEAST_ROUNDS};
 use std::time::{Duration, Instant};
 
 fn main() {
-    let milliseconds = std::env::args().nth(1).map_or(250, |text| text.parse().expect("milliseconds for each line"));
+    let milliseconds = std::env::args().nth(1).map_or(400, |text| text.parse().expect("milliseconds for each line"));
     let begun = Instant::now();
     let for_each_line = Duration::from_millis(milliseconds);
     let mut bench = Bench::new(for_each_line);
