@@ -6,16 +6,26 @@ use crate::contestants::{Calls, Lent, Library, Model};
 use crate::measure::{heading, sink, time, Bench, Other};
 use cueledger_tests::model::Header;
 
-/// An image of `blocks` live blocks of 32 bytes, then one free block.
-fn full(blocks: usize, free: usize, slot_exponent: u32) -> Lent {
-    let mut lent = Lent::new(16 + 32 * blocks + free, slot_exponent);
-    // as allocate would leave them, without its walk for each; table entries are left out, no walk reads them
-    for block in lent.image[16..16 + 32 * blocks].chunks_exact_mut(32) {
-        block[..16].copy_from_slice(&Header::live(32, 1, 16).bytes());
-        block[16..].fill(0);
+/// An image of live blocks, then a free one.
+#[derive(Clone, Copy)]
+struct Layout {
+    blocks: usize,
+    extent: usize,
+    free: usize,
+    slot_exponent: u32,
+}
+
+impl Layout {
+    fn lent(self) -> Lent {
+        let end = 16 + self.extent * self.blocks;
+        let mut lent = Lent::new(end + self.free, self.slot_exponent);
+        // as allocate would leave them, without its walk for each; table entries are left out, no walk reads them
+        for block in lent.image[16..end].chunks_exact_mut(self.extent) {
+            block[..16].copy_from_slice(&Header::live(self.extent as u64, 1, self.extent as u32 - 16).bytes());
+        }
+        lent.image[end..end + 16].copy_from_slice(&Header::free(self.free as u64).bytes());
+        lent
     }
-    lent.image[16 + 32 * blocks..][..16].copy_from_slice(&Header::free(free as u64).bytes());
-    lent
 }
 
 /// The library's load and store in the same few objects, behind few blocks and behind many.
@@ -23,7 +33,7 @@ pub fn independence(bench: &mut Bench) {
     println!("\n{:<40}{:>11}{:>11}{:>8}", "behind a number of blocks, a call", "100,000 ns", "10 ns", "ratio");
     for (frame, slot_exponent, small) in FRAMES {
         let mut images = [100_000, 10].map(|blocks| {
-            let mut lent = full(blocks, 4096, slot_exponent);
+            let mut lent = Layout { blocks, extent: 32, free: 4096, slot_exponent }.lent();
             let objects: Vec<u64> = (0..40).map(|_| lent.allocate(40)).filter(|&pointer| is_small(pointer) == small).take(8).collect();
             let pointers: Vec<u64> = (0..1024).map(|i| objects[i % objects.len()] + 8 * (i as u64 / 8 % 5)).collect();
             (lent, pointers)
@@ -33,16 +43,16 @@ pub fn independence(bench: &mut Bench) {
         let [load_many, load_few, store_many, store_few] = bench
             .best(&mut images, [&mut |l| load(&mut l[0]), &mut |l| load(&mut l[1]), &mut |l| store(&mut l[0]), &mut |l| store(&mut l[1])])
             .map(|ns| ns / (PASSES * 1024) as f64);
-        bench.many_and_few(&format!("load 8, {frame}"), load_many, load_few);
-        bench.many_and_few(&format!("store 8, {frame}"), store_many, store_few);
+        bench.many_and_few(&format!("load 8, {frame}, behind blocks"), load_many, load_few);
+        bench.many_and_few(&format!("store 8, {frame}, behind blocks"), store_many, store_few);
     }
 }
 
-/// Allocate, free and tally in images of so many blocks; a line's times are of `units` in each image.
-fn walks(bench: &mut Bench, name: &str, blocks: usize, images: usize, units: usize) {
-    let mut lents: Vec<Lent> = (0..images).map(|_| full(blocks, 64, 15)).collect();
+/// Allocate and free of an object of 32 bytes behind the last block, in each image; times are divided by `units`.
+fn allocate_and_free(bench: &mut Bench, name: &str, layout: Layout, images: usize, units: usize) {
+    let mut lents: Vec<Lent> = (0..images).map(|_| layout.lent()).collect();
     let units = units * images;
-    // behind the last block, the object has the same pointer in every image
+    // it has the same pointer in every image
     let last = lents.iter_mut().map(|lent| lent.allocate(32)).last().unwrap();
     let give = |lents: &mut Vec<Lent>| lents.iter_mut().for_each(|lent| sink(Model::free(lent, last).unwrap()));
     let take = |lents: &mut Vec<Lent>| lents.iter_mut().for_each(|lent| sink(lent.allocate(32)));
@@ -58,18 +68,32 @@ fn walks(bench: &mut Bench, name: &str, blocks: usize, images: usize, units: usi
         ns
     });
     bench.line(&format!("free, {name}"), units, &mut lents, frees, Other::None);
+}
+
+fn tally(bench: &mut Bench, name: &str, layout: Layout, images: usize, units: usize) {
+    let mut lents: Vec<Lent> = (0..images).map(|_| layout.lent()).collect();
     let tallies = both!(|C, lents: Vec<Lent>| time(|| lents.iter().for_each(|lent| sink(C::tally(lent).unwrap()))));
-    bench.line(&format!("tally, {name}"), units, &mut lents, tallies, Other::None);
+    bench.line(&format!("tally, {name}"), units * images, &mut lents, tallies, Other::None);
 }
 
 pub fn few(bench: &mut Bench) {
     heading("a call behind few blocks", "");
-    walks(bench, "1 block", 1, 256, 1);
-    walks(bench, "10 blocks", 10, 256, 1);
+    for (name, blocks) in [("1 block", 1), ("10 blocks", 10)] {
+        let layout = Layout { blocks, extent: 32, free: 64, slot_exponent: 15 };
+        allocate_and_free(bench, &format!("{name}, small-framed"), layout, 256, 1);
+        allocate_and_free(bench, &format!("{name}, large-framed"), Layout { slot_exponent: 6, ..layout }, 256, 1);
+        tally(bench, name, layout, 256, 1);
+    }
+    // the object lies across 2^17
+    let layout = Layout { blocks: 1, extent: (1 << 17) - 32, free: 64, slot_exponent: 15 };
+    allocate_and_free(bench, "1 block, frame of 2^18", layout, 16, 1);
 }
 
 pub fn many(bench: &mut Bench) {
     heading("a block passed", "");
-    walks(bench, "a block of 1,000", 1_000, 16, 1_000);
-    walks(bench, "a block of 100,000", 100_000, 1, 100_000);
+    for (name, blocks, images) in [("1,000", 1_000, 16), ("100,000", 100_000, 1)] {
+        let layout = Layout { blocks, extent: 32, free: 64, slot_exponent: 15 };
+        allocate_and_free(bench, &format!("a block of {name}"), layout, images, blocks);
+        tally(bench, &format!("a block of {name}"), layout, images, blocks);
+    }
 }
