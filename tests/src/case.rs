@@ -1,8 +1,9 @@
 //! A case: two buffers, and a list of steps on them. It is run on two stores at once, each with buffers of its own.
 
+use crate::counts::Counts;
 use crate::model::{self, Pointer};
 use crate::random::Random;
-use crate::store::{Access, Answer, Call, Store, KINDS, ROWS};
+use crate::store::{Access, Answer, Call, Store};
 use std::collections::HashMap;
 use std::fmt;
 
@@ -97,36 +98,6 @@ impl fmt::Display for Mismatch {
             Mismatch::NotItsRow { store, call, refusal } => write!(f, "the {store} store answered {refusal}, which is no row of {call}"),
             Mismatch::ReadOrRefusalWrote => write!(f, "the expected store wrote something although it refused, or only reads"),
             Mismatch::EntryTakenInHistory => write!(f, "the expected store answered 9 on a history begun by set-up"),
-        }
-    }
-}
-
-/// How often each call, and each of its answers, occurred.
-#[derive(Clone, Debug, Default)]
-pub struct Counts {
-    pub calls: u64,
-    /// By call and refusal; 0 is accepted.
-    pub by_call: [[u64; ROWS + 1]; KINDS.len()],
-    pub cases: u64,
-    /// Cases with an image of 64 KiB and more.
-    pub large_images: u64,
-    pub largest_image: usize,
-    /// Cases by slot exponent.
-    pub slot_exponents: [u64; 16],
-    /// Accepted accesses and frees by small- and large-framed pointers.
-    pub framed: [u64; 2],
-}
-
-impl Counts {
-    /// `refusal` is 0 or a row of the call.
-    fn add(&mut self, call: &Call<u64>, refusal: u32) {
-        self.calls += 1;
-        self.by_call[call.place()][refusal as usize] += 1;
-        match *call {
-            Call::Load { pointer, .. } | Call::Store { pointer, .. } | Call::Free { pointer } | Call::Fill { pointer, .. } if refusal == 0 => {
-                self.framed[usize::from(pointer >> 63 == 0)] += 1;
-            }
-            _ => {}
         }
     }
 }

@@ -1,9 +1,10 @@
 //! Many random cases, until enough calls were made or one fails.
 
-use crate::case::{Action, Case, Counts, Run};
+use crate::case::{Action, Case, Run};
+use crate::counts::Counts;
 use crate::generate::Generator;
 use crate::shrink::shrink;
-use crate::store::{Store, KINDS, ROWS};
+use crate::store::Store;
 use std::fmt;
 use std::sync::atomic::{AtomicU64, Ordering};
 
@@ -20,7 +21,7 @@ pub struct Failure {
 
 impl fmt::Display for Failure {
     fn fmt(&self, f: &mut fmt::Formatter<'_>) -> fmt::Result {
-        writeln!(f, "failed after {} calls; again by: --seed {} --calls 1", self.calls_before, self.seed)?;
+        writeln!(f, "failed after {} calls; again by: cargo run --release --bin compare -- --seed {} --calls 1", self.calls_before, self.seed)?;
         write!(f, "shortest list found, {} steps: {}", self.case.steps.len(), self.text)
     }
 }
@@ -66,30 +67,4 @@ fn one(expected: &impl Store, tested: &impl Store, seed: u64, counts: &mut Count
         }
     }
     Ok(())
-}
-
-/// The calls, and those of their rows that never occurred.
-pub fn missing(counts: &Counts) -> Vec<(&'static str, u32)> {
-    let pairs = KINDS.iter().zip(&counts.by_call).flat_map(|(kind, answers)| kind.rows.iter().map(move |&row| (kind.name, row, answers)));
-    pairs.filter(|(_, row, answers)| answers[*row as usize] == 0).map(|(name, row, _)| (name, row)).collect()
-}
-
-/// The counts as a table: a row for each answer, a column for each call.
-pub fn table(counts: &Counts) -> String {
-    let mut text = format!("{:>8}", "answer");
-    for kind in KINDS {
-        text += &format!("{:>10}", kind.name);
-    }
-    text += &format!("{:>11}\n", "all");
-    for row in 0..=ROWS {
-        text += &if row == 0 { format!("{:>8}", "accepted") } else { format!("{row:>8}") };
-        for answers in &counts.by_call {
-            text += &if answers[row] == 0 { format!("{:>10}", ".") } else { format!("{:>10}", answers[row]) };
-        }
-        text += &format!("{:>11}\n", counts.by_call.iter().map(|answers| answers[row]).sum::<u64>());
-    }
-    text += &format!("{} calls in {} cases, ", counts.calls, counts.cases);
-    text += &format!("{} of them with images of 64 KiB up to {} bytes\n", counts.large_images, counts.largest_image);
-    text += &format!("cases by slot exponent 6..15: {:?}\n", &counts.slot_exponents[6..]);
-    text + &format!("accepted through small- and large-framed pointers (load, store, free, fill): {:?}\n", counts.framed)
 }

@@ -1,7 +1,7 @@
 //! The driver itself: it passes the model, and finds and shortens each of these faults.
 
 use cueledger_tests::case::Mismatch;
-use cueledger_tests::driver::{compare, missing, Failure};
+use cueledger_tests::driver::{compare, Failure};
 use cueledger_tests::model::{self, Pointer};
 use cueledger_tests::store::{Answer, Call, Model, Store, ROWS};
 
@@ -52,7 +52,7 @@ fn both(fault: Behaviour) -> Box<Failure> {
 #[test]
 fn model_against_itself() {
     let counts = compare(&Model, &Model, 200_000, 7).unwrap_or_else(|failure| panic!("{failure}"));
-    assert!(missing(&counts).is_empty(), "{:?}", missing(&counts));
+    assert!(counts.missing().is_empty(), "{:?}", counts.missing());
     assert!(counts.by_call.iter().all(|answers| answers[0] > 0), "each call was accepted at times");
 }
 
@@ -272,7 +272,7 @@ fn row_that_never_occurs() {
         answer => answer,
     };
     let counts = compare(&Faulty(never_9), &Faulty(never_9), 200_000, 1).unwrap_or_else(|failure| panic!("{failure}"));
-    assert_eq!(missing(&counts), [("allocate", 9)]);
+    assert_eq!(counts.missing(), [("allocate", 9)]);
 }
 
 #[test]

@@ -1,7 +1,7 @@
 //! The library against the model, with a fixed seed and with a fresh one.
 
-use cueledger_tests::case::Counts;
-use cueledger_tests::driver::{compare, missing, table};
+use cueledger_tests::counts::Counts;
+use cueledger_tests::driver::compare;
 use cueledger_tests::library::{Exports, Library};
 use cueledger_tests::random::fresh_seed;
 use cueledger_tests::store::{Model, Store};
@@ -17,15 +17,14 @@ fn print(text: &str) {
 fn agrees(name: &str, library: &impl Store, calls: u64, seed: u64) -> Counts {
     print(&format!("{name}: seed {seed}"));
     let counts = compare(&Model, library, calls, seed).unwrap_or_else(|failure| panic!("{failure}"));
-    let missing = missing(&counts);
-    assert!(missing.is_empty(), "rows that never occurred: {missing:?}");
+    assert!(counts.missing().is_empty(), "rows that never occurred: {:?}", counts.missing());
     counts
 }
 
 #[test]
 fn exports() {
     let counts = agrees("exports", &Exports, 1_000_000, SEED);
-    print(&table(&counts));
+    print(&counts.to_string());
     assert!(counts.slot_exponents[6..].iter().all(|&cases| cases > 0));
     assert!(counts.largest_image > 1 << 20);
 }

@@ -1,6 +1,6 @@
 //! The long run: `compare [--calls N] [--seed S]`, with a fresh seed where none is given. Exit status 1 where library and model differ or a row is missing.
 
-use cueledger_tests::driver::{compare, missing, table, RUNNING};
+use cueledger_tests::driver::{compare, RUNNING};
 use cueledger_tests::library::{Exports, Library};
 use cueledger_tests::random::fresh_seed;
 use cueledger_tests::store::Model;
@@ -71,9 +71,9 @@ fn main() {
             exit(1);
         }
         Ok(counts) => {
-            print!("{}", table(&counts));
+            println!("{counts}");
             println!("{:.1} s", begun.elapsed().as_secs_f64());
-            let missing = missing(&counts);
+            let missing = counts.missing();
             if calls >= 100_000 && !missing.is_empty() {
                 println!("never occurred: {missing:?}");
                 exit(1);

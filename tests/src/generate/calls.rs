@@ -1,6 +1,6 @@
 //! One call each, with arguments around its limits.
 
-use super::{Generator, Kind};
+use super::{Generator, Mode};
 use crate::case::{Arg, View};
 use crate::store::Call;
 
@@ -123,7 +123,7 @@ impl Generator {
     /// A pointer that store, fill and copy may get here, and the bytes from its address to the body's end. Where it
     /// has to be a live object's, a move may be queued before.
     fn target(&mut self, view: &View<'_>) -> (Arg, i64) {
-        if self.kind != Kind::History && self.random.percent(40) {
+        if self.mode != Mode::History && self.random.percent(40) {
             return (self.pointer(view), self.random.within(1, 40) as i64);
         }
         let Some((pointer, rest)) = self.live_pointer() else {

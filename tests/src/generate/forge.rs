@@ -1,6 +1,6 @@
 //! A live header written into a live object's body, and pointers to it.
 
-use super::{Generator, Kind};
+use super::{Generator, Mode};
 use crate::case::{Action, Arg, Damage, View};
 use crate::model::{Header, Pointer};
 use crate::store::Call;
@@ -25,7 +25,7 @@ impl Generator {
             self.call(Call::Store { pointer: Arg::of(moved), width: 8, value: u64::from_le_bytes(word.try_into().unwrap()) });
         }
         let pointer = Arg::Header { step, offset, size: forged };
-        if self.kind == Kind::Damaged && self.random.percent(70) {
+        if self.mode == Mode::Damaged && self.random.percent(70) {
             self.push(Action::Damage(Damage::EntryOf { of: pointer, value: None }));
         }
         for _ in 0..self.random.within(1, 4) {
@@ -60,7 +60,7 @@ impl Generator {
             4 | 5 => {
                 self.call(Call::Free { pointer });
             }
-            _ if self.kind == Kind::History => {}
+            _ if self.mode == Mode::History => {}
             6 => {
                 let value = self.random.word();
                 self.call(Call::Store { pointer, width: 8, value });

@@ -17,7 +17,7 @@ use std::collections::VecDeque;
 
 /// What a case may do.
 #[derive(Clone, Copy, Debug, PartialEq, Eq)]
-enum Kind {
+enum Mode {
     /// A history begun by set-up: store, fill and copy get only pointers of live objects.
     History,
     /// Any pointer for any call, slices and tables of wrong length, set-up again.
@@ -26,7 +26,7 @@ enum Kind {
     Damaged,
 }
 
-const KINDS: [(u64, Kind); 3] = [(40, Kind::History), (30, Kind::Hostile), (30, Kind::Damaged)];
+const MODES: [(u64, Mode); 3] = [(40, Mode::History), (30, Mode::Hostile), (30, Mode::Damaged)];
 
 /// Queues one or more steps.
 type Make = fn(&mut Generator, &View<'_>);
@@ -57,7 +57,7 @@ const KEPT_OBJECTS: usize = 300;
 
 pub struct Generator {
     random: Random,
-    kind: Kind,
+    mode: Mode,
     buffers: Buffers,
     slot_exponent: u32,
     objects: Vec<Object>,
@@ -83,7 +83,7 @@ fn length_and_steps(random: &mut Random, scale: u64) -> (u64, u64) {
 impl Generator {
     pub fn new(seed: u64) -> Generator {
         let mut random = Random::new(seed);
-        let kind = random.weighted(&KINDS);
+        let mode = random.weighted(&MODES);
         let scale = random.below(1000);
         let (length, steps) = length_and_steps(&mut random, scale);
         let slot_exponent = match scale {
@@ -91,7 +91,7 @@ impl Generator {
             _ if random.percent(60) => random.within(6, 8),
             _ => random.within(6, 15),
         } as u32;
-        let steps = if kind == Kind::Damaged { steps / 2 } else { steps };
+        let steps = if mode == Mode::Damaged { steps / 2 } else { steps };
         let used = model::used_entries(slot_exponent, length);
         // beyond what is lent there are bytes and entries that no call may touch
         let buffers = Buffers {
@@ -100,11 +100,11 @@ impl Generator {
             lent_image: length as usize,
             lent_table: (used + random.pick(&[0, 0, 0, 1, 48])) as usize,
             content: random.word(),
-            history: kind == Kind::History,
+            history: mode == Mode::History,
         };
         let steps_left = random.within(steps / 3, steps) as u32;
-        let mut generator = Generator { random, kind, buffers, slot_exponent, objects: Vec::new(), queue: VecDeque::new(), next_number: 0, steps_left };
-        if kind != Kind::History && generator.random.percent(15) {
+        let mut generator = Generator { random, mode, buffers, slot_exponent, objects: Vec::new(), queue: VecDeque::new(), next_number: 0, steps_left };
+        if mode != Mode::History && generator.random.percent(15) {
             generator.refused_set_up();
         }
         generator.set_up();
@@ -132,9 +132,9 @@ impl Generator {
     }
 
     fn generate(&mut self, view: &View<'_>) {
-        match self.kind {
-            Kind::Hostile if self.random.percent(4) => self.misuse(view),
-            Kind::Damaged if self.random.percent(15) => self.damage(view),
+        match self.mode {
+            Mode::Hostile if self.random.percent(4) => self.misuse(view),
+            Mode::Damaged if self.random.percent(15) => self.damage(view),
             _ => self.random.weighted(&MIX.map(|(ordinary, _, make)| (ordinary, make)))(self, view),
         }
     }
