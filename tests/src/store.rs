@@ -114,7 +114,7 @@ impl fmt::Display for Answer {
             number => write!(f, "refusal {number}")?,
         }
         let given = VALUES - self.values.iter().rev().take_while(|&&value| value == 0).count();
-        self.values[..given].iter().try_for_each(|value| write!(f, ", {value:#x}"))
+        self.values[..given].iter().try_for_each(|value| write!(f, ", {value:#018x}"))
     }
 }
 
