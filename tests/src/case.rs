@@ -1,8 +1,9 @@
 //! A case: two buffers, and a list of steps on them. It is run on two stores at once, each with buffers of its own.
 
+use crate::counts::Counts;
 use crate::model::{self, Pointer};
 use crate::random::Random;
-use crate::store::{Answer, Call, Store};
+use crate::store::{Access, Answer, Call, Store};
 use std::collections::HashMap;
 use std::fmt;
 
@@ -83,63 +84,51 @@ pub enum Mismatch {
     Answer { expected: Answer, got: Answer },
     Image { at: usize, expected: u8, got: u8 },
     Table { at: usize, expected: u64, got: u64 },
-    RefusalWrote,
+    NotItsRow { store: &'static str, call: &'static str, refusal: u32 },
+    ReadOrRefusalWrote,
     EntryTakenInHistory,
 }
 
 impl fmt::Display for Mismatch {
     fn fmt(&self, f: &mut fmt::Formatter<'_>) -> fmt::Result {
         match self {
-            Mismatch::Answer { expected, got } => write!(f, "answer: expected {}, got {}", show_answer(expected), show_answer(got)),
+            Mismatch::Answer { expected, got } => write!(f, "answer: expected {expected}; got {got}"),
             Mismatch::Image { at, expected, got } => write!(f, "image byte {at}: expected {expected:#04x}, got {got:#04x}"),
             Mismatch::Table { at, expected, got } => write!(f, "table entry {at}: expected {expected:#x}, got {got:#x}"),
-            Mismatch::RefusalWrote => write!(f, "the expected store wrote something although it refused"),
+            Mismatch::NotItsRow { store, call, refusal } => write!(f, "the {store} store answered {refusal}, which is no row of {call}"),
+            Mismatch::ReadOrRefusalWrote => write!(f, "the expected store wrote something although it refused, or only reads"),
             Mismatch::EntryTakenInHistory => write!(f, "the expected store answered 9 on a history begun by set-up"),
         }
     }
 }
 
-fn show_answer(answer: &Answer) -> String {
-    let [a, b, c] = answer.values;
-    match (answer.refusal, b, c) {
-        (0, 0, 0) if a == 0 => "accepted".to_string(),
-        (0, 0, 0) => format!("accepted, {a:#018x}"),
-        (0, ..) => format!("accepted, {a}, {b}, {c}"),
-        (n, ..) if answer.values == [0; 3] => format!("refusal {n}"),
-        (n, ..) => format!("refusal {n} with values {a:#x}, {b:#x}, {c:#x}"),
-    }
+/// The slot exponent of the last accepted set-up, and the pointers that steps gave.
+pub struct Answers {
+    slot_exponent: u32,
+    pointers: HashMap<u32, u64>,
 }
 
-/// How often each refusal, and each call, occurred.
-#[derive(Clone, Debug, Default)]
-pub struct Counts {
-    pub calls: u64,
-    /// By refusal number; 0 is accepted.
-    pub rows: [u64; 17],
-    /// By call and refusal number.
-    pub by_call: [[u64; 17]; 9],
-    pub cases: u64,
-    /// Cases with an image of 64 KiB and more.
-    pub large_images: u64,
-    pub largest_image: usize,
-    /// Cases by slot exponent.
-    pub slot_exponents: [u64; 16],
-    /// Accepted accesses and frees by small- and large-framed pointers.
-    pub framed: [u64; 2],
-}
-
-impl Counts {
-    fn add(&mut self, call: &Call<u64>, refusal: u32) {
-        self.calls += 1;
-        self.rows[refusal.min(16) as usize] += 1;
-        self.by_call[call.kind()][refusal.min(16) as usize] += 1;
-        match *call {
-            Call::Load { pointer, .. } | Call::Store { pointer, .. } | Call::Free { pointer } | Call::Fill { pointer, .. } if refusal == 0 => {
-                self.framed[usize::from(pointer >> 63 == 0)] += 1;
+impl Answers {
+    pub fn resolve(&self, arg: Arg) -> u64 {
+        let answer = |step| self.pointers.get(&step).copied().unwrap_or(0);
+        match arg {
+            Arg::Number(number) => number,
+            Arg::Answer { step, add, flip } => {
+                let p = Pointer::unpack(answer(step));
+                Pointer { address: p.address.wrapping_add(add as u64) & 0xffff_ffff_ffff, ..p }.pack() ^ flip
             }
-            _ => {}
+            Arg::Header { step, offset, size } => {
+                let h = Pointer::unpack(answer(step)).address + offset;
+                Pointer::to(self.slot_exponent, h, u64::from(size)).pack()
+            }
         }
     }
+}
+
+/// What the next step may depend on: the image that calls get, as the expected store left it, and its answers.
+pub struct View<'a> {
+    pub image: &'a [u8],
+    pub answers: &'a Answers,
 }
 
 struct Side<'a, S> {
@@ -157,8 +146,7 @@ pub struct Run<'a, A, B> {
     lent_image: usize,
     lent_table: usize,
     history: bool,
-    slot_exponent: u32,
-    answers: HashMap<u32, u64>,
+    answers: Answers,
 }
 
 impl<'a, A: Store, B: Store> Run<'a, A, B> {
@@ -176,34 +164,16 @@ impl<'a, A: Store, B: Store> Run<'a, A, B> {
             lent_image: buffers.lent_image,
             lent_table: buffers.lent_table,
             history: buffers.history,
-            slot_exponent: 6,
-            answers: HashMap::new(),
+            answers: Answers { slot_exponent: 6, pointers: HashMap::new() },
         }
     }
 
-    /// The image that calls get, as the expected store left it.
-    pub fn image(&self) -> &[u8] {
-        &self.expected.image[..self.lent_image]
-    }
-
-    /// The slot exponent of the last set-up that was accepted.
-    pub fn slot_exponent(&self) -> u32 {
-        self.slot_exponent
+    pub fn view(&self) -> View<'_> {
+        View { image: &self.expected.image[..self.lent_image], answers: &self.answers }
     }
 
     pub fn resolve(&self, arg: Arg) -> u64 {
-        let answer = |step| self.answers.get(&step).copied().unwrap_or(0);
-        match arg {
-            Arg::Number(number) => number,
-            Arg::Answer { step, add, flip } => {
-                let p = Pointer::unpack(answer(step));
-                Pointer { address: p.address.wrapping_add(add as u64) & 0xffff_ffff_ffff, ..p }.pack() ^ flip
-            }
-            Arg::Header { step, offset, size } => {
-                let h = Pointer::unpack(answer(step)).address + offset;
-                Pointer::to(self.slot_exponent, h, u64::from(size)).pack()
-            }
-        }
+        self.answers.resolve(arg)
     }
 
     /// Takes one step on both sides; `Ok` has the answer where the step is a call.
@@ -236,7 +206,7 @@ impl<'a, A: Store, B: Store> Run<'a, A, B> {
             Damage::Entry { index, value } => self.set_entry(index, value),
             Damage::EntryOf { of, value } => {
                 let p = Pointer::unpack(self.resolve(of));
-                let s = self.slot_exponent;
+                let s = self.answers.slot_exponent;
                 if !p.small && u64::from(s) < p.tag && p.tag <= 31 {
                     self.set_entry(model::entry(s, p.tag as u32, p.address), value.unwrap_or(p.address.wrapping_sub(16)));
                 }
@@ -257,6 +227,12 @@ impl<'a, A: Store, B: Store> Run<'a, A, B> {
         let (e, t) = (&mut self.expected, &mut self.tested);
         let expected = e.store.call(&mut e.image[..n], &mut e.table[..m], call);
         let got = t.store.call(&mut t.image[..n], &mut t.table[..m], call);
+        let kind = call.kind();
+        for (store, Answer { refusal, .. }) in [("expected", expected), ("tested", got)] {
+            if refusal != 0 && !kind.rows.contains(&refusal) {
+                return Err(Mismatch::NotItsRow { store, call: kind.name, refusal });
+            }
+        }
         counts.add(&call, expected.refusal);
         if expected != got {
             return Err(Mismatch::Answer { expected, got });
@@ -270,22 +246,21 @@ impl<'a, A: Store, B: Store> Run<'a, A, B> {
             let at = (0..e.table.len()).find(|&i| e.table[i] != t.table[i]).unwrap();
             return Err(Mismatch::Table { at, expected: e.table[at], got: t.table[at] });
         }
-        let reads_only = matches!(call, Call::Move { .. } | Call::Load { .. } | Call::Tally);
-        if expected.accepted() && !reads_only {
+        if expected.accepted() && kind.access == Access::Writes {
             self.before.0.copy_from_slice(&e.image);
             self.before.1.copy_from_slice(&e.table);
         } else if self.before.0 != e.image || self.before.1 != e.table {
-            return Err(Mismatch::RefusalWrote);
+            return Err(Mismatch::ReadOrRefusalWrote);
         }
         if self.history && expected.refusal == 9 {
             return Err(Mismatch::EntryTakenInHistory);
         }
         if expected.accepted() {
             if let Call::SetUp { slot_exponent } = call {
-                self.slot_exponent = slot_exponent;
+                self.answers.slot_exponent = slot_exponent;
             }
             if matches!(call, Call::Allocate { .. } | Call::Move { .. }) {
-                self.answers.insert(number, expected.values[0]);
+                self.answers.pointers.insert(number, expected.values[0]);
             }
         }
         Ok(expected)
@@ -320,7 +295,7 @@ impl Case {
             };
             let result = match run.step(step, &mut counts) {
                 Ok(None) => String::new(),
-                Ok(Some(answer)) => format!(" -> {}", show_answer(&answer)),
+                Ok(Some(answer)) => format!(" -> {answer}"),
                 Err(mismatch) => format!(" -> MISMATCH, {mismatch}"),
             };
             text += &format!("  {:>4}  {shown}{result}\n", step.number);

@@ -1,9 +1,10 @@
 //! Many random cases, until enough calls were made or one fails.
 
-use crate::case::{Action, Case, Counts, Run};
+use crate::case::{Action, Case, Run};
+use crate::counts::Counts;
 use crate::generate::Generator;
 use crate::shrink::shrink;
-use crate::store::{Store, NAMES};
+use crate::store::Store;
 use std::fmt;
 use std::sync::atomic::{AtomicU64, Ordering};
 
@@ -20,7 +21,7 @@ pub struct Failure {
 
 impl fmt::Display for Failure {
     fn fmt(&self, f: &mut fmt::Formatter<'_>) -> fmt::Result {
-        writeln!(f, "failed after {} calls; again by: --seed {} --calls 1", self.calls_before, self.seed)?;
+        writeln!(f, "failed after {} calls; again by: cargo run --release --bin compare -- --seed {} --calls 1", self.calls_before, self.seed)?;
         write!(f, "shortest list found, {} steps: {}", self.case.steps.len(), self.text)
     }
 }
@@ -46,7 +47,7 @@ fn one(expected: &impl Store, tested: &impl Store, seed: u64, counts: &mut Count
     counts.largest_image = counts.largest_image.max(length);
     counts.slot_exponents[generator.slot_exponent() as usize] += 1;
     let mut run = Run::new(expected, tested, &case.buffers);
-    while let Some(step) = generator.next(&run) {
+    while let Some(step) = generator.next(&run.view()) {
         case.steps.push(step);
         let numbers = match step.action {
             Action::Call(call) => Some(call.map(|arg| run.resolve(arg))),
@@ -66,29 +67,4 @@ fn one(expected: &impl Store, tested: &impl Store, seed: u64, counts: &mut Count
         }
     }
     Ok(())
-}
-
-/// The rows of the refusal table that never occurred.
-pub fn missing(counts: &Counts) -> Vec<usize> {
-    (1..=16).filter(|&row| counts.rows[row] == 0).collect()
-}
-
-/// The counts as a table: a row for each answer, a column for each call.
-pub fn table(counts: &Counts) -> String {
-    let mut text = format!("{:>8}", "answer");
-    for name in NAMES {
-        text += &format!("{name:>10}");
-    }
-    text += &format!("{:>11}\n", "all");
-    for row in 0..17 {
-        text += &if row == 0 { format!("{:>8}", "accepted") } else { format!("{row:>8}") };
-        for kind in &counts.by_call {
-            text += &if kind[row] == 0 { format!("{:>10}", ".") } else { format!("{:>10}", kind[row]) };
-        }
-        text += &format!("{:>11}\n", counts.rows[row]);
-    }
-    text += &format!("{} calls in {} cases, ", counts.calls, counts.cases);
-    text += &format!("{} of them with images of 64 KiB up to {} bytes\n", counts.large_images, counts.largest_image);
-    text += &format!("cases by slot exponent 6..15: {:?}\n", &counts.slot_exponents[6..]);
-    text + &format!("accepted through small- and large-framed pointers (load, store, free, fill): {:?}\n", counts.framed)
 }

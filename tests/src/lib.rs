@@ -1,10 +1,11 @@
 //! The object store's library against a model of document 01, call by call.
 //!
 //! `model` is document 01; `store` the trait that model and library share; `case` a list of calls and damages, and
-//! how it is run on two stores at once; `generate` makes random lists; `shrink` shortens one that fails; `driver`
-//! puts them together.
+//! how it is run on two stores at once; `generate` makes random lists; `counts` says what occurred in them; `shrink`
+//! shortens one that fails; `driver` puts them together.
 
 pub mod case;
+pub mod counts;
 pub mod driver;
 pub mod generate;
 pub mod library;

@@ -44,26 +44,26 @@ impl Store for Exports {
         // SAFETY: both slices are valid and borrowed mutably for the call; the values are locals.
         unsafe {
             match call {
-                Call::SetUp { slot_exponent } => Answer { refusal: ffi::cue_setup(bytes, n, entries, m, slot_exponent), values: [0; 3] },
+                Call::SetUp { slot_exponent } => Answer::new(ffi::cue_setup(bytes, n, entries, m, slot_exponent), []),
                 Call::Allocate { size, type_number } => {
                     let refusal = ffi::cue_allocate(bytes, n, entries, m, size, type_number, &mut v);
-                    Answer { refusal, values: [v, 0, 0] }
+                    Answer::new(refusal, [v])
                 }
                 Call::Move { pointer, distance } => {
                     let refusal = ffi::cue_move(bytes, n, entries, m, pointer, distance, &mut v);
-                    Answer { refusal, values: [v, 0, 0] }
+                    Answer::new(refusal, [v])
                 }
                 Call::Load { pointer, width } => {
                     let refusal = ffi::cue_load(bytes, n, entries, m, pointer, width, &mut v);
-                    Answer { refusal, values: [v, 0, 0] }
+                    Answer::new(refusal, [v])
                 }
-                Call::Store { pointer, width, value } => Answer { refusal: ffi::cue_store(bytes, n, entries, m, pointer, width, value), values: [0; 3] },
-                Call::Free { pointer } => Answer { refusal: ffi::cue_free(bytes, n, entries, m, pointer), values: [0; 3] },
-                Call::Fill { pointer, length, value } => Answer { refusal: ffi::cue_fill(bytes, n, entries, m, pointer, length, value), values: [0; 3] },
-                Call::Copy { target, source, length } => Answer { refusal: ffi::cue_copy(bytes, n, entries, m, target, source, length), values: [0; 3] },
+                Call::Store { pointer, width, value } => Answer::new(ffi::cue_store(bytes, n, entries, m, pointer, width, value), []),
+                Call::Free { pointer } => Answer::new(ffi::cue_free(bytes, n, entries, m, pointer), []),
+                Call::Fill { pointer, length, value } => Answer::new(ffi::cue_fill(bytes, n, entries, m, pointer, length, value), []),
+                Call::Copy { target, source, length } => Answer::new(ffi::cue_copy(bytes, n, entries, m, target, source, length), []),
                 Call::Tally => {
                     let refusal = ffi::cue_tally(bytes, n, entries, m, &mut v, &mut w, &mut x);
-                    Answer { refusal, values: [v, w, x] }
+                    Answer::new(refusal, [v, w, x])
                 }
             }
         }

@@ -1,6 +1,13 @@
 //! splitmix64.
 
+use std::hash::{BuildHasher, RandomState};
+
 pub struct Random(u64);
+
+/// Another one each time, from the system.
+pub fn fresh_seed() -> u64 {
+    RandomState::new().hash_one(0)
+}
 
 impl Random {
     pub fn new(seed: u64) -> Random {
@@ -31,6 +38,18 @@ impl Random {
 
     pub fn pick<T: Copy>(&mut self, from: &[T]) -> T {
         from[self.below(from.len() as u64) as usize]
+    }
+
+    /// One of the rows, each as often as its weight says.
+    pub fn weighted<T: Copy>(&mut self, rows: &[(u64, T)]) -> T {
+        let mut at = self.below(rows.iter().map(|row| row.0).sum());
+        for &(weight, thing) in rows {
+            if at < weight {
+                return thing;
+            }
+            at -= weight;
+        }
+        unreachable!("all weights are 0")
     }
 
     /// Any number, small ones and those near the ends of 64 bits as likely as the rest.

@@ -1,97 +1,134 @@
 //! The calls as data, and what answers them.
 
 use crate::model;
+use cueledger::Refusal;
 use std::fmt;
 
-/// One of document 01's nine calls. `P` is how a pointer is given: a number, or where to take it from.
+/// The rows of the refusal table are 1 to this.
+pub const ROWS: usize = Refusal::ALL.len();
+
+/// The most values that a call answers: tally's.
+pub const VALUES: usize = 3;
+
 #[derive(Clone, Copy, Debug, PartialEq, Eq)]
-pub enum Call<P> {
-    SetUp { slot_exponent: u32 },
-    Allocate { size: u32, type_number: u16 },
-    Move { pointer: P, distance: i64 },
-    Load { pointer: P, width: u64 },
-    Store { pointer: P, width: u64, value: u64 },
-    Free { pointer: P },
-    Fill { pointer: P, length: u32, value: u8 },
-    Copy { target: P, source: P, length: u32 },
-    Tally,
+pub enum Access {
+    Reads,
+    Writes,
+}
+
+/// What document 01 says of a call.
+#[derive(Debug)]
+pub struct Kind {
+    pub name: &'static str,
+    pub access: Access,
+    /// Its refusals, in the order in which they are tested.
+    pub rows: &'static [u32],
+}
+
+macro_rules! calls {
+    ($($call:ident $name:literal $access:ident [$($row:literal)*] $({ $($pointer:ident)*; $($field:ident: $type:ty),* })?)*) => {
+        /// One of document 01's calls. `P` is how a pointer is given: a number, or where to take it from.
+        #[derive(Clone, Copy, Debug, PartialEq, Eq)]
+        pub enum Call<P> {
+            $($call $({ $($pointer: P,)* $($field: $type,)* })?,)*
+        }
+
+        pub const KINDS: &[Kind] = &[$(Kind { name: $name, access: Access::$access, rows: &[$($row),*] }),*];
+
+        impl<P: Copy> Call<P> {
+            /// The same call with each pointer replaced.
+            pub fn map<Q>(self, mut f: impl FnMut(P) -> Q) -> Call<Q> {
+                match self {
+                    $(Call::$call $({ $($pointer,)* $($field,)* })? => Call::$call $({ $($pointer: f($pointer),)* $($field,)* })?,)*
+                }
+            }
+
+            /// The place of its kind in `KINDS`.
+            pub fn place(&self) -> usize {
+                enum Place {
+                    $($call,)*
+                }
+                match self {
+                    $(Call::$call { .. } => Place::$call as usize,)*
+                }
+            }
+        }
+
+        impl fmt::Display for Call<u64> {
+            fn fmt(&self, f: &mut fmt::Formatter<'_>) -> fmt::Result {
+                write!(f, "{}", self.kind().name)?;
+                match *self {
+                    $(Call::$call $({ $($pointer,)* $($field,)* })? => {
+                        $($(write!(f, ", {} {:#018x}", stringify!($pointer), $pointer)?;)*)?
+                        $($(write!(f, ", {} {}", stringify!($field), $field)?;)*)?
+                    })*
+                }
+                Ok(())
+            }
+        }
+    };
+}
+
+// name, what it does to image and table, its refusals, and its arguments: pointers; others
+calls! {
+    SetUp "set-up" Writes [1 2 3] { ; slot_exponent: u32 }
+    Allocate "allocate" Writes [4 5 6 7 8 9] { ; size: u32, type_number: u16 }
+    Move "move" Reads [4 5 10 12] { pointer; distance: i64 }
+    Load "load" Reads [4 5 14 10 11 13] { pointer; width: u64 }
+    Store "store" Writes [4 5 14 16 10 11 13] { pointer; width: u64, value: u64 }
+    Free "free" Writes [4 5 10 11 15 7] { pointer; }
+    Fill "fill" Writes [4 5 6 10 11 13] { pointer; length: u32, value: u8 }
+    Copy "copy" Writes [4 5 6 10 11 13] { target source; length: u32 }
+    Tally "tally" Reads [4 5 7]
 }
 
 impl<P: Copy> Call<P> {
-    /// The same call with each pointer replaced.
-    pub fn map<Q>(self, mut f: impl FnMut(P) -> Q) -> Call<Q> {
-        match self {
-            Call::SetUp { slot_exponent } => Call::SetUp { slot_exponent },
-            Call::Allocate { size, type_number } => Call::Allocate { size, type_number },
-            Call::Move { pointer, distance } => Call::Move { pointer: f(pointer), distance },
-            Call::Load { pointer, width } => Call::Load { pointer: f(pointer), width },
-            Call::Store { pointer, width, value } => Call::Store { pointer: f(pointer), width, value },
-            Call::Free { pointer } => Call::Free { pointer: f(pointer) },
-            Call::Fill { pointer, length, value } => Call::Fill { pointer: f(pointer), length, value },
-            Call::Copy { target, source, length } => Call::Copy { target: f(target), source: f(source), length },
-            Call::Tally => Call::Tally,
-        }
-    }
-
-    /// Its place in `NAMES`.
-    pub fn kind(&self) -> usize {
-        match self {
-            Call::SetUp { .. } => 0,
-            Call::Allocate { .. } => 1,
-            Call::Move { .. } => 2,
-            Call::Load { .. } => 3,
-            Call::Store { .. } => 4,
-            Call::Free { .. } => 5,
-            Call::Fill { .. } => 6,
-            Call::Copy { .. } => 7,
-            Call::Tally => 8,
-        }
+    pub fn kind(&self) -> &'static Kind {
+        &KINDS[self.place()]
     }
 }
 
-impl fmt::Display for Call<u64> {
-    fn fmt(&self, f: &mut fmt::Formatter<'_>) -> fmt::Result {
-        write!(f, "{} ", NAMES[self.kind()])?;
-        match *self {
-            Call::SetUp { slot_exponent } => write!(f, "s {slot_exponent}"),
-            Call::Allocate { size, type_number } => write!(f, "size {size}, type {type_number}"),
-            Call::Move { pointer, distance } => write!(f, "{pointer:#018x} by {distance}"),
-            Call::Load { pointer, width } => write!(f, "{pointer:#018x}, width {width}"),
-            Call::Store { pointer, width, value } => write!(f, "{pointer:#018x}, width {width}, value {value:#x}"),
-            Call::Free { pointer } => write!(f, "{pointer:#018x}"),
-            Call::Fill { pointer, length, value } => write!(f, "{pointer:#018x}, length {length}, value {value:#04x}"),
-            Call::Copy { target, source, length } => write!(f, "to {target:#018x} from {source:#018x}, length {length}"),
-            Call::Tally => Ok(()),
-        }
-    }
-}
-
-pub const NAMES: [&str; 9] = ["set-up", "allocate", "move", "load", "store", "free", "fill", "copy", "tally"];
-
-/// What a call answers: the refusal's number, 0 where it is accepted, and its values. Only tally has three.
+/// What a call answers: the refusal's number, 0 where it is accepted, and its values, 0 where it has none.
 #[derive(Clone, Copy, Debug, PartialEq, Eq)]
 pub struct Answer {
     pub refusal: u32,
-    pub values: [u64; 3],
+    pub values: [u64; VALUES],
 }
 
 impl Answer {
+    pub fn new<const N: usize>(refusal: u32, given: [u64; N]) -> Answer {
+        let mut values = [0; VALUES];
+        values[..N].copy_from_slice(&given);
+        Answer { refusal, values }
+    }
+
     pub fn accepted(self) -> bool {
         self.refusal == 0
     }
 }
 
-impl From<Result<u64, u32>> for Answer {
-    fn from(result: Result<u64, u32>) -> Answer {
-        result.map(|value| [value, 0, 0]).into()
+impl fmt::Display for Answer {
+    fn fmt(&self, f: &mut fmt::Formatter<'_>) -> fmt::Result {
+        match self.refusal {
+            0 => write!(f, "accepted")?,
+            number => write!(f, "refusal {number}")?,
+        }
+        let given = VALUES - self.values.iter().rev().take_while(|&&value| value == 0).count();
+        self.values[..given].iter().try_for_each(|value| write!(f, ", {value:#018x}"))
     }
 }
 
-impl From<Result<[u64; 3], u32>> for Answer {
-    fn from(result: Result<[u64; 3], u32>) -> Answer {
+impl From<Result<u64, u32>> for Answer {
+    fn from(result: Result<u64, u32>) -> Answer {
+        result.map(|value| [value]).into()
+    }
+}
+
+impl<const N: usize> From<Result<[u64; N], u32>> for Answer {
+    fn from(result: Result<[u64; N], u32>) -> Answer {
         match result {
-            Ok(values) => Answer { refusal: 0, values },
-            Err(refusal) => Answer { refusal, values: [0; 3] },
+            Ok(values) => Answer::new(0, values),
+            Err(refusal) => Answer::new(refusal, []),
         }
     }
 }
@@ -117,6 +154,21 @@ impl Store for Model {
             Call::Fill { pointer, length, value } => model::fill(image, table, pointer, length, value).into(),
             Call::Copy { target, source, length } => model::copy(image, table, target, source, length).into(),
             Call::Tally => model::tally(image, table).into(),
+        }
+    }
+}
+
+#[cfg(test)]
+mod tests {
+    use super::{KINDS, ROWS};
+
+    #[test]
+    fn every_row_is_some_calls() {
+        for row in 1..=ROWS as u32 {
+            assert!(KINDS.iter().any(|kind| kind.rows.contains(&row)), "{row}");
+        }
+        for kind in KINDS {
+            assert!(kind.rows.iter().all(|&row| 1 <= row && row <= ROWS as u32), "{}", kind.name);
         }
     }
 }

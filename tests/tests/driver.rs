@@ -1,9 +1,9 @@
 //! The driver itself: it passes the model, and finds and shortens each of these faults.
 
 use cueledger_tests::case::Mismatch;
-use cueledger_tests::driver::{compare, missing, Failure};
+use cueledger_tests::driver::{compare, Failure};
 use cueledger_tests::model::{self, Pointer};
-use cueledger_tests::store::{Answer, Call, Model, Store};
+use cueledger_tests::store::{Answer, Call, Model, Store, ROWS};
 
 type Behaviour = fn(&mut [u8], &mut [u64], Call<u64>) -> Answer;
 
@@ -44,10 +44,15 @@ fn find(fault: Behaviour) -> Box<Failure> {
     failure
 }
 
+/// The same fault on both sides: only the driver's own checks can find it.
+fn both(fault: Behaviour) -> Box<Failure> {
+    compare(&Faulty(fault), &Faulty(fault), 100_000, 1).expect_err("the fault was not found")
+}
+
 #[test]
 fn model_against_itself() {
     let counts = compare(&Model, &Model, 200_000, 7).unwrap_or_else(|failure| panic!("{failure}"));
-    assert_eq!(missing(&counts), [0; 0]);
+    assert!(counts.missing().is_empty(), "{:?}", counts.missing());
     assert!(counts.by_call.iter().all(|answers| answers[0] > 0), "each call was accepted at times");
 }
 
@@ -190,7 +195,7 @@ fn entry_near_the_end_of_64_bits() {
 #[test]
 fn value_beside_a_refusal() {
     find(|image, table, call| match (call, right(image, table, call)) {
-        (Call::Move { pointer, .. }, Answer { refusal: 12, .. }) => Answer { refusal: 12, values: [pointer, 0, 0] },
+        (Call::Move { pointer, .. }, Answer { refusal: 12, .. }) => Answer::new(12, [pointer]),
         (_, answer) => answer,
     });
 }
@@ -212,16 +217,84 @@ fn copy_byte_by_byte_upwards() {
 }
 
 #[test]
+fn open_that_trusts_the_superblock() {
+    // shows only where the superblock was damaged
+    find(|image, table, call| match (call, right(image, table, call)) {
+        (Call::Move { pointer, .. }, Answer { refusal: 4, .. }) => Answer::new(0, [pointer]),
+        (_, answer) => answer,
+    });
+}
+
+#[test]
+fn walk_that_trusts_headers() {
+    // shows only where a header was damaged
+    find(|image, table, call| match (call, right(image, table, call)) {
+        (Call::Tally, Answer { refusal: 7, .. }) => Answer::new(0, [0, 0, image.len() as u64 - 16]),
+        (_, answer) => answer,
+    });
+}
+
+#[test]
+fn allocate_that_overwrites_an_entry() {
+    // shows only where an entry was damaged
+    find(|image, table, call| match (call, right(image, table, call)) {
+        (Call::Allocate { .. }, Answer { refusal: 9, .. }) => {
+            table.fill(0);
+            right(image, table, call)
+        }
+        (_, answer) => answer,
+    });
+}
+
+#[test]
+fn number_that_is_no_row() {
+    let beyond: Behaviour = |image, table, call| match right(image, table, call) {
+        Answer { refusal: 16, .. } => Answer::new(ROWS as u32 + 1, []),
+        answer => answer,
+    };
+    assert!(find(beyond).text.contains(&format!("the tested store answered {}, which is no row of store", ROWS + 1)));
+    assert!(both(beyond).text.contains(&format!("the expected store answered {}, which is no row of store", ROWS + 1)));
+}
+
+#[test]
+fn row_of_another_call() {
+    let of_free: Behaviour = |image, table, call| match (call, right(image, table, call)) {
+        (Call::Load { .. }, Answer { refusal: 11, .. }) => Answer::new(15, []),
+        (_, answer) => answer,
+    };
+    assert!(both(of_free).text.contains("the expected store answered 15, which is no row of load"));
+}
+
+#[test]
+fn row_that_never_occurs() {
+    let never_9: Behaviour = |image, table, call| match right(image, table, call) {
+        Answer { refusal: 9, .. } => Answer::new(8, []),
+        answer => answer,
+    };
+    let counts = compare(&Faulty(never_9), &Faulty(never_9), 200_000, 1).unwrap_or_else(|failure| panic!("{failure}"));
+    assert_eq!(counts.missing(), [("allocate", 9)]);
+}
+
+#[test]
 fn expected_store_that_writes_on_refusal() {
-    // both sides the same: only the driver's own check can find it
-    let fault: Behaviour = |image, table, call| {
+    let failure = both(|image, table, call| {
         let answer = right(image, table, call);
         if answer.refusal == 16 {
             image[20] ^= 1;
         }
         answer
-    };
-    let failure = compare(&Faulty(fault), &Faulty(fault), 100_000, 1).expect_err("the fault was not found");
-    let (_, mismatch) = failure.case.run(&Faulty(fault), &Faulty(fault)).unwrap_err();
-    assert!(matches!(mismatch, Mismatch::RefusalWrote));
+    });
+    assert!(failure.text.contains(&Mismatch::ReadOrRefusalWrote.to_string()), "{failure}");
+}
+
+#[test]
+fn expected_store_that_writes_on_load() {
+    let failure = both(|image, table, call| {
+        let answer = right(image, table, call);
+        if let (Call::Load { .. }, 0) = (call, answer.refusal) {
+            *table.last_mut().unwrap() ^= 1;
+        }
+        answer
+    });
+    assert!(failure.text.contains(&Mismatch::ReadOrRefusalWrote.to_string()), "{failure}");
 }

@@ -1,24 +1,45 @@
-//! The library against the model: a million random calls.
+//! The library against the model, with a fixed seed and with a fresh one.
 
-use cueledger_tests::driver::{compare, missing, table};
+use cueledger_tests::counts::Counts;
+use cueledger_tests::driver::compare;
 use cueledger_tests::library::{Exports, Library};
-use cueledger_tests::store::Model;
+use cueledger_tests::random::fresh_seed;
+use cueledger_tests::store::{Model, Store};
 use std::io::Write;
 
 const SEED: u64 = 1;
 
+/// Not by println, which the test harness keeps back.
+fn print(text: &str) {
+    writeln!(std::io::stdout(), "\n{text}").unwrap();
+}
+
+fn agrees(name: &str, library: &impl Store, calls: u64, seed: u64) -> Counts {
+    print(&format!("{name}: seed {seed}"));
+    let counts = compare(&Model, library, calls, seed).unwrap_or_else(|failure| panic!("{failure}"));
+    assert!(counts.missing().is_empty(), "rows that never occurred: {:?}", counts.missing());
+    counts
+}
+
 #[test]
-fn exports_do_what_the_model_does() {
-    let counts = compare(&Model, &Exports, 1_000_000, SEED).unwrap_or_else(|failure| panic!("{failure}"));
-    // not by println, which the test harness keeps back
-    writeln!(std::io::stdout(), "\nseed {SEED}\n{}", table(&counts)).unwrap();
-    assert_eq!(missing(&counts), [0; 0], "rows of the refusal table that never occurred");
+fn exports() {
+    let counts = agrees("exports", &Exports, 1_000_000, SEED);
+    print(&counts.to_string());
     assert!(counts.slot_exponents[6..].iter().all(|&cases| cases > 0));
     assert!(counts.largest_image > 1 << 20);
 }
 
 #[test]
-fn wrapper_does_what_the_model_does() {
-    let counts = compare(&Model, &Library, 200_000, SEED + 1_000_000).unwrap_or_else(|failure| panic!("{failure}"));
-    assert_eq!(missing(&counts), [0; 0], "rows of the refusal table that never occurred");
+fn exports_with_a_fresh_seed() {
+    agrees("exports, fresh", &Exports, 1_000_000, fresh_seed());
+}
+
+#[test]
+fn wrapper() {
+    agrees("wrapper", &Library, 200_000, SEED + 1_000_000);
+}
+
+#[test]
+fn wrapper_with_a_fresh_seed() {
+    agrees("wrapper, fresh", &Library, 200_000, fresh_seed());
 }

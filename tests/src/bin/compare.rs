@@ -1,7 +1,8 @@
-//! The long run: `compare [--calls N] [--seed S]`. Exit status 1 where library and model differ or a row is missing.
+//! The long run: `compare [--calls N] [--seed S]`, with a fresh seed where none is given. Exit status 1 where library and model differ or a row is missing.
 
-use cueledger_tests::driver::{compare, missing, table, RUNNING};
+use cueledger_tests::driver::{compare, RUNNING};
 use cueledger_tests::library::{Exports, Library};
+use cueledger_tests::random::fresh_seed;
 use cueledger_tests::store::Model;
 use std::process::exit;
 use std::sync::atomic::Ordering;
@@ -47,7 +48,7 @@ fn name_the_case_when_stopped() {
 
 fn main() {
     name_the_case_when_stopped();
-    let (mut calls, mut seed) = (1_000_000u64, 1u64);
+    let (mut calls, mut seed) = (1_000_000u64, fresh_seed());
     let mut args = std::env::args().skip(1);
     while let Some(arg) = args.next() {
         let number = args.next().and_then(|number| number.parse().ok());
@@ -70,9 +71,9 @@ fn main() {
             exit(1);
         }
         Ok(counts) => {
-            print!("{}", table(&counts));
+            println!("{counts}");
             println!("{:.1} s", begun.elapsed().as_secs_f64());
-            let missing = missing(&counts);
+            let missing = counts.missing();
             if calls >= 100_000 && !missing.is_empty() {
                 println!("never occurred: {missing:?}");
                 exit(1);

@@ -1,0 +1,99 @@
+//! What the number of blocks costs: the walks of allocate, free and tally; load and store, which do not walk.
+
+use crate::accesses::{each, is_small, FRAMES, PASSES};
+use crate::both;
+use crate::contestants::{Calls, Lent, Library, Model};
+use crate::measure::{heading, sink, time, Bench, Other};
+use cueledger_tests::model::Header;
+
+/// An image of live blocks, then a free one.
+#[derive(Clone, Copy)]
+struct Layout {
+    blocks: usize,
+    extent: usize,
+    free: usize,
+    slot_exponent: u32,
+}
+
+impl Layout {
+    fn lent(self) -> Lent {
+        let end = 16 + self.extent * self.blocks;
+        let mut lent = Lent::new(end + self.free, self.slot_exponent);
+        // as allocate would leave them, without its walk for each; table entries are left out, no walk reads them
+        for block in lent.image[16..end].chunks_exact_mut(self.extent) {
+            block[..16].copy_from_slice(&Header::live(self.extent as u64, 1, self.extent as u32 - 16).bytes());
+        }
+        lent.image[end..end + 16].copy_from_slice(&Header::free(self.free as u64).bytes());
+        lent
+    }
+}
+
+/// The library's load and store in the same few objects, behind few blocks and behind many.
+pub fn independence(bench: &mut Bench) {
+    println!("\n{:<40}{:>11}{:>11}{:>8}", "behind a number of blocks, a call", "100,000 ns", "10 ns", "ratio");
+    for (frame, slot_exponent, small) in FRAMES {
+        let mut images = [100_000, 10].map(|blocks| {
+            let mut lent = Layout { blocks, extent: 32, free: 4096, slot_exponent }.lent();
+            let objects: Vec<u64> = (0..40).map(|_| lent.allocate(40)).filter(|&pointer| is_small(pointer) == small).take(8).collect();
+            let pointers: Vec<u64> = (0..1024).map(|i| objects[i % objects.len()] + 8 * (i as u64 / 8 % 5)).collect();
+            (lent, pointers)
+        });
+        let load = |(lent, pointers): &mut (Lent, Vec<u64>)| each(pointers, |p| sink(Library::load(lent, p, 8).unwrap()));
+        let store = |(lent, pointers): &mut (Lent, Vec<u64>)| each(pointers, |p| sink(Library::store(lent, p, 8, 0x5a).unwrap()));
+        let [load_many, load_few, store_many, store_few] = bench
+            .best(&mut images, [&mut |l| load(&mut l[0]), &mut |l| load(&mut l[1]), &mut |l| store(&mut l[0]), &mut |l| store(&mut l[1])])
+            .map(|ns| ns / (PASSES * 1024) as f64);
+        bench.many_and_few(&format!("load 8, {frame}, behind blocks"), load_many, load_few);
+        bench.many_and_few(&format!("store 8, {frame}, behind blocks"), store_many, store_few);
+    }
+}
+
+/// Allocate and free of an object of 32 bytes behind the last block, in each image; times are divided by `units`.
+fn allocate_and_free(bench: &mut Bench, name: &str, layout: Layout, images: usize, units: usize) {
+    let mut lents: Vec<Lent> = (0..images).map(|_| layout.lent()).collect();
+    let units = units * images;
+    // it has the same pointer in every image
+    let last = lents.iter_mut().map(|lent| lent.allocate(32)).last().unwrap();
+    let give = |lents: &mut Vec<Lent>| lents.iter_mut().for_each(|lent| sink(Model::free(lent, last).unwrap()));
+    let take = |lents: &mut Vec<Lent>| lents.iter_mut().for_each(|lent| sink(lent.allocate(32)));
+    // not timed: the object is freed before each round of allocate, and allocated again after each of free
+    let allocates = both!(|C, lents: Vec<Lent>| {
+        give(lents);
+        time(|| lents.iter_mut().for_each(|lent| sink(C::allocate(lent, 32).unwrap())))
+    });
+    bench.line(&format!("allocate, {name}"), units, &mut lents, allocates, Other::None);
+    let frees = both!(|C, lents: Vec<Lent>| {
+        let ns = time(|| lents.iter_mut().for_each(|lent| sink(C::free(lent, last).unwrap())));
+        take(lents);
+        ns
+    });
+    bench.line(&format!("free, {name}"), units, &mut lents, frees, Other::None);
+}
+
+fn tally(bench: &mut Bench, name: &str, layout: Layout, images: usize, units: usize) {
+    let mut lents: Vec<Lent> = (0..images).map(|_| layout.lent()).collect();
+    let tallies = both!(|C, lents: Vec<Lent>| time(|| lents.iter().for_each(|lent| sink(C::tally(lent).unwrap()))));
+    bench.line(&format!("tally, {name}"), units * images, &mut lents, tallies, Other::None);
+}
+
+pub fn few(bench: &mut Bench) {
+    heading("a call behind few blocks", "");
+    for (name, blocks) in [("1 block", 1), ("10 blocks", 10)] {
+        let layout = Layout { blocks, extent: 32, free: 64, slot_exponent: 15 };
+        allocate_and_free(bench, &format!("{name}, small-framed"), layout, 256, 1);
+        allocate_and_free(bench, &format!("{name}, large-framed"), Layout { slot_exponent: 6, ..layout }, 256, 1);
+        tally(bench, name, layout, 256, 1);
+    }
+    // the object lies across 2^17
+    let layout = Layout { blocks: 1, extent: (1 << 17) - 32, free: 64, slot_exponent: 15 };
+    allocate_and_free(bench, "1 block, frame of 2^18", layout, 16, 1);
+}
+
+pub fn many(bench: &mut Bench) {
+    heading("a block passed", "");
+    for (name, blocks, images) in [("1,000", 1_000, 16), ("100,000", 100_000, 1)] {
+        let layout = Layout { blocks, extent: 32, free: 64, slot_exponent: 15 };
+        allocate_and_free(bench, &format!("a block of {name}"), layout, images, blocks);
+        tally(bench, &format!("a block of {name}"), layout, images, blocks);
+    }
+}

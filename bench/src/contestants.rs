@@ -1,0 +1,155 @@
+//! The two that are compared: the library, by its exports, and the model of document 01.
+
+use cueledger::ffi;
+use cueledger_tests::model::{self, Answer, TallyAnswer};
+
+/// An image and its table.
+#[derive(Clone)]
+pub struct Lent {
+    pub image: Vec<u8>,
+    pub table: Vec<u64>,
+}
+
+impl Lent {
+    /// Written once, so that every page is there before the first round; then set up.
+    pub fn new(length: usize, slot_exponent: u32) -> Lent {
+        let mut lent = Lent { image: vec![0xa5; length], table: vec![0xa5; model::used_entries(slot_exponent, length as u64) as usize] };
+        Model::set_up(&mut lent, slot_exponent).expect("set-up");
+        lent
+    }
+
+    pub fn allocate(&mut self, size: u32) -> u64 {
+        Model::allocate(self, size).expect("allocate")
+    }
+}
+
+pub trait Calls {
+    fn set_up(lent: &mut Lent, slot_exponent: u32) -> Answer;
+    fn allocate(lent: &mut Lent, size: u32) -> Answer;
+    fn offset(lent: &Lent, pointer: u64, distance: i64) -> Answer;
+    fn load(lent: &Lent, pointer: u64, width: u64) -> Answer;
+    fn store(lent: &mut Lent, pointer: u64, width: u64, value: u64) -> Answer;
+    fn free(lent: &mut Lent, pointer: u64) -> Answer;
+    fn fill(lent: &mut Lent, pointer: u64, length: u32, value: u8) -> Answer;
+    fn copy(lent: &mut Lent, target: u64, source: u64, length: u32) -> Answer;
+    fn tally(lent: &Lent) -> TallyAnswer;
+}
+
+/// Two closures of one text, in which the type named first is the library and then the model.
+#[macro_export]
+macro_rules! both {
+    (|$calls:ident, $lent:ident: $type:ty| $work:expr) => {
+        (
+            |$lent: &mut $type| {
+                type $calls = $crate::contestants::Library;
+                $work
+            },
+            |$lent: &mut $type| {
+                type $calls = $crate::contestants::Model;
+                $work
+            },
+        )
+    };
+}
+
+const TYPE: u16 = 1;
+
+pub struct Library;
+
+/// One export; image and table come first, a value last.
+macro_rules! export {
+    ($name:ident, $lent:ident, $image:ident, $table:ident $(, $argument:expr)*; $($value:ident)*) => {{
+        $(let mut $value = 0;)*
+        // SAFETY: image and table are slices of their own, valid for the call; so are the values.
+        let refusal = unsafe {
+            ffi::$name($lent.image.$image(), $lent.image.len(), $lent.table.$table(), $lent.table.len() $(, $argument)* $(, &mut $value)*)
+        };
+        if refusal == 0 { Ok([$($value),*]) } else { Err(refusal) }
+    }};
+}
+
+impl Calls for Library {
+    fn set_up(lent: &mut Lent, slot_exponent: u32) -> Answer {
+        export!(cue_setup, lent, as_mut_ptr, as_mut_ptr, slot_exponent;).map(nothing)
+    }
+
+    fn allocate(lent: &mut Lent, size: u32) -> Answer {
+        export!(cue_allocate, lent, as_mut_ptr, as_mut_ptr, size, TYPE; pointer).map(first)
+    }
+
+    fn offset(lent: &Lent, pointer: u64, distance: i64) -> Answer {
+        export!(cue_move, lent, as_ptr, as_ptr, pointer, distance; moved).map(first)
+    }
+
+    fn load(lent: &Lent, pointer: u64, width: u64) -> Answer {
+        export!(cue_load, lent, as_ptr, as_ptr, pointer, width; value).map(first)
+    }
+
+    fn store(lent: &mut Lent, pointer: u64, width: u64, value: u64) -> Answer {
+        export!(cue_store, lent, as_mut_ptr, as_ptr, pointer, width, value;).map(nothing)
+    }
+
+    fn free(lent: &mut Lent, pointer: u64) -> Answer {
+        export!(cue_free, lent, as_mut_ptr, as_mut_ptr, pointer;).map(nothing)
+    }
+
+    fn fill(lent: &mut Lent, pointer: u64, length: u32, value: u8) -> Answer {
+        export!(cue_fill, lent, as_mut_ptr, as_ptr, pointer, length, value;).map(nothing)
+    }
+
+    fn copy(lent: &mut Lent, target: u64, source: u64, length: u32) -> Answer {
+        export!(cue_copy, lent, as_mut_ptr, as_ptr, target, source, length;).map(nothing)
+    }
+
+    fn tally(lent: &Lent) -> TallyAnswer {
+        export!(cue_tally, lent, as_ptr, as_ptr; objects live_bytes free_bytes)
+    }
+}
+
+fn nothing(_: [u64; 0]) -> u64 {
+    0
+}
+
+fn first([value]: [u64; 1]) -> u64 {
+    value
+}
+
+pub struct Model;
+
+impl Calls for Model {
+    fn set_up(lent: &mut Lent, slot_exponent: u32) -> Answer {
+        model::set_up(&mut lent.image, &mut lent.table, slot_exponent)
+    }
+
+    fn allocate(lent: &mut Lent, size: u32) -> Answer {
+        model::allocate(&mut lent.image, &mut lent.table, size, TYPE)
+    }
+
+    fn offset(lent: &Lent, pointer: u64, distance: i64) -> Answer {
+        model::offset(&lent.image, &lent.table, pointer, distance)
+    }
+
+    fn load(lent: &Lent, pointer: u64, width: u64) -> Answer {
+        model::load(&lent.image, &lent.table, pointer, width)
+    }
+
+    fn store(lent: &mut Lent, pointer: u64, width: u64, value: u64) -> Answer {
+        model::store(&mut lent.image, &lent.table, pointer, width, value)
+    }
+
+    fn free(lent: &mut Lent, pointer: u64) -> Answer {
+        model::free(&mut lent.image, &mut lent.table, pointer)
+    }
+
+    fn fill(lent: &mut Lent, pointer: u64, length: u32, value: u8) -> Answer {
+        model::fill(&mut lent.image, &lent.table, pointer, length, value)
+    }
+
+    fn copy(lent: &mut Lent, target: u64, source: u64, length: u32) -> Answer {
+        model::copy(&mut lent.image, &lent.table, target, source, length)
+    }
+
+    fn tally(lent: &Lent) -> TallyAnswer {
+        model::tally(&lent.image, &lent.table)
+    }
+}

@@ -1,0 +1,60 @@
+//! What occurred in a comparison, and what did not.
+
+use crate::store::{Call, KINDS, ROWS};
+use std::fmt;
+
+/// How often each call, and each of its answers, occurred.
+#[derive(Clone, Debug, Default)]
+pub struct Counts {
+    pub calls: u64,
+    /// By call and refusal; 0 is accepted.
+    pub by_call: [[u64; ROWS + 1]; KINDS.len()],
+    pub cases: u64,
+    /// Cases with an image of 64 KiB and more.
+    pub large_images: u64,
+    pub largest_image: usize,
+    /// Cases by slot exponent.
+    pub slot_exponents: [u64; 16],
+    /// Accepted accesses and frees by small- and large-framed pointers.
+    pub framed: [u64; 2],
+}
+
+impl Counts {
+    /// `refusal` is 0 or a row of the call.
+    pub fn add(&mut self, call: &Call<u64>, refusal: u32) {
+        self.calls += 1;
+        self.by_call[call.place()][refusal as usize] += 1;
+        match *call {
+            Call::Load { pointer, .. } | Call::Store { pointer, .. } | Call::Free { pointer } | Call::Fill { pointer, .. } if refusal == 0 => {
+                self.framed[usize::from(pointer >> 63 == 0)] += 1;
+            }
+            _ => {}
+        }
+    }
+
+    /// The calls, and those of their rows that never occurred.
+    pub fn missing(&self) -> Vec<(&'static str, u32)> {
+        let pairs = KINDS.iter().zip(&self.by_call).flat_map(|(kind, answers)| kind.rows.iter().map(move |&row| (kind.name, row, answers)));
+        pairs.filter(|(_, row, answers)| answers[*row as usize] == 0).map(|(name, row, _)| (name, row)).collect()
+    }
+}
+
+/// A table, a row for each answer and a column for each call, and the rest below it.
+impl fmt::Display for Counts {
+    fn fmt(&self, f: &mut fmt::Formatter<'_>) -> fmt::Result {
+        write!(f, "{:>8}", "answer")?;
+        KINDS.iter().try_for_each(|kind| write!(f, "{:>10}", kind.name))?;
+        writeln!(f, "{:>11}", "all")?;
+        for row in 0..=ROWS {
+            write!(f, "{:>8}", if row == 0 { "accepted".to_string() } else { row.to_string() })?;
+            for answers in &self.by_call {
+                write!(f, "{:>10}", if answers[row] == 0 { ".".to_string() } else { answers[row].to_string() })?;
+            }
+            writeln!(f, "{:>11}", self.by_call.iter().map(|answers| answers[row]).sum::<u64>())?;
+        }
+        write!(f, "{} calls in {} cases, ", self.calls, self.cases)?;
+        writeln!(f, "{} of them with images of 64 KiB up to {} bytes", self.large_images, self.largest_image)?;
+        writeln!(f, "cases by slot exponent 6..15: {:?}", &self.slot_exponents[6..])?;
+        write!(f, "accepted through small- and large-framed pointers (load, store, free, fill): {:?}", self.framed)
+    }
+}

@@ -1,0 +1,74 @@
+//! A live header written into a live object's body, and pointers to it.
+
+use super::{Generator, Mode};
+use crate::case::{Action, Arg, Damage, View};
+use crate::model::{Header, Pointer};
+use crate::store::Call;
+
+impl Generator {
+    pub(super) fn forge(&mut self, view: &View<'_>) {
+        let Some(object) = self.object(true) else { return };
+        let size = u64::from(self.objects[object].size);
+        let (step, start) = self.objects[object].pointers[0];
+        if size < 17 {
+            return;
+        }
+        let offset = self.random.below(size - 15);
+        let h = Pointer::unpack(start).address + offset;
+        // inside the body, or up to the image's end over the neighbours
+        let room = if self.random.percent(60) { size - offset } else { (self.buffers.lent_image as u64).saturating_sub(h) };
+        let forged = self.random.within(1, room.saturating_sub(16).max(1)) as u32;
+        let bytes = self.forged_header(forged).bytes();
+        for (place, word) in [(0, &bytes[..8]), (8, &bytes[8..])] {
+            let distance = (offset + place) as i64;
+            let moved = self.call(Call::Move { pointer: Arg::of(step), distance });
+            self.call(Call::Store { pointer: Arg::of(moved), width: 8, value: u64::from_le_bytes(word.try_into().unwrap()) });
+        }
+        let pointer = Arg::Header { step, offset, size: forged };
+        if self.mode == Mode::Damaged && self.random.percent(70) {
+            self.push(Action::Damage(Damage::EntryOf { of: pointer, value: None }));
+        }
+        for _ in 0..self.random.within(1, 4) {
+            self.use_forged(view, pointer, forged);
+        }
+    }
+
+    /// Sound for a body of `size` bytes, or nearly so.
+    fn forged_header(&mut self, size: u32) -> Header {
+        let spare = self.random.pick(&[0, 0, 0, 1, 15, 16]);
+        let mut header = Header::live(u64::from(size) + 16 + spare, 9, size);
+        if self.random.percent(15) {
+            header.kind = self.random.pick(&[0, 1, 3, 0x102]);
+        }
+        if self.random.percent(10) {
+            header.zero = 1 << self.random.below(32);
+        }
+        header
+    }
+
+    fn use_forged(&mut self, view: &View<'_>, pointer: Arg, size: u32) {
+        match self.random.below(8) {
+            0..3 => {
+                let width = self.width();
+                self.call(Call::Load { pointer, width });
+            }
+            3 => {
+                let distance = self.distance(view.answers.resolve(pointer), size);
+                let moved = self.call(Call::Move { pointer, distance });
+                self.call(Call::Load { pointer: Arg::of(moved), width: 1 });
+            }
+            4 | 5 => {
+                self.call(Call::Free { pointer });
+            }
+            _ if self.mode == Mode::History => {}
+            6 => {
+                let value = self.random.word();
+                self.call(Call::Store { pointer, width: 8, value });
+            }
+            _ => {
+                let length = self.length(i64::from(size));
+                self.call(Call::Fill { pointer, length, value: 0 });
+            }
+        }
+    }
+}
