@@ -1,4 +1,4 @@
--- `examples::cases::part` meets its contract. Assumes nothing.
+-- The first n bytes of an image that has as many are n bytes. Assumes nothing.
 use mathlib.Core.Path.{sym}
 use lib.Seq.{length-take-le}
 use borrow.Author.Needs.{needs}
@@ -14,9 +14,11 @@ slice-aggregate-load-2 c = sym (length-take-le _ _ (c .before .before .if1 .take
 load-requires : tie.Need-load-requires
 load-requires c κs = search needs
 
+-- the load's score
 returns : tie.Need-returns
 returns c = search needs
 
+-- the image has fewer
 returns-2 : tie.Need-returns-2
 returns-2 c = search needs
 
