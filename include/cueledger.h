@@ -1,21 +1,29 @@
 /* CueLedger's object store: one lent image of memory and a frame table, from which objects are allocated, and
- * FRAMER tagged pointers through which each read and write is checked. Link with libcapi.a.
+ * FRAMER tagged pointers through which each read and write is checked. Link with libcapi.a. The layout of image,
+ * table and pointers is in docs/FORMAT.md.
  *
- * Each function returns 0 where the call is accepted, otherwise document 01's refusal number; then no byte of image
- * or table has changed, and every value given through a pointer is 0. Every call ends properly on all images, tables,
- * pointers and numbers. Lengths count bytes of the image and 64-bit entries of the table. Image, table and values must
- * be valid for the call (not null, also where a length is 0, and aligned as their types ask) and must not overlap. No
- * pointer is kept.
+ * Each function returns CUE_ACCEPTED (0) or the number of a refusal (enum cue_refusal). A refused call has changed no
+ * byte of image or table, and every value given through a pointer is 0. Every call ends properly on all images, tables,
+ * pointers and numbers.
  *
- *  1  slot exponent outside 6..15              9  the new object's table entry is not zero
- *  2  image length outside 64..2^30           10  tag number out of range
- *  3  set-up: table too short                 11  the tag leads to no live header that has this tag
- *  4  superblock not as laid out              12  the move leaves slot, frame or 48 bits
- *  5  table too short                         13  bytes not all inside the body
- *  6  size or length 0                        14  width not 1, 2, 4, 8
- *  7  unsound header on the walk              15  free: the address is not the base
- *  8  nothing fits                            16  store: value too large for the width
- */
+ * Arguments. Lengths count bytes of the image and 64-bit entries of the table. Image, table and values must be valid
+ * for the call (not null, also where a length is 0, and aligned as their types ask) and must not overlap. No pointer is
+ * kept: image and table can be saved, restored at another address and lent again, and tagged pointers keep their meaning.
+ *
+ * Limits.
+ * - The archive is for x86-64 Linux; size_t has 64 bits. It needs memmove and memset from outside, no other function, and
+ *   has neither heap nor global data.
+ * - One call at a time on the same image and table: no second thread, no interrupt handler in between. Calls on different
+ *   images do not disturb each other.
+ * - allocate, free and tally walk over the blocks from the image's start, so their time grows with the number of blocks;
+ *   free, fill and copy also grow with the bytes that they write, setup with image and table. Load, store and move take
+ *   constant time.
+ * - Stack of a call in bytes at most, return address included, memmove and memset excluded:
+ *     cue_setup      0   cue_allocate   0   cue_move   0   cue_load   0   cue_store   0
+ *     cue_free       0   cue_fill       0   cue_copy   0   cue_tally  0
+ *
+ * CUE_UNSOUND means that something else has written into the image. Stop allocating and freeing there. Objects whose
+ * headers are whole can still be loaded from; save image and table for diagnosis, then set the store up afresh. */
 #ifndef CUELEDGER_H
 #define CUELEDGER_H
 
@@ -26,12 +34,77 @@
 extern "C" {
 #endif
 
-/* Zeroes the image, writes superblock and one free block, zeroes the used table entries:
- * 48 * ((image_len - 1) / 2^(slot_exponent + 1) + 1). Entries beyond them are never written.
- * Refusals, in order: 1, 2, 3. */
+#define CUE_VERSION_MAJOR 0
+#define CUE_VERSION_MINOR 1
+#define CUE_VERSION_PATCH 0
+#define CUE_VERSION "0.1.0"
+
+enum cue_refusal {
+    CUE_ACCEPTED = 0,
+    CUE_BAD_EXPONENT = 1,    /* setup: slot exponent outside 6..15 */
+    CUE_BAD_LENGTH = 2,      /* setup: image length outside 64..2^30 */
+    CUE_TOO_FEW_ENTRIES = 3, /* setup: table shorter than CUE_TABLE_ENTRIES */
+    CUE_BAD_SUPERBLOCK = 4,  /* image not set up, set up with another length, or damaged at its start */
+    CUE_SHORT_TABLE = 5,     /* table shorter than CUE_TABLE_ENTRIES */
+    CUE_EMPTY = 6,           /* size or length 0 */
+    CUE_UNSOUND = 7,         /* unsound header on the walk: the image is damaged */
+    CUE_NO_SPACE = 8,        /* no free block is large enough */
+    CUE_ENTRY_TAKEN = 9,     /* the new object's table entry is not zero: the table is damaged */
+    CUE_BAD_TAG = 10,        /* tag number out of range: not a pointer of this store */
+    CUE_DANGLING = 11,       /* the tag leads to no live header that has this tag */
+    CUE_LEAVES = 12,         /* the move leaves slot, frame or 48 bits */
+    CUE_OUT_OF_BOUNDS = 13,  /* bytes not all inside the body */
+    CUE_BAD_WIDTH = 14,      /* width not 1, 2, 4, 8 */
+    CUE_NOT_BASE = 15,       /* free: the address is not the object's start */
+    CUE_TOO_LARGE = 16       /* store: value too large for the width */
+};
+
+/* A returned number as text. */
+static inline const char *cue_reason(uint32_t number)
+{
+    switch (number) {
+    case CUE_ACCEPTED: return "accepted";
+    case CUE_BAD_EXPONENT: return "slot exponent outside 6 to 15";
+    case CUE_BAD_LENGTH: return "image length outside 64 to 2^30";
+    case CUE_TOO_FEW_ENTRIES: return "table too short to set up";
+    case CUE_BAD_SUPERBLOCK: return "superblock not as laid out";
+    case CUE_SHORT_TABLE: return "table shorter than the used entries";
+    case CUE_EMPTY: return "size or length 0";
+    case CUE_UNSOUND: return "walk meets an unsound header";
+    case CUE_NO_SPACE: return "no free block fits";
+    case CUE_ENTRY_TAKEN: return "table entry not zero";
+    case CUE_BAD_TAG: return "tag number out of range";
+    case CUE_DANGLING: return "tag leads to no live object";
+    case CUE_LEAVES: return "move leaves slot, frame or 48 bits";
+    case CUE_OUT_OF_BOUNDS: return "bytes not all inside the body";
+    case CUE_BAD_WIDTH: return "width not 1, 2, 4 or 8";
+    case CUE_NOT_BASE: return "address is not the base";
+    case CUE_TOO_LARGE: return "value too large for the width";
+    default: return "no refusal has this number";
+    }
+}
+
+/* The table entries that an image of image_len bytes (64..2^30) needs: 48 for each 2^(slot_exponent + 1) bytes begun.
+ * A constant expression where the arguments are. */
+#define CUE_TABLE_ENTRIES(image_len, slot_exponent) \
+    ((size_t)48 * ((((size_t)(image_len) - 1) >> ((slot_exponent) + 1)) + 1))
+
+/* A fresh store: zeroes the image, writes superblock and one free block, zeroes the used table entries. Entries beyond
+ * them are never written.
+ * Refusals, in order: 1, 2, 3.
+ *
+ * The slot exponent s sets the slot, 2^s bytes, and the table's cost. An object whose header and body lie in one slot
+ * (small-framed) is found from the pointer alone; every other one (large-framed) takes a table entry, and its loads and
+ * stores one memory access more. The table takes 48 * 8 bytes for each 2^(s + 1) bytes of image:
+ *     s            6      7      8      9     10     11     12     13     14     15
+ *     slot        64    128    256    512   1 Ki   2 Ki   4 Ki   8 Ki  16 Ki  32 Ki
+ *     table    300 %  150 %   75 %   38 %   19 %    9 %    5 %    2 %    1 %  0.6 %   of the image, one division at least
+ * Take the largest s whose division of 2^(s + 1) bytes is no longer than the image, unless objects differ from the rule
+ * that a few divisions are enough. */
 uint32_t cue_setup(uint8_t *image, size_t image_len, uint64_t *table, size_t table_len, uint32_t slot_exponent);
 
-/* Takes the lowest free block that fits and gives the tagged pointer to the body, which is not written.
+/* Takes the lowest free block that fits and gives the tagged pointer to the body, which is not written: it is zero on an
+ * image that only these calls have written since cue_setup.
  * Refusals, in order: 4, 5, 6, then 7 or 8 as the walk ends, 9. */
 uint32_t cue_allocate(uint8_t *image, size_t image_len, uint64_t *table, size_t table_len, uint32_t size, uint16_t type, uint64_t *pointer);
 
