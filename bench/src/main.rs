@@ -4,6 +4,7 @@
 //! Rounds of the contestants alternate, each beginning in turn, and the best of each counts: what other programs on the
 //! machine take away from one is taken away from the others as well, or from none.
 
+use cueledger::{Store, Width};
 use cueledger_tests::model::{self, Header};
 use cueledger_tests::random::Random;
 use std::hint::black_box;
@@ -21,7 +22,7 @@ struct Lent {
 impl Lent {
     /// Written once, so that every page is there before the first round; then set up.
     fn new(length: usize, slot_exponent: u32) -> Lent {
-        let mut lent = Lent { image: vec![0xa5; length], table: vec![0xa5; cueledger::used_entries(slot_exponent, length)] };
+        let mut lent = Lent { image: vec![0xa5; length], table: vec![0xa5; Store::table_entries(length, slot_exponent)] };
         model::set_up(&mut lent.image, &mut lent.table, slot_exponent).expect("set-up");
         lent
     }
@@ -29,6 +30,15 @@ impl Lent {
     fn allocate(&mut self, size: u32) -> u64 {
         model::allocate(&mut self.image, &mut self.table, size, 1).expect("allocate")
     }
+
+    /// The library's, opened before the clock starts.
+    fn store(&mut self) -> Store<'_> {
+        Store::open(&mut self.image, &mut self.table).expect("open")
+    }
+}
+
+fn stores(lents: &mut [Lent]) -> Vec<Store<'_>> {
+    lents.iter_mut().map(Lent::store).collect()
 }
 
 fn address(pointer: u64) -> usize {
@@ -132,12 +142,16 @@ fn each(pointers: &[u64], mut work: impl FnMut(u64)) -> f64 {
 }
 
 fn load(bench: &mut Bench, name: &str, lent: &mut Lent, pointers: &[u64], width: u64) {
+    let library_width = Width::try_from(width).unwrap();
     bench.line(
         name,
         PASSES * pointers.len(),
         lent,
         &mut [
-            &mut |lent| each(pointers, |p| sink(cueledger::load(&lent.image, &lent.table, p, black_box(width)).unwrap())),
+            &mut |lent| {
+                let store = lent.store();
+                each(pointers, |p| sink(store.load(p.into(), black_box(library_width)).unwrap()))
+            },
             &mut |lent| each(pointers, |p| sink(model::load(&lent.image, &lent.table, p, black_box(width)).unwrap())),
             // SAFETY: each pointer's address is at least 8 bytes before its object's end.
             &mut |lent| {
@@ -157,12 +171,16 @@ fn load(bench: &mut Bench, name: &str, lent: &mut Lent, pointers: &[u64], width:
 }
 
 fn store(bench: &mut Bench, name: &str, lent: &mut Lent, pointers: &[u64], width: u64) {
+    let library_width = Width::try_from(width).unwrap();
     bench.line(
         name,
         PASSES * pointers.len(),
         lent,
         &mut [
-            &mut |lent| each(pointers, |p| cueledger::store(&mut lent.image, &lent.table, p, black_box(width), 0x5a).unwrap()),
+            &mut |lent| {
+                let mut store = lent.store();
+                each(pointers, |p| store.store(p.into(), black_box(library_width), 0x5a).unwrap())
+            },
             &mut |lent| each(pointers, |p| sink(model::store(&mut lent.image, &lent.table, p, black_box(width), 0x5a).unwrap())),
             // SAFETY: as in `load`.
             &mut |lent| {
@@ -200,9 +218,13 @@ fn accesses(bench: &mut Bench) {
             "move by 8",
             PASSES * pointers.len(),
             &mut lent,
-            &mut [&mut |lent| each(&pointers, |p| sink(cueledger::offset(&lent.image, &lent.table, p, black_box(8)).unwrap())), &mut |lent| {
-                each(&pointers, |p| sink(model::offset(&lent.image, &lent.table, p, black_box(8)).unwrap()))
-            }],
+            &mut [
+                &mut |lent| {
+                    let store = lent.store();
+                    each(&pointers, |p| sink(store.offset(p.into(), black_box(8)).unwrap()))
+                },
+                &mut |lent| each(&pointers, |p| sink(model::offset(&lent.image, &lent.table, p, black_box(8)).unwrap())),
+            ],
             Other::None,
         );
     }
@@ -232,8 +254,14 @@ fn independence(bench: &mut Bench) {
             let pointers: Vec<u64> = (0..1024).map(|i| objects[i % objects.len()] + 8 * (i as u64 / 8 % 5)).collect();
             (lent, pointers)
         });
-        let load = |(lent, pointers): &mut (Lent, Vec<u64>)| each(pointers, |p| sink(cueledger::load(&lent.image, &lent.table, p, 8).unwrap()));
-        let store = |(lent, pointers): &mut (Lent, Vec<u64>)| each(pointers, |p| cueledger::store(&mut lent.image, &lent.table, p, 8, 0x5a).unwrap());
+        let load = |(lent, pointers): &mut (Lent, Vec<u64>)| {
+            let store = lent.store();
+            each(pointers, |p| sink(store.load(p.into(), Width::Eight).unwrap()))
+        };
+        let store = |(lent, pointers): &mut (Lent, Vec<u64>)| {
+            let mut store = lent.store();
+            each(pointers, |p| store.store(p.into(), Width::Eight, 0x5a).unwrap())
+        };
         let [load_many, load_few, store_many, store_few]: [f64; 4] = bench
             .best(&mut images, &mut [&mut |l| load(&mut l[0]), &mut |l| load(&mut l[1]), &mut |l| store(&mut l[0]), &mut |l| store(&mut l[1])])
             .map(|ns| ns / (PASSES * 1024) as f64);
@@ -263,7 +291,8 @@ fn walks(bench: &mut Bench) {
             &mut [
                 &mut |lents| {
                     give(lents);
-                    time(|| lents.iter_mut().for_each(|lent| sink(cueledger::allocate(&mut lent.image, &mut lent.table, 32, 1).unwrap())))
+                    let mut opened = stores(lents);
+                    time(|| opened.iter_mut().for_each(|store| sink(store.allocate(32, 1).unwrap())))
                 },
                 &mut |lents| {
                     give(lents);
@@ -279,7 +308,8 @@ fn walks(bench: &mut Bench) {
             &mut lents,
             &mut [
                 &mut |lents| {
-                    let ns = time(|| lents.iter_mut().for_each(|lent| cueledger::free(&mut lent.image, &mut lent.table, last).unwrap()));
+                    let mut opened = stores(lents);
+                    let ns = time(|| opened.iter_mut().for_each(|store| store.free(last.into()).unwrap()));
                     take(lents);
                     ns
                 },
@@ -295,9 +325,13 @@ fn walks(bench: &mut Bench) {
             &format!("tally, {blocks} blocks"),
             units,
             &mut lents,
-            &mut [&mut |lents| time(|| lents.iter().for_each(|lent| sink(cueledger::tally(&lent.image, &lent.table).unwrap()))), &mut |lents| {
-                time(|| lents.iter().for_each(|lent| sink(model::tally(&lent.image, &lent.table).unwrap())))
-            }],
+            &mut [
+                &mut |lents| {
+                    let opened = stores(lents);
+                    time(|| opened.iter().for_each(|store| sink(store.tally().unwrap())))
+                },
+                &mut |lents| time(|| lents.iter().for_each(|lent| sink(model::tally(&lent.image, &lent.table).unwrap()))),
+            ],
             Other::None,
         );
     }
@@ -329,7 +363,10 @@ fn fills(bench: &mut Bench) {
             passes,
             &mut lent,
             &mut [
-                &mut |lent| repeat(passes, |i| cueledger::fill(&mut lent.image, &lent.table, black_box(target), length, i as u8).unwrap()),
+                &mut |lent| {
+                    let mut store = lent.store();
+                    repeat(passes, |i| store.fill(black_box(target).into(), length, i as u8).unwrap())
+                },
                 &mut |lent| repeat(passes, |i| sink(model::fill(&mut lent.image, &lent.table, black_box(target), length, i as u8).unwrap())),
                 &mut |lent| {
                     repeat(passes, |i| {
@@ -358,7 +395,10 @@ fn copies(bench: &mut Bench) {
                 passes,
                 &mut lent,
                 &mut [
-                    &mut |lent| repeat(passes, |_| cueledger::copy(&mut lent.image, &lent.table, black_box(target), source, length).unwrap()),
+                    &mut |lent| {
+                        let mut store = lent.store();
+                        repeat(passes, |_| store.copy(black_box(target).into(), source.into(), length).unwrap())
+                    },
                     &mut |lent| repeat(passes, |_| sink(model::copy(&mut lent.image, &lent.table, black_box(target), source, length).unwrap())),
                     &mut |lent| {
                         repeat(passes, |_| {
@@ -383,7 +423,7 @@ fn set_ups(bench: &mut Bench) {
             passes,
             &mut lent,
             &mut [
-                &mut |lent| repeat(passes, |_| cueledger::set_up(&mut lent.image, &mut lent.table, black_box(slot_exponent)).unwrap()),
+                &mut |lent| repeat(passes, |_| sink(Store::set_up(&mut lent.image, &mut lent.table, black_box(slot_exponent)).unwrap())),
                 &mut |lent| repeat(passes, |_| sink(model::set_up(&mut lent.image, &mut lent.table, black_box(slot_exponent)).unwrap())),
                 &mut |lent| {
                     repeat(passes, |_| {
@@ -407,7 +447,8 @@ fn zeroings(bench: &mut Bench) {
         let pointers = [0, 1].map(|i| images[i].iter_mut().map(|lent| lent.allocate([16, length as u32][i])).last().unwrap());
         let take = |images: &mut [Vec<Lent>; 2], i: usize| images[i].iter_mut().for_each(|lent| sink(lent.allocate([16, length as u32][i])));
         let by_library = |images: &mut [Vec<Lent>; 2], i: usize| {
-            let ns = time(|| images[i].iter_mut().for_each(|lent| cueledger::free(&mut lent.image, &mut lent.table, pointers[i]).unwrap()));
+            let mut opened = stores(&mut images[i]);
+            let ns = time(|| opened.iter_mut().for_each(|store| store.free(pointers[i].into()).unwrap()));
             take(images, i);
             ns
         };
