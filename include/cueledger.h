@@ -11,19 +11,19 @@
  * kept: image and table can be saved, restored at another address and lent again, and tagged pointers keep their meaning.
  *
  * Limits.
- * - The archive is for x86-64 Linux; size_t has 64 bits. It needs memmove and memset from outside, no other function, and
+ * - The archive is for x86-64 Linux: size_t has 64 bits. It calls memmove and memset and no other outside function, and
  *   has neither heap nor global data.
- * - One call at a time on the same image and table: no second thread, no interrupt handler in between. Calls on different
+ * - One call at a time on an image and its table: no second thread, no interrupt handler in between. Calls on different
  *   images do not disturb each other.
- * - allocate, free and tally walk over the blocks from the image's start, so their time grows with the number of blocks;
- *   free, fill and copy also grow with the bytes that they write, setup with image and table. Load, store and move take
- *   constant time.
- * - Stack of a call in bytes at most, return address included, memmove and memset excluded:
- *     cue_setup      0   cue_allocate   0   cue_move   0   cue_load   0   cue_store   0
- *     cue_free       0   cue_fill       0   cue_copy   0   cue_tally  0
+ * - Time: allocate, free and tally walk over the blocks from the image's start and grow with their number. Setup, free,
+ *   fill and copy also grow with the bytes that they write. Load, store and move take constant time.
+ * - Stack: bytes at most, the return address included, memmove and memset excluded:
+ *     cue_setup   48    cue_load   168    cue_fill   152
+ *     cue_allocate 64   cue_store  152    cue_copy   200
+ *     cue_move     8    cue_free   184    cue_tally   72
  *
- * CUE_UNSOUND means that something else has written into the image. Stop allocating and freeing there. Objects whose
- * headers are whole can still be loaded from; save image and table for diagnosis, then set the store up afresh. */
+ * On CUE_UNSOUND something else has written into the image. Allocate and free nothing more there. Objects that their
+ * pointers still reach can be loaded; save image and table for diagnosis, then set the store up afresh. */
 #ifndef CUELEDGER_H
 #define CUELEDGER_H
 
@@ -93,14 +93,13 @@ static inline const char *cue_reason(uint32_t number)
  * them are never written.
  * Refusals, in order: 1, 2, 3.
  *
- * The slot exponent s sets the slot, 2^s bytes, and the table's cost. An object whose header and body lie in one slot
- * (small-framed) is found from the pointer alone; every other one (large-framed) takes a table entry, and its loads and
- * stores one memory access more. The table takes 48 * 8 bytes for each 2^(s + 1) bytes of image:
- *     s            6      7      8      9     10     11     12     13     14     15
- *     slot        64    128    256    512   1 Ki   2 Ki   4 Ki   8 Ki  16 Ki  32 Ki
- *     table    300 %  150 %   75 %   38 %   19 %    9 %    5 %    2 %    1 %  0.6 %   of the image, one division at least
- * Take the largest s whose division of 2^(s + 1) bytes is no longer than the image, unless objects differ from the rule
- * that a few divisions are enough. */
+ * The slot exponent s sets the slot, 2^s bytes. An object with header and body in one slot (small-framed) is found from
+ * its pointer alone; any other takes a table entry, and its loads and stores read the table too. The table takes 48 * 8
+ * bytes for each 2^(s + 1) bytes of image, at least once:
+ *     s        6      7      8      9     10     11     12     13     14     15
+ *     table  300 %  150 %   75 %   38 %   19 %  9.4 %  4.7 %  2.3 %  1.2 %  0.6 %  of the image
+ * A larger s costs less table and makes more objects small-framed; with a smaller one cue_move refuses nearer to the
+ * object. */
 uint32_t cue_setup(uint8_t *image, size_t image_len, uint64_t *table, size_t table_len, uint32_t slot_exponent);
 
 /* Takes the lowest free block that fits and gives the tagged pointer to the body, which is not written: it is zero on an
