@@ -17,10 +17,10 @@
  *   images do not disturb each other.
  * - Time: allocate, free and tally walk over the blocks from the image's start and grow with their number. Setup, free,
  *   fill and copy also grow with the bytes that they write. Load, store and move take constant time.
- * - Stack: bytes at most, the return address included, memmove and memset excluded:
- *     cue_setup   48    cue_load   168    cue_fill   152
- *     cue_allocate 64   cue_store  152    cue_copy   200
- *     cue_move     8    cue_free   184    cue_tally   72
+ * - Stack, in bytes at most: the return address and all below it, without memmove and memset.
+ *     cue_setup     48    cue_load     168    cue_fill     152
+ *     cue_allocate  64    cue_store    152    cue_copy     200
+ *     cue_move       8    cue_free     184    cue_tally     72
  *
  * On CUE_UNSOUND something else has written into the image. Allocate and free nothing more there. Objects that their
  * pointers still reach can be loaded; save image and table for diagnosis, then set the store up afresh. */
