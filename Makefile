@@ -9,7 +9,7 @@ DESTDIR =
 
 archive = target/staticlib/libcapi.a
 # with the folders, whose dates tell of removed files
-sources = crates.txt $(shell find crates)
+sources := crates.txt $(shell find crates)
 
 run:
 	@echo 'Proving the store and the program `examples`: about 2 minutes the first time, seconds afterwards.'

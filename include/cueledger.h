@@ -49,7 +49,7 @@ enum cue_refusal {
     CUE_EMPTY = 6,           /* size or length 0 */
     CUE_UNSOUND = 7,         /* unsound header on the walk: the image is damaged */
     CUE_NO_SPACE = 8,        /* no free block is large enough */
-    CUE_ENTRY_TAKEN = 9,     /* the new object's table entry is not zero: the table is damaged */
+    CUE_ENTRY_TAKEN = 9,     /* the new object's table entry is not zero: the table is damaged, or another image's */
     CUE_BAD_TAG = 10,        /* tag number out of range: not a pointer of this store */
     CUE_DANGLING = 11,       /* the tag leads to no live header that has this tag */
     CUE_LEAVES = 12,         /* the move leaves slot, frame or 48 bits */
