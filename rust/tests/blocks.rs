@@ -19,6 +19,7 @@ fn counted(image: &[u8]) -> Result<Tally, Refusal> {
     let mut tally = Tally { objects: 0, live_bytes: 0, free_bytes: image.len() as u64 - 16 };
     for block in Blocks::new(image) {
         let block = block?;
+        assert!(block.extent >= 16 && block.place + block.extent as usize <= image.len(), "{block:?}");
         tally.objects += u64::from(block.kind == Kind::Live);
         tally.live_bytes += u64::from(block.size);
         tally.free_bytes -= u64::from(block.size);
@@ -64,14 +65,11 @@ fn ends_at_the_unsound_header() {
 
 #[test]
 fn any_bytes_of_any_length() {
-    // multiples of 31 modulo 256 take every value; small and large ones stand beside each other
+    // noise, then what looks like headers at every alignment
     let bytes: Vec<u8> = (0..512).map(|i| (i * 31 / 7 * i) as u8).chain([16, 0, 0, 0, 1].into_iter().cycle().take(512)).collect();
     for from in 0..bytes.len() {
         for to in from..bytes.len().min(from + 100) {
-            let image = &bytes[from..to];
-            let blocks = Blocks::new(image);
-            assert!(blocks.clone().count() <= image.len() / 16 + 1);
-            assert!(blocks.take_while(Result::is_ok).all(|block| block.is_ok_and(|b| b.place + b.extent as usize <= image.len())));
+            assert!(Blocks::new(&bytes[from..to]).count() <= (to - from) / 16 + 1);
         }
     }
 }
