@@ -1,6 +1,6 @@
 /* CueLedger's object store: one lent image of memory and a frame table, from which objects are allocated, and
- * FRAMER tagged pointers through which each read and write is checked. Link with libcapi.a. The layout of image,
- * table and pointers is in docs/FORMAT.md.
+ * FRAMER tagged pointers through which each read and write is checked. Link with libcapi.a. The repository's
+ * docs/FORMAT.md has the layout of image, table and pointers, and each call in full.
  *
  * Each function returns CUE_ACCEPTED (0) or the number of a refusal (enum cue_refusal). A refused call has changed no
  * byte of image or table, and every value given through a pointer is 0. Every call ends properly on all images, tables,
