@@ -12,7 +12,7 @@ archive = target/staticlib/libcapi.a
 sources := crates.txt $(shell find crates)
 
 run:
-	@echo 'Proving the store and the program `examples`: about 2 minutes the first time, seconds afterwards.'
+	@echo 'Proving the store and the program `examples`: a few minutes the first time, seconds afterwards.'
 	@.ci/prove check examples || { \
 		if [ -f target/log/examples.stdout ]; then diff -u crates/examples/stdout target/log/examples.stdout || true; fi; \
 		exit 1; \
@@ -25,7 +25,7 @@ test:
 lib: $(archive)
 
 $(archive): $(sources)
-	@echo 'Proving the exports: about 2 minutes the first time, seconds afterwards.'
+	@echo 'Proving the exports: a few minutes the first time, seconds afterwards.'
 	@.ci/prove staticlib capi
 
 bench: $(archive)
