@@ -85,6 +85,13 @@ pub struct Blocks<'a> {
 
 impl<'a> Blocks<'a> {
     /// The blocks of these bytes. The superblock is passed over, so that an image whose superblock is damaged can be looked at.
+    ///
+    /// ```
+    /// use cueledger::{Blocks, UnsoundHeader};
+    ///
+    /// let mut blocks = Blocks::new(&[0; 64]); // never set up
+    /// assert_eq!(blocks.next(), Some(Err(UnsoundHeader { place: 16 })));
+    /// ```
     pub const fn new(image: &'a [u8]) -> Blocks<'a> {
         Blocks { image, place: FIRST }
     }

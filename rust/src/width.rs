@@ -7,7 +7,6 @@ use crate::Refusal;
 ///
 /// assert_eq!(Width::try_from(4), Ok(Width::Four));
 /// assert_eq!(Width::try_from(3), Err(Refusal::BadWidth));
-/// assert_eq!(Width::Eight.bytes(), 8);
 /// ```
 #[derive(Clone, Copy, Debug, PartialEq, Eq, Hash)]
 #[repr(u8)]
@@ -24,6 +23,11 @@ pub enum Width {
 
 impl Width {
     /// The number of bytes.
+    ///
+    /// ```
+    /// # use cueledger::Width;
+    /// assert_eq!(Width::Eight.bytes(), 8);
+    /// ```
     pub const fn bytes(self) -> u64 {
         self as u64
     }
