@@ -1,16 +1,55 @@
-# `make run` runs the main job, `make test` passes all tests.
-.PHONY: run test lib bench
+# `make help` says what there is.
+SHELL = bash
+.SHELLFLAGS = -euo pipefail -c
+.DELETE_ON_ERROR:
+.PHONY: run test lib bench install clean help
+
+PREFIX = /usr/local
+DESTDIR =
+
+archive = target/staticlib/libcapi.a
+# with the folders, whose dates tell of removed files
+sources := crates.txt $(shell find crates)
 
 run:
-	@rt check examples >/dev/null
+	@echo 'Proving the store and the program `examples`: a few minutes the first time, seconds afterwards.'
+	@.ci/prove check examples || { \
+		if [ -f target/log/examples.stdout ]; then diff -u crates/examples/stdout target/log/examples.stdout || true; fi; \
+		exit 1; \
+	}
 	@target/bin/examples
 
 test:
 	@.ci/run
 
-# the static library for C and Rust
-lib:
-	@rt staticlib capi
+lib: $(archive)
 
-bench: lib
+$(archive): $(sources)
+	@echo 'Proving the exports: a few minutes the first time, seconds afterwards.'
+	@.ci/prove staticlib capi
+
+bench: $(archive)
 	@cd bench && cargo run --offline --release --quiet
+
+install: $(archive)
+	@prefix=$$(realpath -ms -- "$(PREFIX)"); to="$(DESTDIR)$$prefix"; \
+	version=$$(sed -nE 's/^#define CUE_VERSION "(.*)"$$/\1/p' include/cueledger.h); \
+	install -d "$$to/include" "$$to/lib/pkgconfig"; \
+	install -m 644 include/cueledger.h "$$to/include/"; \
+	install -m 644 $(archive) "$$to/lib/"; \
+	while IFS= read -r line; do \
+		line=$${line//@PREFIX@/"$$prefix"}; \
+		printf '%s\n' "$${line//@VERSION@/"$$version"}"; \
+	done <include/cueledger.pc.in >"$$to/lib/pkgconfig/cueledger.pc"; \
+	echo "cueledger $$version is in $$to"
+
+clean:
+	rm -rf target rust/target tests/target bench/target
+
+help:
+	@echo 'make run      prove the store, then run its main job, the program `examples`'
+	@echo 'make test     all tests: .ci/run, which ends in `N passed, 0 failed`'
+	@echo 'make lib      prove the exports and write $(archive), for C and Rust'
+	@echo 'make bench    measure the library against a model in Rust'
+	@echo 'make install  header, archive and pkg-config file, to PREFIX ($(PREFIX)) below DESTDIR'
+	@echo 'make clean    remove everything that was built and proved'

@@ -1,21 +1,29 @@
 /* CueLedger's object store: one lent image of memory and a frame table, from which objects are allocated, and
- * FRAMER tagged pointers through which each read and write is checked. Link with libcapi.a.
+ * FRAMER tagged pointers through which each read and write is checked. Link with libcapi.a. The repository's
+ * docs/FORMAT.md has the layout of image, table and pointers, and each call in full.
  *
- * Each function returns 0 where the call is accepted, otherwise document 01's refusal number; then no byte of image
- * or table has changed, and every value given through a pointer is 0. Every call ends properly on all images, tables,
- * pointers and numbers. Lengths count bytes of the image and 64-bit entries of the table. Image, table and values must
- * be valid for the call (not null, also where a length is 0, and aligned as their types ask) and must not overlap. No
- * pointer is kept.
+ * Each function returns CUE_ACCEPTED (0) or the number of a refusal (enum cue_refusal). A refused call has changed no
+ * byte of image or table, and every value given through a pointer is 0. Every call ends properly on all images, tables,
+ * pointers and numbers.
  *
- *  1  slot exponent outside 6..15              9  the new object's table entry is not zero
- *  2  image length outside 64..2^30           10  tag number out of range
- *  3  set-up: table too short                 11  the tag leads to no live header that has this tag
- *  4  superblock not as laid out              12  the move leaves slot, frame or 48 bits
- *  5  table too short                         13  bytes not all inside the body
- *  6  size or length 0                        14  width not 1, 2, 4, 8
- *  7  unsound header on the walk              15  free: the address is not the base
- *  8  nothing fits                            16  store: value too large for the width
- */
+ * Arguments. Lengths count bytes of the image and 64-bit entries of the table. Image, table and values must be valid
+ * for the call (not null, also where a length is 0, and aligned as their types ask) and must not overlap. No pointer is
+ * kept: image and table can be saved, restored at another address and lent again, and tagged pointers keep their meaning.
+ *
+ * Limits.
+ * - The archive is for x86-64 Linux: size_t has 64 bits. It calls memmove and memset and no other outside function, and
+ *   has neither heap nor global data.
+ * - One call at a time on an image and its table: no second thread, no interrupt handler in between. Calls on different
+ *   images do not disturb each other.
+ * - Time: allocate, free and tally walk over the blocks from the image's start and grow with their number. Setup, free,
+ *   fill and copy also grow with the bytes that they write. Load, store and move take constant time.
+ * - Stack, in bytes at most: the return address and all below it, without memmove and memset.
+ *     cue_setup     48    cue_load     168    cue_fill     152
+ *     cue_allocate  64    cue_store    152    cue_copy     200
+ *     cue_move       8    cue_free     184    cue_tally     72
+ *
+ * On CUE_UNSOUND something else has written into the image. Allocate and free nothing more there. Objects that their
+ * pointers still reach can be loaded; save image and table for diagnosis, then set the store up afresh. */
 #ifndef CUELEDGER_H
 #define CUELEDGER_H
 
@@ -26,12 +34,76 @@
 extern "C" {
 #endif
 
-/* Zeroes the image, writes superblock and one free block, zeroes the used table entries:
- * 48 * ((image_len - 1) / 2^(slot_exponent + 1) + 1). Entries beyond them are never written.
- * Refusals, in order: 1, 2, 3. */
+#define CUE_VERSION_MAJOR 0
+#define CUE_VERSION_MINOR 1
+#define CUE_VERSION_PATCH 0
+#define CUE_VERSION "0.1.0"
+
+enum cue_refusal {
+    CUE_ACCEPTED = 0,
+    CUE_BAD_EXPONENT = 1,    /* setup: slot exponent outside 6..15 */
+    CUE_BAD_LENGTH = 2,      /* setup: image length outside 64..2^30 */
+    CUE_TOO_FEW_ENTRIES = 3, /* setup: table shorter than CUE_TABLE_ENTRIES */
+    CUE_BAD_SUPERBLOCK = 4,  /* image not set up, set up with another length, or damaged at its start */
+    CUE_SHORT_TABLE = 5,     /* table shorter than CUE_TABLE_ENTRIES */
+    CUE_EMPTY = 6,           /* size or length 0 */
+    CUE_UNSOUND = 7,         /* unsound header on the walk: the image is damaged */
+    CUE_NO_SPACE = 8,        /* no free block is large enough */
+    CUE_ENTRY_TAKEN = 9,     /* the new object's table entry is not zero: the table is damaged, or another image's */
+    CUE_BAD_TAG = 10,        /* tag number out of range: not a pointer of this store */
+    CUE_DANGLING = 11,       /* the tag leads to no live header that has this tag */
+    CUE_LEAVES = 12,         /* the move leaves slot, frame or 48 bits */
+    CUE_OUT_OF_BOUNDS = 13,  /* bytes not all inside the body */
+    CUE_BAD_WIDTH = 14,      /* width not 1, 2, 4, 8 */
+    CUE_NOT_BASE = 15,       /* free: the address is not the object's start */
+    CUE_TOO_LARGE = 16       /* store: value too large for the width */
+};
+
+/* A returned number as text. */
+static inline const char *cue_reason(uint32_t number)
+{
+    switch (number) {
+    case CUE_ACCEPTED: return "accepted";
+    case CUE_BAD_EXPONENT: return "slot exponent outside 6 to 15";
+    case CUE_BAD_LENGTH: return "image length outside 64 to 2^30";
+    case CUE_TOO_FEW_ENTRIES: return "table too short to set up";
+    case CUE_BAD_SUPERBLOCK: return "superblock not as laid out";
+    case CUE_SHORT_TABLE: return "table shorter than the used entries";
+    case CUE_EMPTY: return "size or length 0";
+    case CUE_UNSOUND: return "walk meets an unsound header";
+    case CUE_NO_SPACE: return "no free block fits";
+    case CUE_ENTRY_TAKEN: return "table entry not zero";
+    case CUE_BAD_TAG: return "tag number out of range";
+    case CUE_DANGLING: return "tag leads to no live object";
+    case CUE_LEAVES: return "move leaves slot, frame or 48 bits";
+    case CUE_OUT_OF_BOUNDS: return "bytes not all inside the body";
+    case CUE_BAD_WIDTH: return "width not 1, 2, 4 or 8";
+    case CUE_NOT_BASE: return "address is not the base";
+    case CUE_TOO_LARGE: return "value too large for the width";
+    default: return "no refusal has this number";
+    }
+}
+
+/* The table entries that an image of image_len bytes (64..2^30) needs: 48 for each 2^(slot_exponent + 1) bytes begun.
+ * A constant expression where the arguments are. */
+#define CUE_TABLE_ENTRIES(image_len, slot_exponent) \
+    ((size_t)48 * ((((size_t)(image_len) - 1) >> ((slot_exponent) + 1)) + 1))
+
+/* A fresh store: zeroes the image, writes superblock and one free block, zeroes the used table entries. Entries beyond
+ * them are never written.
+ * Refusals, in order: 1, 2, 3.
+ *
+ * The slot exponent s sets the slot, 2^s bytes. An object with header and body in one slot (small-framed) is found from
+ * its pointer alone; any other takes a table entry, and its loads and stores read the table too. The table takes 48 * 8
+ * bytes for each 2^(s + 1) bytes of image, at least once:
+ *     s        6      7      8      9     10     11     12     13     14     15
+ *     table  300 %  150 %   75 %   38 %   19 %  9.4 %  4.7 %  2.3 %  1.2 %  0.6 %  of the image
+ * A larger s costs less table and makes more objects small-framed; with a smaller one cue_move refuses nearer to the
+ * object. */
 uint32_t cue_setup(uint8_t *image, size_t image_len, uint64_t *table, size_t table_len, uint32_t slot_exponent);
 
-/* Takes the lowest free block that fits and gives the tagged pointer to the body, which is not written.
+/* Takes the lowest free block that fits and gives the tagged pointer to the body, which is not written: it is zero on an
+ * image that only these calls have written since cue_setup.
  * Refusals, in order: 4, 5, 6, then 7 or 8 as the walk ends, 9. */
 uint32_t cue_allocate(uint8_t *image, size_t image_len, uint64_t *table, size_t table_len, uint32_t size, uint16_t type, uint64_t *pointer);
 

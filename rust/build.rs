@@ -14,7 +14,7 @@ fn main() {
     let archive = dir.join("libcapi.a");
     println!("cargo:rerun-if-changed={}", archive.display());
     if !archive.is_file() {
-        println!("cargo:warning={} not found: run `rt staticlib capi`, or set CUELEDGER_LIB_DIR", archive.display());
+        println!("cargo:warning={} not found: run `make lib`, or set CUELEDGER_LIB_DIR", archive.display());
     }
     println!("cargo:rustc-link-search=native={}", dir.display());
     println!("cargo:rustc-link-lib=static=capi");

@@ -5,54 +5,55 @@
 
 #include "cueledger.h"
 
-static uint8_t image[1024];
-static uint64_t table[48 * 8]; /* 48 for each division of 2^(6 + 1) bytes */
+#define SLOT_EXPONENT 10
 
-#define STORE image, sizeof image
-#define TABLE table, sizeof table / sizeof table[0]
+static uint8_t image[64 * 1024];
+static uint64_t table[CUE_TABLE_ENTRIES(sizeof image, SLOT_EXPONENT)];
 
-static void report(const char *call, uint32_t refusal)
+#define STORE image, sizeof image, table, sizeof table / sizeof table[0]
+
+static void report(const char *call, uint32_t number)
 {
-    if (refusal == 0)
+    if (number == CUE_ACCEPTED)
         printf("%s: accepted\n", call);
     else
-        printf("%s: refused, %" PRIu32 "\n", call, refusal);
+        printf("%s: refused, %s (%" PRIu32 ")\n", call, cue_reason(number), number);
 }
 
 int main(void)
 {
     uint64_t record, moved, value, objects, live, spare;
 
-    report("set up", cue_setup(STORE, TABLE, 6));
-    report("allocate 10", cue_allocate(STORE, TABLE, 10, 7, &record));
+    report("set up", cue_setup(STORE, SLOT_EXPONENT));
+    report("allocate 10", cue_allocate(STORE, 10, 7, &record));
     printf("pointer 0x%016" PRIX64 "\n", record);
 
-    report("store", cue_store(STORE, TABLE, record, 4, 1250));
-    report("load", cue_load(STORE, TABLE, record, 4, &value));
+    report("store", cue_store(STORE, record, 4, 1250));
+    report("load", cue_load(STORE, record, 4, &value));
     printf("value %" PRIu64 "\n", value);
 
-    report("move by 2", cue_move(STORE, TABLE, record, 2, &moved));
-    report("fill 8 there", cue_fill(STORE, TABLE, moved, 8, 255));
-    report("load 8 there", cue_load(STORE, TABLE, moved, 8, &value));
+    report("move by 2", cue_move(STORE, record, 2, &moved));
+    report("fill 8 there", cue_fill(STORE, moved, 8, 255));
+    report("load 8 there", cue_load(STORE, moved, 8, &value));
     printf("value 0x%016" PRIX64 "\n", value);
-    report("store 8 there", cue_store(STORE, TABLE, moved, 8, 0x0807060504030201));
-    report("copy 8 from there to the start", cue_copy(STORE, TABLE, record, moved, 8)); /* six bytes in common */
-    report("load 8 at the start", cue_load(STORE, TABLE, record, 8, &value));
+    report("store 8 there", cue_store(STORE, moved, 8, 0x0807060504030201));
+    report("copy 8 from there to the start", cue_copy(STORE, record, moved, 8)); /* six bytes in common */
+    report("load 8 at the start", cue_load(STORE, record, 8, &value));
     printf("value 0x%016" PRIX64 "\n", value);
-    report("copy 8 from the start to there", cue_copy(STORE, TABLE, moved, record, 8));
-    report("load 8 there", cue_load(STORE, TABLE, moved, 8, &value));
+    report("copy 8 from the start to there", cue_copy(STORE, moved, record, 8));
+    report("load 8 there", cue_load(STORE, moved, 8, &value));
     printf("value 0x%016" PRIX64 "\n", value);
-    report("copy 9 from there to the start", cue_copy(STORE, TABLE, record, moved, 9));
-    report("move by 3", cue_move(STORE, TABLE, record, 3, &moved));
-    report("load 8 there", cue_load(STORE, TABLE, moved, 8, &value));
+    report("copy 9 from there to the start", cue_copy(STORE, record, moved, 9));
+    report("move by 3", cue_move(STORE, record, 3, &moved));
+    report("load 8 there", cue_load(STORE, moved, 8, &value));
     printf("value %" PRIu64 "\n", value);
-    report("move by 32", cue_move(STORE, TABLE, record, 32, &moved));
+    report("move by a slot", cue_move(STORE, record, 1 << SLOT_EXPONENT, &moved));
 
-    report("tally", cue_tally(STORE, TABLE, &objects, &live, &spare));
+    report("tally", cue_tally(STORE, &objects, &live, &spare));
     printf("objects %" PRIu64 ", live bytes %" PRIu64 ", free bytes %" PRIu64 "\n", objects, live, spare);
-    report("free", cue_free(STORE, TABLE, record));
-    report("free again", cue_free(STORE, TABLE, record));
-    report("tally", cue_tally(STORE, TABLE, &objects, &live, &spare));
+    report("free", cue_free(STORE, record));
+    report("free again", cue_free(STORE, record));
+    report("tally", cue_tally(STORE, &objects, &live, &spare));
     printf("objects %" PRIu64 ", live bytes %" PRIu64 ", free bytes %" PRIu64 "\n", objects, live, spare);
     return 0;
 }

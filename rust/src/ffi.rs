@@ -1,6 +1,6 @@
 //! The exports of `libcapi.a`, as `include/cueledger.h` has them.
 //!
-//! Each returns document 01's refusal number, 0 where the call is accepted; a refused call gives 0 for every value.
+//! Each returns a [`Refusal`](crate::Refusal)'s number, 0 where the call is accepted; a refused call gives 0 for every value.
 //! Image, table and values must be valid for the call and must not overlap. No pointer is kept.
 
 #![allow(missing_docs)]

@@ -1,6 +1,14 @@
 use core::fmt;
 
-/// Why a call was declined: document 01's table, under the names of the proved library. A refused call has changed no byte of image or table.
+/// Why a call was declined, under the names of the proved library. A refused call has changed no byte of image or table.
+///
+/// ```
+/// use cueledger::Refusal;
+///
+/// assert_eq!(Refusal::from_number(13), Some(Refusal::OutOfBounds));
+/// assert_eq!(Refusal::OutOfBounds.to_string(), "bytes not all inside the body (13)");
+/// assert_eq!(Refusal::ALL.map(Refusal::number)[..3], [1, 2, 3]);
+/// ```
 #[derive(Clone, Copy, Debug, PartialEq, Eq, Hash)]
 #[repr(u8)]
 pub enum Refusal {
@@ -17,6 +25,9 @@ pub enum Refusal {
     /// 6: the size or length is 0.
     Empty = 6,
     /// 7: the walk met an unsound header; free: it passed the object's header without meeting it, or the next one is unsound.
+    ///
+    /// Something else has written into the image. Allocate and free nothing more there. Objects that their pointers still reach
+    /// can be loaded; save image and table for diagnosis, then set the store up afresh.
     Unsound = 7,
     /// 8: the walk reached the image's end and no free block fits.
     NoSpace = 8,
@@ -59,12 +70,23 @@ impl Refusal {
         Refusal::TooLarge,
     ];
 
-    /// Document 01's number, 1 to 16.
+    /// The number that the exports return, 1 to 16.
+    ///
+    /// ```
+    /// # use cueledger::Refusal;
+    /// assert_eq!(Refusal::Unsound.number(), 7);
+    /// ```
     pub const fn number(self) -> u32 {
         self as u32
     }
 
     /// The refusal with this number, if there is one.
+    ///
+    /// ```
+    /// # use cueledger::Refusal;
+    /// assert_eq!(Refusal::from_number(7), Some(Refusal::Unsound));
+    /// assert_eq!(Refusal::from_number(0), None); // accepted
+    /// ```
     pub const fn from_number(number: u32) -> Option<Refusal> {
         if 1 <= number && number <= 16 {
             Some(Self::ALL[number as usize - 1])
@@ -72,13 +94,17 @@ impl Refusal {
             None
         }
     }
-}
 
-impl fmt::Display for Refusal {
-    fn fmt(&self, f: &mut fmt::Formatter<'_>) -> fmt::Result {
-        let reason = match self {
-            Refusal::BadExponent => "slot exponent outside 6..=15",
-            Refusal::BadLength => "image length outside 64..=2^30",
+    /// The reason in words, as `cue_reason` of the C header has it.
+    ///
+    /// ```
+    /// # use cueledger::Refusal;
+    /// assert_eq!(Refusal::NoSpace.reason(), "no free block fits");
+    /// ```
+    pub const fn reason(self) -> &'static str {
+        match self {
+            Refusal::BadExponent => "slot exponent outside 6 to 15",
+            Refusal::BadLength => "image length outside 64 to 2^30",
             Refusal::TooFewEntries => "table too short to set up",
             Refusal::BadSuperblock => "superblock not as laid out",
             Refusal::ShortTable => "table shorter than the used entries",
@@ -93,8 +119,13 @@ impl fmt::Display for Refusal {
             Refusal::BadWidth => "width not 1, 2, 4 or 8",
             Refusal::NotBase => "address is not the base",
             Refusal::TooLarge => "value too large for the width",
-        };
-        write!(f, "{} ({})", reason, self.number())
+        }
+    }
+}
+
+impl fmt::Display for Refusal {
+    fn fmt(&self, f: &mut fmt::Formatter<'_>) -> fmt::Result {
+        write!(f, "{} ({})", self.reason(), self.number())
     }
 }
 

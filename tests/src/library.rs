@@ -1,34 +1,35 @@
 //! The library as a `Store`, through the Rust wrapper and through the exports themselves.
 
 use crate::store::{Answer, Call, Store};
-use cueledger::{ffi, Refusal};
+use cueledger::{ffi, Pointer, Refusal, Width};
 
 /// Through the crate `cueledger`.
 #[derive(Clone, Copy)]
 pub struct Library;
 
-fn valued(result: Result<u64, Refusal>) -> Answer {
-    result.map_err(Refusal::number).into()
-}
-
-fn plain(result: Result<(), Refusal>) -> Answer {
-    valued(result.map(|()| 0))
-}
-
 impl Store for Library {
     fn call(&self, image: &mut [u8], table: &mut [u64], call: Call<u64>) -> Answer {
-        match call {
-            Call::SetUp { slot_exponent } => plain(cueledger::set_up(image, table, slot_exponent)),
-            Call::Allocate { size, type_number } => valued(cueledger::allocate(image, table, size, type_number)),
-            Call::Move { pointer, distance } => valued(cueledger::offset(image, table, pointer, distance)),
-            Call::Load { pointer, width } => valued(cueledger::load(image, table, pointer, width)),
-            Call::Store { pointer, width, value } => plain(cueledger::store(image, table, pointer, width, value)),
-            Call::Free { pointer } => plain(cueledger::free(image, table, pointer)),
-            Call::Fill { pointer, length, value } => plain(cueledger::fill(image, table, pointer, length, value)),
-            Call::Copy { target, source, length } => plain(cueledger::copy(image, table, target, source, length)),
-            Call::Tally => cueledger::tally(image, table).map(|t| [t.objects, t.live_bytes, t.free_bytes]).map_err(Refusal::number).into(),
-        }
+        answered(image, table, call.map(Pointer::from)).map_err(Refusal::number).into()
     }
+}
+
+fn answered(image: &mut [u8], table: &mut [u64], call: Call<Pointer>) -> Result<[u64; 3], Refusal> {
+    if let Call::SetUp { slot_exponent } = call {
+        return cueledger::Store::set_up(image, table, slot_exponent).map(|_| [0; 3]);
+    }
+    let mut store = cueledger::Store::open(image, table)?;
+    let value = match call {
+        Call::SetUp { .. } => unreachable!(),
+        Call::Allocate { size, type_number } => store.allocate(size, type_number)?.into(),
+        Call::Move { pointer, distance } => store.offset(pointer, distance)?.into(),
+        Call::Load { pointer, width } => store.load(pointer, Width::try_from(width)?)?,
+        Call::Store { pointer, width, value } => store.store(pointer, Width::try_from(width)?, value).map(|()| 0)?,
+        Call::Free { pointer } => store.free(pointer).map(|()| 0)?,
+        Call::Fill { pointer, length, value } => store.fill(pointer, length, value).map(|()| 0)?,
+        Call::Copy { target, source, length } => store.copy(target, source, length).map(|()| 0)?,
+        Call::Tally => return store.tally().map(|t| [t.objects, t.live_bytes, t.free_bytes]),
+    };
+    Ok([value, 0, 0])
 }
 
 /// Through the exports. Values are not zero beforehand, so that a refusal must give 0 for each of them.

@@ -1,0 +1,338 @@
+use crate::{ffi, Blocks, Pointer, Refusal, Width};
+use core::fmt;
+
+/// An object store on a lent image and a lent table.
+///
+/// Nothing is kept outside the two slices: they can be saved, restored at another address and [opened](Store::open) again, and
+/// pointers keep their meaning.
+pub struct Store<'a> {
+    image: &'a mut [u8],
+    table: &'a mut [u64],
+}
+
+/// What is in use, as [`Store::tally`] counts it.
+#[derive(Clone, Copy, Debug, PartialEq, Eq)]
+pub struct Tally {
+    /// Live objects.
+    pub objects: u64,
+    /// The sum of their sizes.
+    pub live_bytes: u64,
+    /// The image's length less 16 and the live bytes; headers and spare bytes count as free.
+    pub free_bytes: u64,
+}
+
+// A number outside 0..=16 means that the archive is not the one this crate was written for.
+fn answer<T>(number: u32, value: T) -> Result<T, Refusal> {
+    if number == 0 {
+        return Ok(value);
+    }
+    match Refusal::from_number(number) {
+        Some(refusal) => Err(refusal),
+        None => panic!("libcapi answered {number}, which is no refusal that this crate knows"),
+    }
+}
+
+impl<'a> Store<'a> {
+    /// The table entries that an image uses: what the table needs at least.
+    ///
+    /// `image_len` is 64..=2^30 and `slot_exponent` 6..=15; elsewhere the number means nothing.
+    ///
+    /// ```
+    /// use cueledger::Store;
+    ///
+    /// static TABLE: [u64; Store::table_entries(1 << 16, 10)] = [0; Store::table_entries(1 << 16, 10)];
+    /// assert_eq!(TABLE.len(), 48 * 32); // 48 for each division of 2^(10 + 1) bytes
+    /// ```
+    pub const fn table_entries(image_len: usize, slot_exponent: u32) -> usize {
+        48 * ((image_len.saturating_sub(1) >> ((slot_exponent & 15) + 1)) + 1)
+    }
+
+    /// A fresh store: zeroes the image, writes its superblock and one free block, and zeroes the used table entries.
+    ///
+    /// Entries beyond the used ones stay as they are. A larger slot exponent makes the table smaller and more objects
+    /// small-framed; a smaller one suits a small image.
+    ///
+    /// Refused with, in this order: [`BadExponent`](Refusal::BadExponent), [`BadLength`](Refusal::BadLength),
+    /// [`TooFewEntries`](Refusal::TooFewEntries).
+    ///
+    /// ```
+    /// use cueledger::{Refusal, Store};
+    ///
+    /// let mut image = [0u8; 1024];
+    /// let mut table = [0u64; Store::table_entries(1024, 9)];
+    /// assert_eq!(Store::set_up(&mut image, &mut table, 5).err(), Some(Refusal::BadExponent));
+    /// assert_eq!(Store::set_up(&mut image[..63], &mut table, 9).err(), Some(Refusal::BadLength));
+    /// assert_eq!(Store::set_up(&mut image, &mut table[1..], 9).err(), Some(Refusal::TooFewEntries));
+    /// assert!(Store::set_up(&mut image, &mut table, 9).is_ok());
+    /// ```
+    #[inline]
+    pub fn set_up(image: &'a mut [u8], table: &'a mut [u64], slot_exponent: u32) -> Result<Store<'a>, Refusal> {
+        // SAFETY: both slices are valid for the call and, borrowed mutably, do not overlap.
+        let number = unsafe { ffi::cue_setup(image.as_mut_ptr(), image.len(), table.as_mut_ptr(), table.len(), slot_exponent) };
+        answer(number, Store { image, table })
+    }
+
+    /// The store that an image and a table already hold.
+    ///
+    /// The two tests that every call begins with are made here, so none of the methods gives their refusals:
+    /// [`BadSuperblock`](Refusal::BadSuperblock), [`ShortTable`](Refusal::ShortTable), in this order. Headers and entries are not
+    /// looked at.
+    ///
+    /// ```
+    /// use cueledger::{Refusal, Store, Width};
+    ///
+    /// let mut image = [0u8; 1024];
+    /// let mut table = [0u64; Store::table_entries(1024, 9)];
+    /// assert_eq!(Store::open(&mut image, &mut table).err(), Some(Refusal::BadSuperblock));
+    ///
+    /// let record = Store::set_up(&mut image, &mut table, 9)?.allocate(10, 7)?;
+    /// assert_eq!(Store::open(&mut image, &mut table[1..]).err(), Some(Refusal::ShortTable));
+    ///
+    /// let (mut saved_image, mut saved_table) = (image.to_vec(), table.to_vec());
+    /// assert_eq!(Store::open(&mut saved_image, &mut saved_table)?.load(record, Width::Four), Ok(0));
+    /// # Ok::<(), Refusal>(())
+    /// ```
+    #[inline]
+    pub fn open(image: &'a mut [u8], table: &'a mut [u64]) -> Result<Store<'a>, Refusal> {
+        let store = Store { image, table };
+        // no slot exponent admits tag number 0, so a sound superblock and table leave BadTag
+        match store.offset(Pointer::from(0), 0) {
+            Err(refusal @ (Refusal::BadSuperblock | Refusal::ShortTable)) => Err(refusal),
+            _ => Ok(store),
+        }
+    }
+
+    /// The image's bytes, to save them.
+    ///
+    /// ```
+    /// # use cueledger::{Refusal, Store};
+    /// # let (mut image, mut table) = ([0u8; 1024], [0u64; Store::table_entries(1024, 9)]);
+    /// let store = Store::set_up(&mut image, &mut table, 9)?;
+    /// assert_eq!(store.image()[..8], [16, 0, 0, 0, 3, 0, 9, 0]); // length, kind and slot exponent
+    /// # Ok::<(), Refusal>(())
+    /// ```
+    pub const fn image(&self) -> &[u8] {
+        self.image
+    }
+
+    /// The table's entries, to save them.
+    ///
+    /// ```
+    /// # use cueledger::{Refusal, Store};
+    /// # let (mut image, mut table) = ([0u8; 1024], [0u64; Store::table_entries(1024, 9)]);
+    /// let mut store = Store::set_up(&mut image, &mut table, 9)?;
+    /// store.allocate(600, 7)?; // too large for a slot of 2^9 bytes: its entry holds the header's place
+    /// assert_eq!(store.table()[0], 16);
+    /// # Ok::<(), Refusal>(())
+    /// ```
+    pub const fn table(&self) -> &[u64] {
+        self.table
+    }
+
+    /// Allocates `size` bytes in the lowest free block that fits and gives the tagged pointer to their start.
+    ///
+    /// The body is not written; it is zero on an image that only these calls have written since [`Store::set_up`].
+    ///
+    /// Refused with, in this order: [`Empty`](Refusal::Empty); [`Unsound`](Refusal::Unsound) or [`NoSpace`](Refusal::NoSpace), as
+    /// the walk over the blocks ends; [`EntryTaken`](Refusal::EntryTaken), which never occurs where only these calls have written.
+    ///
+    /// ```
+    /// # use cueledger::{Refusal, Store};
+    /// # let (mut image, mut table) = ([0u8; 1024], [0u64; Store::table_entries(1024, 9)]);
+    /// let mut store = Store::set_up(&mut image, &mut table, 9)?;
+    /// assert_eq!(store.allocate(10, 7)?.address(), 32); // 16 bytes of superblock, 16 of header
+    /// assert_eq!(store.allocate(0, 7), Err(Refusal::Empty));
+    /// assert_eq!(store.allocate(1000, 7), Err(Refusal::NoSpace));
+    /// # Ok::<(), Refusal>(())
+    /// ```
+    #[inline]
+    pub fn allocate(&mut self, size: u32, type_number: u16) -> Result<Pointer, Refusal> {
+        let mut pointer = 0;
+        // SAFETY: as in `set_up`; `pointer` is a local of its own.
+        let number =
+            unsafe { ffi::cue_allocate(self.image.as_mut_ptr(), self.image.len(), self.table.as_mut_ptr(), self.table.len(), size, type_number, &mut pointer) };
+        answer(number, pointer.into())
+    }
+
+    /// Moves a pointer by a signed distance (C: `cue_move`). The tag stays; no header is read.
+    ///
+    /// The new address must be in the pointer's slot or frame, not necessarily in its object.
+    ///
+    /// Refused with, in this order: [`BadTag`](Refusal::BadTag), [`Leaves`](Refusal::Leaves).
+    ///
+    /// ```
+    /// # use cueledger::{Refusal, Store};
+    /// # let (mut image, mut table) = ([0u8; 1024], [0u64; Store::table_entries(1024, 9)]);
+    /// let mut store = Store::set_up(&mut image, &mut table, 9)?;
+    /// let record = store.allocate(10, 7)?; // small-framed, in the slot 0..512
+    /// assert_eq!(store.offset(record, 511 - 32)?.address(), 511);
+    /// assert_eq!(store.offset(record, 512 - 32), Err(Refusal::Leaves));
+    /// # Ok::<(), Refusal>(())
+    /// ```
+    #[inline]
+    pub fn offset(&self, pointer: Pointer, distance: i64) -> Result<Pointer, Refusal> {
+        let mut moved = 0;
+        // SAFETY: both slices are valid for the call and only read; `moved` is a local of its own.
+        let number =
+            unsafe { ffi::cue_move(self.image.as_ptr(), self.image.len(), self.table.as_ptr(), self.table.len(), pointer.into(), distance, &mut moved) };
+        answer(number, moved.into())
+    }
+
+    /// Loads a number of `width` bytes, little-endian.
+    ///
+    /// Refused with, in this order: [`BadTag`](Refusal::BadTag), [`Dangling`](Refusal::Dangling),
+    /// [`OutOfBounds`](Refusal::OutOfBounds).
+    ///
+    /// ```
+    /// # use cueledger::{Refusal, Store, Width};
+    /// # let (mut image, mut table) = ([0u8; 1024], [0u64; Store::table_entries(1024, 9)]);
+    /// let mut store = Store::set_up(&mut image, &mut table, 9)?;
+    /// let record = store.allocate(10, 7)?;
+    /// assert_eq!(store.load(record, Width::Eight), Ok(0));
+    /// assert_eq!(store.load(store.offset(record, 3)?, Width::Eight), Err(Refusal::OutOfBounds));
+    /// # Ok::<(), Refusal>(())
+    /// ```
+    #[inline]
+    pub fn load(&self, pointer: Pointer, width: Width) -> Result<u64, Refusal> {
+        let mut value = 0;
+        // SAFETY: as in `offset`.
+        let number =
+            unsafe { ffi::cue_load(self.image.as_ptr(), self.image.len(), self.table.as_ptr(), self.table.len(), pointer.into(), width.bytes(), &mut value) };
+        answer(number, value)
+    }
+
+    /// Stores a number in `width` bytes, little-endian.
+    ///
+    /// Refused with, in this order: [`TooLarge`](Refusal::TooLarge), [`BadTag`](Refusal::BadTag),
+    /// [`Dangling`](Refusal::Dangling), [`OutOfBounds`](Refusal::OutOfBounds).
+    ///
+    /// ```
+    /// # use cueledger::{Refusal, Store, Width};
+    /// # let (mut image, mut table) = ([0u8; 1024], [0u64; Store::table_entries(1024, 9)]);
+    /// let mut store = Store::set_up(&mut image, &mut table, 9)?;
+    /// let record = store.allocate(10, 7)?;
+    /// store.store(record, Width::Two, 1250)?;
+    /// assert_eq!(store.load(record, Width::Two), Ok(1250));
+    /// assert_eq!(store.store(record, Width::One, 256), Err(Refusal::TooLarge));
+    /// # Ok::<(), Refusal>(())
+    /// ```
+    #[inline]
+    pub fn store(&mut self, pointer: Pointer, width: Width, value: u64) -> Result<(), Refusal> {
+        // SAFETY: both slices are valid for the call and do not overlap; the table is only read.
+        let number =
+            unsafe { ffi::cue_store(self.image.as_mut_ptr(), self.image.len(), self.table.as_ptr(), self.table.len(), pointer.into(), width.bytes(), value) };
+        answer(number, ())
+    }
+
+    /// Frees the object whose start `pointer` is, merges its block with free neighbours and zeroes what it held.
+    ///
+    /// Refused with, in this order: [`BadTag`](Refusal::BadTag), [`Dangling`](Refusal::Dangling), [`NotBase`](Refusal::NotBase),
+    /// [`Unsound`](Refusal::Unsound).
+    ///
+    /// ```
+    /// # use cueledger::{Refusal, Store};
+    /// # let (mut image, mut table) = ([0u8; 1024], [0u64; Store::table_entries(1024, 9)]);
+    /// let mut store = Store::set_up(&mut image, &mut table, 9)?;
+    /// let record = store.allocate(10, 7)?;
+    /// assert_eq!(store.free(store.offset(record, 1)?), Err(Refusal::NotBase));
+    /// store.free(record)?;
+    /// assert_eq!(store.free(record), Err(Refusal::Dangling));
+    /// # Ok::<(), Refusal>(())
+    /// ```
+    #[inline]
+    pub fn free(&mut self, pointer: Pointer) -> Result<(), Refusal> {
+        // SAFETY: as in `set_up`.
+        let number = unsafe { ffi::cue_free(self.image.as_mut_ptr(), self.image.len(), self.table.as_mut_ptr(), self.table.len(), pointer.into()) };
+        answer(number, ())
+    }
+
+    /// Sets `length` bytes to `value`.
+    ///
+    /// Refused with, in this order: [`Empty`](Refusal::Empty), [`BadTag`](Refusal::BadTag), [`Dangling`](Refusal::Dangling),
+    /// [`OutOfBounds`](Refusal::OutOfBounds).
+    ///
+    /// ```
+    /// # use cueledger::{Refusal, Store, Width};
+    /// # let (mut image, mut table) = ([0u8; 1024], [0u64; Store::table_entries(1024, 9)]);
+    /// let mut store = Store::set_up(&mut image, &mut table, 9)?;
+    /// let record = store.allocate(10, 7)?;
+    /// store.fill(record, 10, 0xff)?;
+    /// assert_eq!(store.load(record, Width::Two), Ok(0xffff));
+    /// assert_eq!(store.fill(record, 11, 0xff), Err(Refusal::OutOfBounds));
+    /// # Ok::<(), Refusal>(())
+    /// ```
+    #[inline]
+    pub fn fill(&mut self, pointer: Pointer, length: u32, value: u8) -> Result<(), Refusal> {
+        // SAFETY: as in `store`.
+        let number = unsafe { ffi::cue_fill(self.image.as_mut_ptr(), self.image.len(), self.table.as_ptr(), self.table.len(), pointer.into(), length, value) };
+        answer(number, ())
+    }
+
+    /// Copies `length` bytes from `source` to `target` as if all were read first: the two may overlap.
+    ///
+    /// Refused with, in this order: [`Empty`](Refusal::Empty); the target's [`BadTag`](Refusal::BadTag),
+    /// [`Dangling`](Refusal::Dangling), [`OutOfBounds`](Refusal::OutOfBounds); then the source's.
+    ///
+    /// ```
+    /// # use cueledger::{Refusal, Store, Width};
+    /// # let (mut image, mut table) = ([0u8; 1024], [0u64; Store::table_entries(1024, 9)]);
+    /// let mut store = Store::set_up(&mut image, &mut table, 9)?;
+    /// let record = store.allocate(10, 7)?;
+    /// store.store(record, Width::Eight, 0x0807_0605_0403_0201)?;
+    /// store.copy(store.offset(record, 2)?, record, 8)?; // six bytes in common
+    /// assert_eq!(store.load(record, Width::Eight), Ok(0x0605_0403_0201_0201));
+    /// # Ok::<(), Refusal>(())
+    /// ```
+    #[inline]
+    pub fn copy(&mut self, target: Pointer, source: Pointer, length: u32) -> Result<(), Refusal> {
+        // SAFETY: as in `store`.
+        let number =
+            unsafe { ffi::cue_copy(self.image.as_mut_ptr(), self.image.len(), self.table.as_ptr(), self.table.len(), target.into(), source.into(), length) };
+        answer(number, ())
+    }
+
+    /// Walks the image and counts what is in use.
+    ///
+    /// Refused with [`Unsound`](Refusal::Unsound).
+    ///
+    /// ```
+    /// # use cueledger::{Refusal, Store, Tally};
+    /// # let (mut image, mut table) = ([0u8; 1024], [0u64; Store::table_entries(1024, 9)]);
+    /// let mut store = Store::set_up(&mut image, &mut table, 9)?;
+    /// store.allocate(10, 7)?;
+    /// assert_eq!(store.tally(), Ok(Tally { objects: 1, live_bytes: 10, free_bytes: 998 }));
+    /// # Ok::<(), Refusal>(())
+    /// ```
+    #[inline]
+    pub fn tally(&self) -> Result<Tally, Refusal> {
+        let (mut objects, mut live_bytes, mut free_bytes) = (0, 0, 0);
+        let (image, table) = (self.image(), self.table());
+        // SAFETY: as in `offset`; the three values are locals of their own.
+        let number = unsafe { ffi::cue_tally(image.as_ptr(), image.len(), table.as_ptr(), table.len(), &mut objects, &mut live_bytes, &mut free_bytes) };
+        answer(number, Tally { objects, live_bytes, free_bytes })
+    }
+
+    /// The blocks of the image, free and live, in the order of their places.
+    ///
+    /// ```
+    /// # use cueledger::{Kind, Refusal, Store};
+    /// # let (mut image, mut table) = ([0u8; 1024], [0u64; Store::table_entries(1024, 9)]);
+    /// let mut store = Store::set_up(&mut image, &mut table, 9)?;
+    /// store.allocate(10, 7)?;
+    /// for block in store.blocks() {
+    ///     let block = block?;
+    ///     println!("{} bytes at {}: {:?}", block.extent, block.place, block.kind);
+    /// }
+    /// assert_eq!(store.blocks().filter(|block| block.is_ok_and(|block| block.kind == Kind::Live)).count(), 1);
+    /// # Ok::<(), Refusal>(())
+    /// ```
+    pub const fn blocks(&self) -> Blocks<'_> {
+        Blocks::new(self.image())
+    }
+}
+
+impl fmt::Debug for Store<'_> {
+    fn fmt(&self, f: &mut fmt::Formatter<'_>) -> fmt::Result {
+        f.debug_struct("Store").field("image_len", &self.image.len()).field("table_len", &self.table.len()).finish_non_exhaustive()
+    }
+}

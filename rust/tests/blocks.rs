@@ -1,0 +1,75 @@
+//! The iterator over blocks against the proved tally, on sound and damaged images.
+
+use cueledger::{Blocks, Kind, Refusal, Store, Tally, UnsoundHeader};
+
+const LEN: usize = 192;
+const EXPONENT: u32 = 6;
+
+/// An image with live and free blocks, and its table.
+fn sample() -> ([u8; LEN], [u64; Store::table_entries(LEN, EXPONENT)]) {
+    let (mut image, mut table) = ([0; LEN], [0; Store::table_entries(LEN, EXPONENT)]);
+    let mut store = Store::set_up(&mut image, &mut table, EXPONENT).unwrap();
+    let [_, freed, _] = [10, 20, 30].map(|size| store.allocate(size, 0x0102).unwrap());
+    store.free(freed).unwrap();
+    (image, table)
+}
+
+/// What tally answers, from the iterator's items.
+fn counted(image: &[u8]) -> Result<Tally, Refusal> {
+    let mut tally = Tally { objects: 0, live_bytes: 0, free_bytes: image.len() as u64 - 16 };
+    for block in Blocks::new(image) {
+        let block = block?;
+        assert!(block.extent >= 16 && block.place + block.extent as usize <= image.len(), "{block:?}");
+        tally.objects += u64::from(block.kind == Kind::Live);
+        tally.live_bytes += u64::from(block.size);
+        tally.free_bytes -= u64::from(block.size);
+    }
+    Ok(tally)
+}
+
+#[test]
+fn fields() {
+    let (image, _) = sample();
+    let blocks: Vec<_> = Blocks::new(&image).map(|block| block.unwrap()).map(|b| (b.place, b.extent, b.kind, b.type_number, b.size)).collect();
+    assert_eq!(blocks, [(16, 26, Kind::Live, 0x0102, 10), (42, 36, Kind::Free, 0, 0), (78, 46, Kind::Live, 0x0102, 30), (124, 68, Kind::Free, 0, 0)]);
+}
+
+#[test]
+fn every_damaged_byte() {
+    let (sound, mut table) = sample();
+    let mut refused = 0;
+    for at in 16..LEN {
+        for byte in 0..=255 {
+            let mut image = sound;
+            image[at] = byte;
+            let expected = counted(&image);
+            refused += u32::from(expected.is_err());
+            assert_eq!(Store::open(&mut image, &mut table).unwrap().tally(), expected, "byte {at} set to {byte}");
+        }
+    }
+    assert!(refused > 0);
+}
+
+#[test]
+fn ends_at_the_unsound_header() {
+    let (mut image, mut table) = sample();
+    image[42..46].fill(0xff); // extent
+    let store = Store::open(&mut image, &mut table).unwrap();
+    let mut blocks = store.blocks();
+    assert_eq!(blocks.next().unwrap().unwrap().place, 16);
+    assert_eq!(blocks.next(), Some(Err(UnsoundHeader { place: 42 })));
+    assert_eq!([blocks.next(), blocks.next()], [None, None]);
+    assert_eq!(Refusal::from(UnsoundHeader { place: 42 }), Refusal::Unsound);
+    assert_eq!(UnsoundHeader { place: 42 }.to_string(), "unsound header at 42");
+}
+
+#[test]
+fn any_bytes_of_any_length() {
+    // noise, then what looks like headers at every alignment
+    let bytes: Vec<u8> = (0..512).map(|i| (i * 31 / 7 * i) as u8).chain([16, 0, 0, 0, 1].into_iter().cycle().take(512)).collect();
+    for from in 0..bytes.len() {
+        for to in from..bytes.len().min(from + 100) {
+            assert!(Blocks::new(&bytes[from..to]).count() <= (to - from) / 16 + 1);
+        }
+    }
+}

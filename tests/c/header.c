@@ -1,0 +1,49 @@
+/* The header's macros and names against the library. Compiled as C99 and as C++11. */
+#include "cueledger.h"
+
+#include <stdio.h>
+#include <string.h>
+
+#define LONGEST (1 << 16)
+
+static uint8_t image[LONGEST];
+static uint64_t table[CUE_TABLE_ENTRIES(LONGEST, 6)];
+
+/* constant expressions: 48 for each 2^(s + 1) bytes begun */
+typedef char divisions_whole[CUE_TABLE_ENTRIES(4096, 9) == 48 * 4 ? 1 : -1];
+typedef char divisions_begun[CUE_TABLE_ENTRIES(4096 + 1, 8 + 1) == 48 * 5 ? 1 : -1];
+typedef char least[CUE_TABLE_ENTRIES(64, 15) == 48 ? 1 : -1];
+typedef char most[CUE_TABLE_ENTRIES(1 << 30, 6) == 48 * (1 << 23) ? 1 : -1];
+
+static int failures;
+
+static void expect(const char *what, uint32_t number, uint32_t wanted)
+{
+    if (number != wanted) {
+        printf("%s: %s, not %s\n", what, cue_reason(number), cue_reason(wanted));
+        failures++;
+    }
+}
+
+int main(void)
+{
+    static const size_t lengths[] = {64, 127, 128, 129, 4095, 4096, 4097, LONGEST - 1, LONGEST};
+    uint32_t s, number, other;
+    size_t i;
+
+    for (s = 6; s <= 15; s++)
+        for (i = 0; i < sizeof lengths / sizeof lengths[0]; i++) {
+            size_t entries = CUE_TABLE_ENTRIES(lengths[i], s);
+            expect("one entry too few", cue_setup(image, lengths[i], table, entries - 1, s), CUE_TOO_FEW_ENTRIES);
+            expect("as many as it takes", cue_setup(image, lengths[i], table, entries, s), CUE_ACCEPTED);
+        }
+
+    /* a reason of its own for each number */
+    for (number = CUE_ACCEPTED; number <= CUE_TOO_LARGE + 1; number++)
+        for (other = CUE_ACCEPTED; other < number; other++)
+            if (strcmp(cue_reason(number), cue_reason(other)) == 0) {
+                printf("%u and %u: both \"%s\"\n", (unsigned)other, (unsigned)number, cue_reason(number));
+                failures++;
+            }
+    return failures != 0;
+}
