@@ -9,17 +9,16 @@ use native.Mathlib.Omega.{arith}
 use lib.ListN.{length}
 use lib.Dec.{ltb}
 use borrow.Author.Tests.{lt-ltb, ltb-true, leb-false}
-use Rattle.frame.specs.Pointers.{unpack, goodTag}
-use Rattle.frame.specs.Tags.{isSmall, entryOf}
+use Rattle.frame.specs.Pointers.{unpack}
 use Rattle.block.specs.laws.Booleans.{and-left, and-right, and-both, true-false}
 use Rattle.block.specs.Bytes.{decode, field}
 use Rattle.block.specs.laws.Fields.{field-bytes}
-use Rattle.block.specs.Layout.{extentAt, sizeAt}
+use Rattle.block.specs.Layout.{extentAt}
 use Rattle.block.specs.Walk.{countBlocks}
 use Rattle.block.specs.declared.walk.Counted.{Counted}
 use Rattle.block.specs.declared.walk.Counted.the-variants as counted
-use Rattle.store.specs.State.{State, Outcome, IsAccepted, returned, value, usageNumber}
-use Rattle.store.specs.Calls.{setUp, allocate, load, store, free, fill, copy, tally, goodWidth, located, leadsBack, headerPlace}
+use Rattle.store.specs.State.{State, Outcome, IsAccepted, returned, usageNumber}
+use Rattle.store.specs.Calls.{setUp, allocate, free, copy, tally, located}
 use Rattle.store.specs.laws.Refusals.{demand-iff, refused-some}
 use Rattle.store.specs.Step.{Call, allocates, frees, moves, loads, stores, fills, copies, step}
 use Rattle.store.specs.laws.Tally.{tally-counts}
@@ -31,8 +30,9 @@ use Rattle.store.specs.laws.Fill.{fill-through}
 use Rattle.store.specs.laws.Copy.{copy-through}
 use Rattle.store.specs.declared.answer.Answer.the-variants.{Accepted}
 use Rattle.store.specs.declared.answer.Refusal.the-variants.{OutOfBounds}
-use Rattle.history.specs.Heap.{Object, Heap, start, holds, ownerOf, inside, bytesAt, hear, HearsNoOther}
-use Rattle.history.specs.History.{known, admitted, Configuration, next, after, allAdmitted, begun, In, headerOf, FreeRun, Holds, Demand3, MeetsNoUnsound, NeverUnsound, Tidy, StaysTidy}
+use Rattle.history.specs.Heap.{Object, Heap, holds, inside, hear, HearsNoOther}
+use Rattle.history.specs.History.{known, admitted, Configuration, next, after, allAdmitted, begun, In, headerOf, FreeRun, EntriesApart, PointersApart, PointersLead, FreesExactly, LoadsExactly, StoresExactly, FillsExactly, CopiesExactly, LoadsBytes, EachAllocate, Holds, Demand3}
+use Rattle.history.specs.Tidiness.{MeetsNoUnsound, NeverUnsound, Tidy, StaysTidy}
 use Rattle.history.proofs.Gaps.{Block, extent, blockAt, Clear}
 use Rattle.history.proofs.Image.{counts, no-neighbours, free-zero, tail-zero}
 use Rattle.history.proofs.Heap.{find, find-in, find-place, in-find, places-apart, two-places, known-owner}
@@ -84,28 +84,22 @@ module _ {s L : ℕ} (x : Configuration) (i : Invariant s L (x .state) (x .heap)
   pointer-leads : (o : Object) (p : ℕ) → find (x .heap) (headerOf o) ≡ some o → holds o p ≡ true → Leads i (headerOf o) p
   pointer-leads o p e t = leads i (headerOf o) o p e (i .laid .fine (headerOf o) o e .good p t)
 
-  two-entries : (o o′ : Object) → find (x .heap) (headerOf o) ≡ some o → find (x .heap) (headerOf o′) ≡ some o′ → (headerOf o ≡ headerOf o′ → ⊥)
-      → isSmall s (headerOf o) (o .size) ≡ false → isSmall s (headerOf o′) (o′ .size) ≡ false
-      → entryOf s (headerOf o) (o .size) ≡ entryOf s (headerOf o′) (o′ .size) → ⊥
+  two-entries : (o o′ : Object) → find (x .heap) (headerOf o) ≡ some o → find (x .heap) (headerOf o′) ≡ some o′ → (headerOf o ≡ headerOf o′ → ⊥) → EntriesApart s o o′
   two-entries o o′ e f n l m q =
       entries-differ s L (x .heap) (ranged (i .laid)) (headerOf o) (headerOf o′) o o′ e f n (leb-false _ _ l) (leb-false _ _ m) q
 
-  two-owners : (o o′ : Object) → find (x .heap) (headerOf o) ≡ some o → find (x .heap) (headerOf o′) ≡ some o′ → (headerOf o ≡ headerOf o′ → ⊥)
-      → (p : ℕ) → holds o p ≡ true → holds o′ p ≡ true → ⊥
+  two-owners : (o o′ : Object) → find (x .heap) (headerOf o) ≡ some o → find (x .heap) (headerOf o′) ≡ some o′ → (headerOf o ≡ headerOf o′ → ⊥) → PointersApart o o′
   two-owners o o′ e f n p t u =
       let a : located s (unpack p) (x .state) ≡ Accepted (headerOf o) = pointer-leads o p e t .found in
       let b : located s (unpack p) (x .state) ≡ Accepted (headerOf o′) = pointer-leads o′ p f u .found in
       n cc
 
-  leads-to : (o : Object) → In o (x .heap) → (p : ℕ) → holds o p ≡ true
-      → (goodTag s (unpack p) ≡ true) × (leadsBack s (unpack p) (x .state) ≡ true)
-      × (headerPlace s (unpack p) (x .state .table) ≡ headerOf o) × (headerOf o + 16 ≡ start o)
-      × (sizeAt (x .state .image) (headerOf o) ≡ o .size)
+  leads-to : PointersLead s x
   leads-to o m p t =
       let l : Leads i (headerOf o) p = pointer-leads o p (at-place o m) t in
       (l .tag, l .back, l .place, sym (about o m .begins), about o m .size)
 
-  free-iff : (p : ℕ) → p < 2 ^ 64 → IsAccepted (free p (x .state)) ↔ ((o : Object) × In o (x .heap) × (o .answer ≡ p))
+  free-iff : FreesExactly x
   free-iff p fits = go (freeing i p fits)
     where
       go : Freeing s L (x .state) (x .heap) p → IsAccepted (free p (x .state)) ↔ ((o : Object) × In o (x .heap) × (o .answer ≡ p))
@@ -115,33 +109,28 @@ module _ {s L : ℕ} (x : Configuration) (i : Invariant s L (x .state) (x .heap)
         λ (w : (o : Object) × In o (x .heap) × (o .answer ≡ p)). absurd (n (w .0) (w .1) (w .2)),
       )
 
-  load-iff : (o : Object) (p : ℕ) → ownerOf (x .heap) p ≡ some o → (width : ℕ) → goodWidth width ≡ true
-      → IsAccepted (load p width (x .state)) ↔ (inside o p width ≡ true)
-  load-iff o p e width g =
+  load-iff : LoadsExactly x
+  load-iff width g o p e =
       rw (load-through s (x .state) (opens i) p width (unpack p .address) (inside o p width) g (accesses i p o width e))
       (demand-iff (inside o p width) OutOfBounds (field (x .state .image) (unpack p .address) width))
 
-  load-value : (o : Object) (p : ℕ) → ownerOf (x .heap) p ≡ some o → (width : ℕ) → goodWidth width ≡ true
-      → IsAccepted (load p width (x .state)) → value (load p width (x .state) .answer) ≡ decode (bytesAt o p width)
+  load-value : LoadsBytes x
   load-value o p e width g a =
-      let t : inside o p width ≡ true = load-iff o p e width g .0 a in
+      let t : inside o p width ≡ true = load-iff width g o p e .0 a in
       rw (load-through s (x .state) (opens i) p width (unpack p .address) (inside o p width) g (accesses i p o width e), t)
       (field-bytes (x .state .image) (unpack p .address) width ∙ ap decode (read-through i p o width e t))
 
-  store-iff : (o : Object) (p : ℕ) → ownerOf (x .heap) p ≡ some o → (width v : ℕ) → goodWidth width ≡ true → v < 256 ^ width
-      → IsAccepted (store p width v (x .state)) ↔ (inside o p width ≡ true)
-  store-iff o p e width v g l =
+  store-iff : StoresExactly x
+  store-iff width v g l o p e =
       rw (store-through s (x .state) (opens i) p width v (unpack p .address) (inside o p width) g (lt-ltb _ _ l) (accesses i p o width e))
       (through-iff (x .state) (inside o p width) (unpack p .address) _)
 
-  fill-iff : (o : Object) (p : ℕ) → ownerOf (x .heap) p ≡ some o → (n byte : ℕ) → 0 < n → n < 2 ^ 32 → byte < 256
-      → IsAccepted (fill p n byte (x .state)) ↔ (inside o p n ≡ true)
-  fill-iff o p e n byte l u b =
+  fill-iff : FillsExactly x
+  fill-iff n byte l u b o p e =
       rw (fill-through s (x .state) (opens i) p n byte (unpack p .address) (inside o p n) (lt-ltb 0 n l) (accesses i p o n e))
       (through-iff (x .state) (inside o p n) (unpack p .address) _)
 
-  copy-iff : (o o′ : Object) (t p : ℕ) → ownerOf (x .heap) t ≡ some o → ownerOf (x .heap) p ≡ some o′ → (n : ℕ) → 0 < n → n < 2 ^ 32
-      → IsAccepted (copy t p n (x .state)) ↔ ((inside o t n ≡ true) × (inside o′ p n ≡ true))
+  copy-iff : CopiesExactly x
   copy-iff o o′ t p e f n l u =
       let w : IsAccepted (copy t p n (x .state)) ↔ (inside o t n && inside o′ p n ≡ true) =
       rw (copy-through s (x .state) (opens i) t p n (unpack p .address) (inside o t n) (inside o′ p n) (lt-ltb 0 n l) (accesses i t o n e) (accesses i p o′ n f))
@@ -204,23 +193,16 @@ module _ {s L : ℕ} (x : Configuration) (i : Invariant s L (x .state) (x .heap)
       go (given h c f j) = nought (number _ f) h (clear-run h (16 + size) c)
 
   -- no other number
-  never : (size type n : ℕ) → type < 2 ^ 16 → returned (allocate size type (x .state) .answer) ≡ n → (n ≡ 0 → ⊥) → (n ≡ 6 → ⊥) → (n ≡ 8 → ⊥) → ⊥
-  never size type n fits e a b c = go (allocate-returns size type fits)
+  never : (n : ℕ) → (n ≡ 0 → ⊥) → (n ≡ 6 → ⊥) → (n ≡ 8 → ⊥) → EachAllocate (x .state) (λ size r. r ≡ n → ⊥)
+  never n a b c size type l fits e = go (allocate-returns size type fits)
     where
       go : Returns size type → ⊥
       go (six z f) = b (sym e ∙ f)
       go (eight f r) = c (sym e ∙ f)
       go (nought f k r) = a (sym e ∙ f)
 
-  never-nine : (size type : ℕ) → size < 2 ^ 32 → type < 2 ^ 16 → returned (allocate size type (x .state) .answer) ≡ 9 → ⊥
-  never-nine size type l fits e = never size type 9 fits e (λ z. omega arith) (λ z. omega arith) (λ z. omega arith)
-
-  never-seven : (size type : ℕ) → size < 2 ^ 32 → type < 2 ^ 16 → returned (allocate size type (x .state) .answer) ≡ 7 → ⊥
-  never-seven size type l fits e = never size type 7 fits e (λ z. omega arith) (λ z. omega arith) (λ z. omega arith)
-
-  has-room : (size type : ℕ) → 0 < size → size < 2 ^ 32 → type < 2 ^ 16
-      → IsAccepted (allocate size type (x .state)) ↔ ((a : ℕ) × FreeRun x a (16 + size))
-  has-room size type l u fits = go (allocate-returns size type fits)
+  has-room : EachAllocate (x .state) (λ size r. 0 < size → (r ≡ 0) ↔ ((a : ℕ) × FreeRun x a (16 + size)))
+  has-room size type u fits l = go (allocate-returns size type fits)
     where
       go : Returns size type → IsAccepted (allocate size type (x .state)) ↔ ((a : ℕ) × FreeRun x a (16 + size))
       go (six z f) = absurd (omega arith)
@@ -228,9 +210,8 @@ module _ {s L : ℕ} (x : Configuration) (i : Invariant s L (x .state) (x .heap)
           ((λ (e : IsAccepted (allocate size type (x .state))). absurd (omega arith)), λ (w : (a : ℕ) × FreeRun x a (16 + size)). absurd (n (w .0) (w .1)))
       go (nought f a r) = ((λ e. (a, r)), λ w. f)
 
-  has-none : (size type : ℕ) → 0 < size → size < 2 ^ 32 → type < 2 ^ 16
-      → (returned (allocate size type (x .state) .answer) ≡ 8) ↔ ((a : ℕ) → FreeRun x a (16 + size) → ⊥)
-  has-none size type l u fits = go (allocate-returns size type fits)
+  has-none : EachAllocate (x .state) (λ size r. 0 < size → (r ≡ 8) ↔ ((a : ℕ) → FreeRun x a (16 + size) → ⊥))
+  has-none size type u fits l = go (allocate-returns size type fits)
     where
       go : Returns size type → (returned (allocate size type (x .state) .answer) ≡ 8) ↔ ((a : ℕ) → FreeRun x a (16 + size) → ⊥)
       go (six z f) = absurd (omega arith)
@@ -253,7 +234,7 @@ module _ {s L : ℕ} (x : Configuration) (i : Invariant s L (x .state) (x .heap)
         fills = fill-iff;
         copies = copy-iff;
         reads = load-value;
-        no-conflict = never-nine;
+        no-conflict = never 9 (λ z. omega arith) (λ z. omega arith) (λ z. omega arith);
         room = has-room;
         no-space = has-none;
       }
@@ -264,7 +245,11 @@ module _ {s L : ℕ} (x : Configuration) (i : Invariant s L (x .state) (x .heap)
   tally-never counted.Unsound q e = counts (x .state .image) (i .laid .layout) (i .laid .placed) q
 
   pub meets-no-unsound : MeetsNoUnsound (x .state)
-  meets-no-unsound = record { allocates = never-seven; tallies = tally-never (countBlocks (x .state .image)) refl }
+  meets-no-unsound =
+      record {
+        allocates = never 7 (λ z. omega arith) (λ z. omega arith) (λ z. omega arith);
+        tallies = tally-never (countBlocks (x .state .image)) refl;
+      }
 
   pub tidy : Tidy (x .state .image)
   tidy =

@@ -12,10 +12,9 @@ use lib.IntN.{ℤ, pos, negsuc}
 use Rattle.frame.specs.Pointers.{unpack, goodTag}
 use Rattle.frame.specs.Tags.{isSmall, entryOf}
 use Rattle.block.specs.Bytes.{decode}
-use Rattle.block.specs.Layout.{slotExponent, extentAt, sizeAt, isFree, isLive}
-use Rattle.block.specs.Walk.{OnWalk}
-use Rattle.store.specs.State.{State, Outcome, IsAccepted, returned, value, usageNumber}
-use Rattle.store.specs.Calls.{setUp, allocate, load, store, free, fill, copy, tally, goodWidth, leadsBack, headerPlace}
+use Rattle.block.specs.Layout.{slotExponent, extentAt, sizeAt}
+use Rattle.store.specs.State.{State, Outcome, IsAccepted, returned, value}
+use Rattle.store.specs.Calls.{setUp, allocate, load, store, free, fill, copy, goodWidth, leadsBack, headerPlace}
 use Rattle.store.specs.Step.{Call, allocates, frees, moves, loads, stores, fills, copies, step}
 use Rattle.history.specs.Heap.{Object, Heap, start, holds, ownerOf, inside, bytesAt, hear}
 
@@ -87,51 +86,77 @@ pub record FreeRun (x : Configuration) (a n : ℕ) : Type 0 where
   pub outside :
       (o : Object) → In o (x .heap) → (headerOf o + extentAt (x .state .image) (headerOf o) ≤ a) ⊎ (a + n ≤ headerOf o)
 
+-- two large-framed objects have different table entries
+abbrev pub EntriesApart : ℕ → Object → Object → Type 0
+EntriesApart s o o′ =
+    isSmall s (headerOf o) (o .size) ≡ false → isSmall s (headerOf o′) (o′ .size) ≡ false
+    → entryOf s (headerOf o) (o .size) ≡ entryOf s (headerOf o′) (o′ .size) → ⊥
+
+-- no number is a pointer of both
+abbrev pub PointersApart : Object → Object → Type 0
+PointersApart o o′ = (p : ℕ) → holds o p ≡ true → holds o′ p ≡ true → ⊥
+
+-- each pointer of a live object leads to that object's header, start and size
+abbrev pub PointersLead : ℕ → Configuration → Type 0
+PointersLead s x =
+    (o : Object) → In o (x .heap) → (p : ℕ) → holds o p ≡ true
+    → (goodTag s (unpack p) ≡ true) × (leadsBack s (unpack p) (x .state) ≡ true)
+    × (headerPlace s (unpack p) (x .state .table) ≡ headerOf o) × (headerOf o + 16 ≡ start o)
+    × (sizeAt (x .state .image) (headerOf o) ≡ o .size)
+
+-- a free is accepted exactly for a number that allocate gave for a live object
+abbrev pub FreesExactly : Configuration → Type 0
+FreesExactly x = (p : ℕ) → p < 2 ^ 64 → IsAccepted (free p (x .state)) ↔ ((o : Object) × In o (x .heap) × (o .answer ≡ p))
+
+-- through a pointer of a live object, a call is accepted exactly when all n bytes lie inside the pointer's object
+abbrev pub Exactly : Configuration → ℕ → (ℕ → State → Outcome) → Type 0
+Exactly x n call = (o : Object) (p : ℕ) → ownerOf (x .heap) p ≡ some o → IsAccepted (call p (x .state)) ↔ (inside o p n ≡ true)
+
+abbrev pub LoadsExactly : Configuration → Type 0
+LoadsExactly x = (width : ℕ) → goodWidth width ≡ true → Exactly x width (λ p. load p width)
+
+abbrev pub StoresExactly : Configuration → Type 0
+StoresExactly x = (width v : ℕ) → goodWidth width ≡ true → v < 256 ^ width → Exactly x width (λ p. store p width v)
+
+abbrev pub FillsExactly : Configuration → Type 0
+FillsExactly x = (n byte : ℕ) → 0 < n → n < 2 ^ 32 → byte < 256 → Exactly x n (λ p. fill p n byte)
+
+-- a copy, when both the target's bytes and the source's lie inside their objects
+abbrev pub CopiesExactly : Configuration → Type 0
+CopiesExactly x =
+    (o o′ : Object) (t p : ℕ) → ownerOf (x .heap) t ≡ some o → ownerOf (x .heap) p ≡ some o′ → (n : ℕ) → 0 < n → n < 2 ^ 32
+    → IsAccepted (copy t p n (x .state)) ↔ ((inside o t n ≡ true) × (inside o′ p n ≡ true))
+
+-- an accepted load gives the heap's bytes, little-endian
+abbrev pub LoadsBytes : Configuration → Type 0
+LoadsBytes x =
+    (o : Object) (p : ℕ) → ownerOf (x .heap) p ≡ some o → (width : ℕ) → goodWidth width ≡ true
+    → IsAccepted (load p width (x .state)) → value (load p width (x .state) .answer) ≡ decode (bytesAt o p width)
+
+-- a claim about the number that each allocate returns
+abbrev pub EachAllocate : State → (ℕ → ℕ → Type 0) → Type 0
+EachAllocate x P = (size type : ℕ) → size < 2 ^ 32 → type < 2 ^ 16 → P size (returned (allocate size type x .answer))
+
 -- What demand 3 says, and what demand 2 says of its lists.
 pub record Holds (s : ℕ) (x : Configuration) : Type 0 where
   pub slot-exponent : slotExponent (x .state .image) ≡ s
   pub byte-counts : (o : Object) → In o (x .heap) → length (o .bytes) ≡ o .size
   -- no two live objects share a header place, a table entry or a pointer
   pub header-places : Pairwise (x .heap) (λ o o′. headerOf o ≡ headerOf o′ → ⊥)
-  pub entries :
-      Pairwise (x .heap)
-      (λ o o′.
-      isSmall s (headerOf o) (o .size) ≡ false → isSmall s (headerOf o′) (o′ .size) ≡ false
-      → entryOf s (headerOf o) (o .size) ≡ entryOf s (headerOf o′) (o′ .size) → ⊥)
-  pub pointers : Pairwise (x .heap) (λ o o′. (p : ℕ) → holds o p ≡ true → holds o′ p ≡ true → ⊥)
-  -- each pointer of a live object leads to that object's header, start and size
-  pub leads :
-      (o : Object) → In o (x .heap) → (p : ℕ) → holds o p ≡ true
-      → (goodTag s (unpack p) ≡ true) × (leadsBack s (unpack p) (x .state) ≡ true)
-      × (headerPlace s (unpack p) (x .state .table) ≡ headerOf o) × (headerOf o + 16 ≡ start o)
-      × (sizeAt (x .state .image) (headerOf o) ≡ o .size)
-  -- a free is accepted exactly for a number that allocate gave for a live object
-  pub frees : (p : ℕ) → p < 2 ^ 64 → IsAccepted (free p (x .state)) ↔ ((o : Object) × In o (x .heap) × (o .answer ≡ p))
-  -- through pointers of live objects, calls are accepted exactly when all bytes lie inside the pointer's object
-  pub loads :
-      (o : Object) (p : ℕ) → ownerOf (x .heap) p ≡ some o → (width : ℕ) → goodWidth width ≡ true
-      → IsAccepted (load p width (x .state)) ↔ (inside o p width ≡ true)
-  pub stores :
-      (o : Object) (p : ℕ) → ownerOf (x .heap) p ≡ some o → (width v : ℕ) → goodWidth width ≡ true → v < 256 ^ width
-      → IsAccepted (store p width v (x .state)) ↔ (inside o p width ≡ true)
-  pub fills :
-      (o : Object) (p : ℕ) → ownerOf (x .heap) p ≡ some o → (n byte : ℕ) → 0 < n → n < 2 ^ 32 → byte < 256
-      → IsAccepted (fill p n byte (x .state)) ↔ (inside o p n ≡ true)
-  pub copies :
-      (o o′ : Object) (t p : ℕ) → ownerOf (x .heap) t ≡ some o → ownerOf (x .heap) p ≡ some o′ → (n : ℕ) → 0 < n → n < 2 ^ 32
-      → IsAccepted (copy t p n (x .state)) ↔ ((inside o t n ≡ true) × (inside o′ p n ≡ true))
-  -- an accepted load gives the heap's bytes, little-endian
-  pub reads :
-      (o : Object) (p : ℕ) → ownerOf (x .heap) p ≡ some o → (width : ℕ) → goodWidth width ≡ true
-      → IsAccepted (load p width (x .state)) → value (load p width (x .state) .answer) ≡ decode (bytesAt o p width)
-  -- allocate never answers 9, and 8 exactly when no run is long enough
-  pub no-conflict : (size type : ℕ) → size < 2 ^ 32 → type < 2 ^ 16 → returned (allocate size type (x .state) .answer) ≡ 9 → ⊥
-  pub room :
-      (size type : ℕ) → 0 < size → size < 2 ^ 32 → type < 2 ^ 16
-      → IsAccepted (allocate size type (x .state)) ↔ ((a : ℕ) × FreeRun x a (16 + size))
-  pub no-space :
-      (size type : ℕ) → 0 < size → size < 2 ^ 32 → type < 2 ^ 16
-      → (returned (allocate size type (x .state) .answer) ≡ 8) ↔ ((a : ℕ) → FreeRun x a (16 + size) → ⊥)
+  pub entries : Pairwise (x .heap) (EntriesApart s)
+  pub pointers : Pairwise (x .heap) PointersApart
+  pub leads : PointersLead s x
+  -- calls are accepted exactly when they should be, and a load gives what was last written
+  pub frees : FreesExactly x
+  pub loads : LoadsExactly x
+  pub stores : StoresExactly x
+  pub fills : FillsExactly x
+  pub copies : CopiesExactly x
+  pub reads : LoadsBytes x
+  -- allocate never answers 9; a nonzero size is accepted exactly when some run is long enough, and gets 8 exactly when none is
+  pub no-conflict : EachAllocate (x .state) (λ size r. r ≡ 9 → ⊥)
+  pub room : EachAllocate (x .state) (λ size r. 0 < size → (r ≡ 0) ↔ ((a : ℕ) × FreeRun x a (16 + size)))
+  pub no-space : EachAllocate (x .state) (λ size r. 0 < size → (r ≡ 8) ↔ ((a : ℕ) → FreeRun x a (16 + size) → ⊥))
 
 -- A claim about what every history begun by set-up leaves: an accepted set-up on any image and table, then any admitted list of calls.
 abbrev pub AfterEveryHistory : (ℕ → Configuration → Type 0) → Type 0
@@ -142,30 +167,3 @@ AfterEveryHistory P =
 -- Demand 3, whole.
 unfoldable pub Demand3 : Type 0
 Demand3 = AfterEveryHistory Holds
-
--- Further claims.
-
--- no walk of allocate or tally meets an unsound header
-pub record MeetsNoUnsound (x : State) : Type 0 where
-  pub allocates : (size type : ℕ) → size < 2 ^ 32 → type < 2 ^ 16 → returned (allocate size type x .answer) ≡ 7 → ⊥
-  pub tallies : usageNumber (tally x) ≡ 7 → ⊥
-
--- On these histories 7 never comes from allocate or tally.
-unfoldable pub NeverUnsound : Type 0
-NeverUnsound = AfterEveryHistory (λ s x. MeetsNoUnsound (x .state))
-
--- no two free blocks are neighbours; the body of a free block, and what lies behind the body of a live one, is zero
-pub record Tidy (image : List ℕ) : Type 0 where
-  pub apart :
-      (h : ℕ) → OnWalk image h → h < length image → isFree image h ≡ true → h + extentAt image h < length image
-      → isFree image (h + extentAt image h) ≡ false
-  pub free-zero :
-      (h : ℕ) → OnWalk image h → h < length image → isFree image h ≡ true → (i : ℕ) → 16 ≤ i → i < extentAt image h
-      → getD image (h + i) 0 ≡ 0
-  pub tail-zero :
-      (h : ℕ) → OnWalk image h → h < length image → isLive image h ≡ true → (i : ℕ) → 16 + sizeAt image h ≤ i → i < extentAt image h
-      → getD image (h + i) 0 ≡ 0
-
--- These histories leave the image so.
-unfoldable pub StaysTidy : Type 0
-StaysTidy = AfterEveryHistory (λ s x. Tidy (x .state .image))

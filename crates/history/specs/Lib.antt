@@ -2,5 +2,6 @@
 pub mod Heap
 -- claims
 pub mod History
+pub mod Tidiness
 -- worked example
 pub mod Examples

@@ -27,7 +27,7 @@ use Rattle.store.specs.laws.Allocate.{Allocates, allocate-parts, allocat
 use Rattle.store.specs.laws.Free.{Frees, free-parts, free-declined, free-done, length-merged}
 use Rattle.store.specs.laws.Store.{store-parts, store-declined, store-done}
 use Rattle.store.specs.laws.Fill.{fill-parts, fill-declined, fill-done}
-use Rattle.store.specs.laws.Copy.{copy-parts, copy-declined, copy-done}
+use Rattle.store.specs.laws.Copy.{Copies, copy-parts, copy-declined, copy-done}
 use Rattle.store.specs.Step.{Call, allocates, frees, moves, loads, stores, fills, copies, step}
 use Rattle.store.specs.Claims.{RefusalsKeep, KeepsShape, ShapesKept, PointsBack, LeadsBack}
 use Rattle.store.specs.laws.Load.{load-leaves}
@@ -140,7 +140,7 @@ module _ (x : State) where
       go : (a : Answer) → storeChecks word width v x ≡ a → Ended exponent x (store word width v x)
       go (Refused r) e = subst (Ended exponent x) (store-declined word width v x r e) (refused refl refl)
       go (Accepted a) e =
-          let (s, h, o, w, l, k) = store-parts word width v x a e in
+          let k = store-parts word width v x a e .bytes in
           subst (Ended exponent x) (store-done word width v x a e)
           (accepted refl (written exponent x a (encode width v) (omega (arith, length-encode width v, k .inside))))
 
@@ -151,7 +151,7 @@ module _ (x : State) where
       go : (a : Answer) → fillChecks word n x ≡ a → Ended exponent x (fill word n byte x)
       go (Refused r) e = subst (Ended exponent x) (fill-declined word n byte x r e) (refused refl refl)
       go (Accepted a) e =
-          let (s, h, o, l, k) = fill-parts word n x a e in
+          let k = fill-parts word n x a e .bytes in
           let m : length (replicate n byte) ≡ n = length-replicate n byte in
           subst (Ended exponent x) (fill-done word n byte x a e) (accepted refl (written exponent x a (replicate n byte) (omega (arith, k .inside))))
 
@@ -162,10 +162,10 @@ module _ (x : State) where
       go : (a : Answer) → copyChecks target source n x ≡ a → Ended exponent x (copy target source n x)
       go (Refused r) e = subst (Ended exponent x) (copy-declined target source n x r e) (refused refl refl)
       go (Accepted a) e =
-          let (s, h, k, o, l, i, j) = copy-parts target source n x a e in
-          let m : length (take n (drop a (x .image))) ≡ n = length-take-le n (drop a (x .image)) (simp length-drop (omega (arith, j .inside))) in
+          let p : Copies target source n x a = copy-parts target source n x a e in
+          let m : length (take n (drop a (x .image))) ≡ n = length-take-le n (drop a (x .image)) (simp length-drop (omega (arith, p .from .inside))) in
           subst (Ended exponent x) (copy-done target source n x a e)
-          (accepted refl (written exponent x (unpack target .address) (take n (drop a (x .image))) (omega (arith, i .inside))))
+          (accepted refl (written exponent x (unpack target .address) (take n (drop a (x .image))) (omega (arith, p .to .inside))))
 
   -- every call
   ended : (c : Call) → Ended exponent x (step c x)

@@ -6,7 +6,7 @@ use Prim.Native.Nat.{ℕ, _+_, _-_, _≤_, _<_}
 use native.Mathlib.Omega.{arith}
 use lib.Dec.{ltb, eqb}
 use lib.ListN.{length, replicate, length-replicate, replicate-append-replicate}
-use borrow.Author.Tests.{le-leb, lt-leb, le-ltb, lt-ltb, eq-eqb, ne-eqb}
+use borrow.Author.Tests.{le-leb, lt-leb, le-ltb, eq-eqb, ne-eqb}
 use Rattle.block.specs.Bytes.{put}
 use Rattle.block.specs.Layout.{freeHeader, sound, extentAt, kindAt, headerAt}
 use Rattle.block.specs.Walk.{walkTo}
@@ -16,7 +16,7 @@ use Rattle.block.specs.laws.Soundness.{sound-in}
 use Rattle.block.specs.laws.WalkTo.{Behind, at-first, at-later, MeetsBlock, walk-to-meets}
 use Rattle.block.specs.declared.header.Header.{Header}
 use Rattle.block.specs.declared.walk.Met.the-variants as met
-use Rattle.store.specs.Calls.{mergeStart, mergeEnd, released, merged}
+use Rattle.store.specs.Calls.{mergeStart, released, merged}
 use Rattle.store.specs.laws.Free.{merge-start-here, merge-start-free, merge-end-last, merge-end-next, released-merges, released-unsound}
 use Rattle.store.specs.declared.answer.Refusal.the-variants.{Unsound}
 use Rattle.store.specs.declared.release.Release.the-variants as release

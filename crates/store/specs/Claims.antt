@@ -4,7 +4,6 @@ use Prim.Native.Nat.{ℕ, _+_, _^_, _<_}
 use mathlib.Core.Path.{_≡_}
 use mathlib.Core.Bool.{true}
 use lib.ListN.{length, drop}
-use lib.IntN.{ℤ}
 use Rattle.frame.specs.Pointers.{unpack, pack, goodTag}
 use Rattle.frame.specs.Tags.{pointerTo, usedEntries}
 use Rattle.block.specs.Layout.{slotExponent, sizeAt}

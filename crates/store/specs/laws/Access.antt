@@ -21,15 +21,17 @@ use Rattle.store.specs.declared.answer.Refusal.{Refusal}
 use Rattle.store.specs.declared.answer.Refusal.the-variants.{OutOfBounds}
 use Rattle.store.specs.declared.answer.Answer.the-variants.{Accepted, Refused}
 
--- rows 10, 11 and 13 are passed: n bytes from a on lie in the body of the object at h
-pub record Accessed (s : ℕ) (p : Pointer) (n : ℕ) (x : State) (a h : ℕ) : Type 0 where
-  pub object : Located s p x h
+-- rows 10, 11 and 13 are passed: n bytes from a on lie in the body of an object
+pub record Accessed (s : ℕ) (p : Pointer) (n : ℕ) (x : State) (a : ℕ) : Type 0 where
+  pub header : ℕ
+  pub object : Located s p x header
   pub address : a ≡ p .address
-  pub low : h + 16 ≤ a
-  pub high : a + n ≤ h + 16 + sizeAt (x .image) h
+  pub low : header + 16 ≤ a
+  pub high : a + n ≤ header + 16 + sizeAt (x .image) header
   pub inside : a + n ≤ length (x .image)
 
-pub accessed-parts : (s : ℕ) (p : Pointer) (n : ℕ) (x : State) (a : ℕ) → accessed s p n x ≡ Accepted a → (h : ℕ) × Accessed s p n x a h
+-- accepted bytes pass them
+pub accessed-parts : (s : ℕ) (p : Pointer) (n : ℕ) (x : State) (a : ℕ) → accessed s p n x ≡ Accepted a → Accessed s p n x a
 unfolding accessed inBody
 accessed-parts s p n x a e =
     let (h, l, m) = and-then-met (located s p x) _ a e in
@@ -40,7 +42,7 @@ accessed-parts s p n x a e =
     let high : p .address + n ≤ h + 16 + sizeAt (x .image) h = leb-true _ _ (and-right (leb (h + 16) (p .address)) _ (b .0)) in
     let end = sound-end (x .image) h (o .header .is-sound) in
     let body = sound-live (x .image) h (o .header .is-sound) (o .header .is-live) .holds in
-    (h, record { object = o; address = q; low = omega arith; high = omega arith; inside = omega arith })
+    record { header = h; object = o; address = q; low = omega arith; high = omega arith; inside = omega arith }
 
 -- row 13, where rows 10 and 11 are passed
 pub accessed-at : (s : ℕ) (p : Pointer) (n : ℕ) (x : State) (h : ℕ) → located s p x ≡ Accepted h

@@ -41,17 +41,29 @@ module _ (x : State) (s : ℕ) (e : opening x ≡ Accepted s) where
       unfolding copyChecks
       copy-access at a = rw (e, lt-ltb 0 n l, a)
 
--- what an accepted copy says: its number is the source's address
-pub copy-parts : (target source n : ℕ) (x : State) (a : ℕ) → copyChecks target source n x ≡ Accepted a
-    → (s h k : ℕ) × Open x s × (0 < n) × Accessed s (unpack target) n x (unpack target .address) h × Accessed s (unpack source) n x a k
+-- the rows of copy are passed: n bytes go from a, the source's address, to the target's
+pub record Copies (target source n : ℕ) (x : State) (a : ℕ) : Type 0 where
+  pub exponent : ℕ
+  pub opens : Open x exponent
+  pub some : 0 < n
+  pub to : Accessed exponent (unpack target) n x (unpack target .address)
+  pub from : Accessed exponent (unpack source) n x a
+
+-- an accepted copy passes them
+pub copy-parts : (target source n : ℕ) (x : State) (a : ℕ) → copyChecks target source n x ≡ Accepted a → Copies target source n x a
 unfolding copyChecks
 copy-parts target source n x a e =
     let (s, o, m) = and-then-met (opening x) _ a e in
     let l = demand-met (ltb 0 n) Empty _ a m in
     let (b, u, v) = and-then-met (accessed s (unpack target) n x) _ a (l .1) in
-    let (h, i) = accessed-parts s (unpack target) n x b u in
-    let (k, j) = accessed-parts s (unpack source) n x a v in
-    (s, h, k, opening-parts x s o, ltb-true 0 n (l .0), subst (λ (c : ℕ). Accessed s (unpack target) n x c h) (i .address) i, j)
+    let t = accessed-parts s (unpack target) n x b u in
+    record {
+      exponent = s;
+      opens = opening-parts x s o;
+      some = ltb-true 0 n (l .0);
+      to = subst (λ (c : ℕ). Accessed s (unpack target) n x c) (t .address) t;
+      from = accessed-parts s (unpack source) n x a v;
+    }
 
 -- a refused copy leaves all as it was
 pub copy-declined : (target source n : ℕ) (x : State) (r : Refusal) → copyChecks target source n x ≡ Refused r

@@ -35,15 +35,25 @@ module _ (x : State) (s : ℕ) (e : opening x ≡ Accepted s) where
     unfolding fillChecks
     fill-access l = rw (e, lt-ltb 0 n l)
 
--- what an accepted fill says: its number is the address
-pub fill-parts : (word n : ℕ) (x : State) (a : ℕ) → fillChecks word n x ≡ Accepted a
-    → (s h : ℕ) × Open x s × (0 < n) × Accessed s (unpack word) n x a h
+-- the rows of fill are passed: n bytes from a on take the value
+pub record Fills (word n : ℕ) (x : State) (a : ℕ) : Type 0 where
+  pub exponent : ℕ
+  pub opens : Open x exponent
+  pub some : 0 < n
+  pub bytes : Accessed exponent (unpack word) n x a
+
+-- an accepted fill passes them
+pub fill-parts : (word n : ℕ) (x : State) (a : ℕ) → fillChecks word n x ≡ Accepted a → Fills word n x a
 unfolding fillChecks
 fill-parts word n x a e =
     let (s, o, m) = and-then-met (opening x) _ a e in
     let l = demand-met (ltb 0 n) Empty _ a m in
-    let (h, k) = accessed-parts s (unpack word) n x a (l .1) in
-    (s, h, opening-parts x s o, ltb-true 0 n (l .0), k)
+    record {
+      exponent = s;
+      opens = opening-parts x s o;
+      some = ltb-true 0 n (l .0);
+      bytes = accessed-parts s (unpack word) n x a (l .1);
+    }
 
 -- a refused fill leaves all as it was
 pub fill-declined : (word n byte : ℕ) (x : State) (r : Refusal) → fillChecks word n x ≡ Refused r → outcome (Refused r) (x .image) (x .table) ≡ fill word n byte x

@@ -38,16 +38,28 @@ module _ (x : State) (s : ℕ) (e : opening x ≡ Accepted s) where
     unfolding storeChecks
     store-access w l = rw (e, w, l)
 
--- what an accepted store says: its number is the address
-pub store-parts : (word width v : ℕ) (x : State) (a : ℕ) → storeChecks word width v x ≡ Accepted a
-    → (s h : ℕ) × Open x s × (goodWidth width ≡ true) × (v < 256 ^ width) × Accessed s (unpack word) width x a h
+-- the rows of store are passed: the bytes from a on take the value
+pub record Stores (word width v : ℕ) (x : State) (a : ℕ) : Type 0 where
+  pub exponent : ℕ
+  pub opens : Open x exponent
+  pub good-width : goodWidth width ≡ true
+  pub fits : v < 256 ^ width
+  pub bytes : Accessed exponent (unpack word) width x a
+
+-- an accepted store passes them
+pub store-parts : (word width v : ℕ) (x : State) (a : ℕ) → storeChecks word width v x ≡ Accepted a → Stores word width v x a
 unfolding storeChecks
 store-parts word width v x a e =
     let (s, o, m) = and-then-met (opening x) _ a e in
     let w = demand-met (goodWidth width) BadWidth _ a m in
     let l = demand-met (ltb v (256 ^ width)) TooLarge _ a (w .1) in
-    let (h, k) = accessed-parts s (unpack word) width x a (l .1) in
-    (s, h, opening-parts x s o, w .0, ltb-true v (256 ^ width) (l .0), k)
+    record {
+      exponent = s;
+      opens = opening-parts x s o;
+      good-width = w .0;
+      fits = ltb-true v (256 ^ width) (l .0);
+      bytes = accessed-parts s (unpack word) width x a (l .1);
+    }
 
 -- a refused store leaves all as it was
 pub store-declined : (word width v : ℕ) (x : State) (r : Refusal) → storeChecks word width v x ≡ Refused r → outcome (Refused r) (x .image) (x .table) ≡ store word width v x

@@ -19,7 +19,7 @@ enum-known-at : tie.Need-enum-known-at
 enum-known-at c = search needs
 
 fill-requires : tie.Need-fill-requires
-fill-requires c κs = fill-parts _ _ (state _ _) _ (sym (c .before .before .before .before .fillable .ensures) ∙ c .before .before .at .given .1) .4 .inside
+fill-requires c κs = fill-parts _ _ (state _ _) _ (sym (c .before .before .before .before .fillable .ensures) ∙ c .before .before .at .given .1) .bytes .inside
 
 same-length : tie.Need-same-length
 same-length c = search needs

@@ -42,7 +42,7 @@ enum-known-at c = search needs
 
 read-field-requires : tie.Need-read-field-requires
 read-field-requires c κs =
-    let (h, a) = accessed-parts _ _ _ (state _ _) _ (sym (c .before .before .before .access .ensures) ∙ c .before .at .given .1) in
+    let a = accessed-parts _ _ _ (state _ _) _ (sym (c .before .before .before .access .ensures) ∙ c .before .at .given .1) in
     (sym (c .before .before .before .before .before .good-width .ensures) ∙ not-false _ (c .before .before .before .before .if1 .left), a .inside)
 
 returns-2 : tie.Need-returns-2

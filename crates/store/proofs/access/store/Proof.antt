@@ -21,7 +21,7 @@ enum-known-at c = search needs
 write-field-requires : tie.Need-write-field-requires
 write-field-requires c κs =
     let p = store-parts _ _ _ (state _ _) _ (sym (c .before .before .before .before .storable .ensures) ∙ c .before .before .at .given .1) in
-    (p .3, p .5 .inside)
+    (p .good-width, p .bytes .inside)
 
 same-length : tie.Need-same-length
 same-length c = search needs

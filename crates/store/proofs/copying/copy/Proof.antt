@@ -28,7 +28,7 @@ unpack-requires c κs = search needs
 copy-within-requires : tie.Need-copy-within-requires
 copy-within-requires c κs =
     let p = copy-parts _ _ _ (state _ _) _ (sym (c .before .before .before .before .before .copyable .ensures) ∙ c .before .before .before .from .given .1) in
-    (omega (arith, ap (λ (q : Pointer). q .address) (c .before .unpack .ensures), p .5 .inside), p .6 .inside)
+    (omega (arith, ap (λ (q : Pointer). q .address) (c .before .unpack .ensures), p .to .inside), p .from .inside)
 
 same-length : tie.Need-same-length
 same-length c = search needs

@@ -1,12 +1,11 @@
 -- `store::entries::clear_entry`: the tag leads through an entry, or it does not. Assumes nothing.
-use mathlib.Core.Path.{_≡_, sym, ap, _∙_}
+use mathlib.Core.Path.{_≡_, sym}
 use mathlib.Core.Bool.{false}
-use Prim.Native.Nat.{ℕ, _<_, _≤_, _^_}
+use Prim.Native.Nat.{_<_, _≤_, _^_}
 use native.Mathlib.Omega.{arith}
-use lib.ListN.{length, set}
+use lib.ListN.{length}
 use borrow.Author.Tests.{not-true, not-false}
 use Rattle.frame.specs.Frame.{frameStart}
-use Rattle.frame.specs.Tags.{entryAt}
 use Rattle.frame.specs.laws.Pointers.{good-large, reach-large}
 use Rattle.store.specs.laws.Entries.{cleared-small, cleared-large}
 use borrow.Author.Needs.{needs}

@@ -1,5 +1,4 @@
 -- `store::entries::entry_free`: no entry, or the one that the tag has is zero. Assumes nothing.
-use mathlib.Core.Path.{_≡_, _∙_, sym}
 use Prim.Native.Nat.{_<_}
 use native.Mathlib.Omega.{arith}
 use lib.ListN.{length}

@@ -1,5 +1,5 @@
 -- `store::locate` meets its contract: 10 by the tag number, 11 where its slot or frame starts past the image, then 11 by the header found. Assumes nothing.
-use mathlib.Core.Path.{_≡_, sym, ap, _∙_}
+use mathlib.Core.Path.{sym, _∙_}
 use Prim.Native.Nat.{_<_}
 use native.Mathlib.Nat.{lt-of-lt-of-le}
 use native.Mathlib.Omega.{arith}
