@@ -1,6 +1,6 @@
 -- `block::walk::count_blocks`. Invariant: the walk from h on is what is left of the whole walk (`Walking`), and the counts are no more than fit below h.
 -- Measure: the bytes from h to the image's end. Assumes nothing.
-use mathlib.Core.Path.{_≡_, sym, ap, _∙_}
+use mathlib.Core.Path.{sym, ap, _∙_}
 use mathlib.Core.Logic.{⊎-elim}
 use Prim.Native.Nat.{_+_, _*_, _-_, _≤_}
 use native.Mathlib.Omega.{arith}

@@ -1,6 +1,6 @@
 -- `block::walk::walk_to`. Invariant: the walk from h on is what is left of the whole walk (`Walking`). Measure: the bytes from h to the image's end.
 -- Assumes nothing.
-use mathlib.Core.Path.{_≡_, sym, ap, _∙_}
+use mathlib.Core.Path.{sym, ap, _∙_}
 use Prim.Native.Nat.{ℕ, _-_}
 use native.Mathlib.Omega.{arith}
 use lib.ListN.{length}
