@@ -1,7 +1,7 @@
 -- The ways through the test of a tag. Assumes nothing.
 use Prim.Native.Nat.{ℕ, _-_}
 use mathlib.Core.Path.{_≡_}
-use mathlib.Core.Bool.{true, false, not}
+use mathlib.Core.Bool.{Bool, true, false, not}
 use lib.Dec.{eqb}
 use Rattle.frame.specs.Frame.{frameStart, sameFrame}
 use Rattle.frame.specs.Pointers.{goodTag}
@@ -20,5 +20,5 @@ module _ (s h size : ℕ) (p : Pointer) (good : goodTag s p ≡ true) where
   not-within f e = rw (tag-test s h size p good, f, e)
 
   pub within : p .flag ≡ false → sameFrame (p .tag) (firstHeld h) (lastHeld h size) ≡ true
-      → not (sameFrame (p .tag - 1) (firstHeld h) (lastHeld h size)) ≡ tagMatches s h size p
-  within f e = rw (tag-test s h size p good, f, e)
+      → (half : Bool) → half ≡ sameFrame (p .tag - 1) (firstHeld h) (lastHeld h size) → not half ≡ tagMatches s h size p
+  within f e half r = rw (tag-test s h size p good, f, e, r)
