@@ -32,21 +32,17 @@ loop-less c = omega (arith, at-part c .part .ensures .2 (omega arith))
 
 loop-again : tie.Need-loop-again Inv-loop μ-loop
 loop-again c =
-    let turn : tie.At-loop Inv-loop μ-loop = search in
-    let l = turn .loop in
-    let a = start turn .args in
-    let k : ℕ = at-part c .part .result in (
+    let turn : tie.At-loop Inv-loop μ-loop = search in (
       omega arith,
       omega arith,
-      cc (down-turn (a .image .now) (l .image) (a .to) (a .from) (a .n) (l .i) k (omega arith) (omega arith) (omega arith) (l .inv .2)),
+      rw (c .before .before .copy-part .ensures) (down-turn _ _ _ _ (start turn .args .n) _ _ (omega arith) (omega arith) (omega arith) (turn .loop .inv .2)),
     )
 
 returns : tie.Need-returns Inv-loop μ-loop
 returns c =
-    let a = start (c .before) .args in
     let l = c .before .loop in
-    let e : l .i ≡ a .n = omega arith in
-    cc
+    let e : l .i ≡ start (c .before) .args .n = omega arith in
+    rw e at (l .inv .2)
 
 pub copy-down-spec : {M : Type 1} → statement M
 copy-down-spec =

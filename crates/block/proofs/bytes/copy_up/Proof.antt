@@ -35,13 +35,10 @@ loop-less c = omega (arith, at-part c .part .ensures .2 (omega arith))
 
 loop-again : tie.Need-loop-again Inv-loop μ-loop
 loop-again c =
-    let turn : tie.At-loop Inv-loop μ-loop = search in
-    let l = turn .loop in
-    let a = start turn .args in
-    let k : ℕ = at-part c .part .result in (
+    let turn : tie.At-loop Inv-loop μ-loop = search in (
       omega arith,
       omega arith,
-      cc (up-turn (a .image .now) (l .image) (a .to) (a .from) (a .n) (l .i) k (omega arith) (omega arith) (omega arith) (omega arith) (l .inv .2)),
+      rw (c .before .before .copy-part .ensures) (up-turn _ _ _ _ (start turn .args .n) _ _ (omega arith) (omega arith) (omega arith) (omega arith) (turn .loop .inv .2)),
     )
 
 returns : tie.Need-returns Inv-loop μ-loop

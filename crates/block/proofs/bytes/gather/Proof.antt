@@ -31,7 +31,7 @@ returns : tie.Need-returns Inv-loop μ-loop
 returns c =
     let l = c .before .loop in
     let e : l .i ≡ c .before .before .args .k = omega arith in
-    cc
+    rw e at (l .inv .2)
 
 pub gather-spec : {M : Type 1} → statement M
 gather-spec =

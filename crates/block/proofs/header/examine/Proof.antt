@@ -1,7 +1,7 @@
 -- `block::header::examine`: where the first three tests pass, a header stands at h, behind the superblock, and `well_formed` decides. Assumes nothing.
 use mathlib.Core.Path.{_≡_, sym, ap, _∙_}
 use native.Mathlib.Omega.{arith}
-use Rattle.block.specs.Layout.{sound}
+use Rattle.block.specs.Layout.{wellFormed, sound}
 use Rattle.block.specs.laws.Headers.{headerAt-fitting}
 use Rattle.block.specs.laws.Soundness.{sound-by, unsound-low, unsound-past, examined-sound, examined-unsound}
 use Rattle.block.specs.declared.header.Header.{Header}
@@ -35,7 +35,9 @@ start c = c .before .before .before .before .before .before
 
 -- the test of the header that was read is the test of the place
 sound-is : (c : tie.After-well-formed) → let a = start c .args in sound (a .image .now) (a .h) ≡ c .well-formed .result
-sound-is c = let a = start c .args in cc (sound-by (a .image .now) (a .h) (omega arith) (omega arith))
+sound-is c =
+    let a = start c .args in
+    sound-by (a .image .now) (a .h) (omega arith) (omega arith) ∙ ap (wellFormed _ (a .h)) (sym (c .before .read-header .ensures)) ∙ sym (c .well-formed .ensures)
 
 -- the header is sound
 returns-4 : tie.Need-returns-4

@@ -64,7 +64,7 @@ returns-2 : tie.Need-returns-2 Inv-loop μ-loop
 unfolding countBlocks countOf
 returns-2 c =
     let l : tie.At-loop Inv-loop μ-loop = search in
-    ap countOf (at-unsound (l .loop .inv .0) (omega arith) (cc))
+    ap countOf (at-unsound (l .loop .inv .0) (search) (sym (c .before .before .examine .ensures) ∙ c .enum-told .given .1))
 
 pub count-blocks-spec : {M : Type 1} → statement M
 count-blocks-spec =

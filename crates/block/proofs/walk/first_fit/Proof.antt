@@ -58,7 +58,7 @@ returns-2 : tie.Need-returns-2 Inv-loop μ-loop
 unfolding firstFit fitOf
 returns-2 c =
     let l : tie.At-loop Inv-loop μ-loop = search in
-    ap fitOf (at-unsound (l .loop .inv) (omega arith) (cc))
+    ap fitOf (at-unsound (l .loop .inv) (search) (sym (c .before .before .examine .ensures) ∙ c .enum-told .given .1))
 
 -- a free block that is long enough
 returns-3 : tie.Need-returns-3 Inv-loop μ-loop

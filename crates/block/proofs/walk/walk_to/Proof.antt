@@ -57,7 +57,7 @@ returns-2 : tie.Need-returns-2 Inv-loop μ-loop
 unfolding walkTo metOf
 returns-2 c =
     let l : tie.At-loop Inv-loop μ-loop = search in
-    ap (metOf _) (at-unsound (l .loop .inv) (omega arith) (cc))
+    ap (metOf _) (at-unsound (l .loop .inv) (search) (sym (c .before .before .examine .ensures) ∙ c .enum-told .given .1))
 
 -- the block at the target
 returns-3 : tie.Need-returns-3 Inv-loop μ-loop

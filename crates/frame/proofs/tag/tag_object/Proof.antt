@@ -1,6 +1,6 @@
 -- `frame::tag_object`: one slot holds the object just where its wrapper frame is no larger than a slot (`small-test`). Assumes nothing.
 use Prim.Native.Nat.{_≤_, _<_, _^_}
-use mathlib.Core.Path.{_≡_, _∙_}
+use mathlib.Core.Path.{_≡_, sym, _∙_}
 use borrow.Author.Tests.{le-leb, lt-leb, leb-true, leb-false}
 use native.Mathlib.Nat.{div-mul-le-self}
 use native.Mathlib.Omega.{arith}
@@ -15,7 +15,7 @@ abbrev start : tie.After-same-frame → tie.Start
 start c = c .before .before .before
 
 is-small : (c : tie.After-same-frame) → let a = start c .args in isSmall (a .s) (a .h) (a .size) ≡ c .same-frame .result
-is-small c = let a = start c .args in cc (small-test (a .s) (a .h) (a .size))
+is-small c = small-test _ _ _ ∙ sym (rw (c .before .before .first-held .ensures, c .before .last-held .ensures) at (c .same-frame .ensures))
 
 small : (c : tie.Then1) → let a = start (c .before) .args in wrapper (a .h) (a .size) ≤ a .s
 small c = leb-true _ _ (is-small (c .before) ∙ c .if1 .taken)
