@@ -1,7 +1,7 @@
 -- `block::bytes::copy_down`. Invariant: the first i bytes are copied, and those from `from + i` on are as they were. Measure: the bytes left.
 -- Assumes nothing.
 use mathlib.Core.Path.{_≡_, refl, sym}
-use Prim.Native.Nat.{ℕ, _-_, _≤_}
+use Prim.Native.Nat.{_-_, _≤_}
 use native.Mathlib.Omega.{arith}
 use borrow.Author.Needs.{needs}
 use lib.ListN.{length, take, drop}

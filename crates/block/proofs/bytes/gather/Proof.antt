@@ -19,13 +19,10 @@ loop-holds c = (omega arith, refl, refl)
 
 loop-again : tie.Need-loop-again Inv-loop μ-loop
 loop-again c =
-    let turn : tie.At-loop Inv-loop μ-loop = search in
-    let l = turn .loop in
-    let a = turn .before .args in
-    let s = drop (a .from) (a .image .now) in
-    let long : length s ≡ length (a .image .now) - a .from = length-drop (a .from) (a .image .now) in
-    let read = sym (getD-drop (a .from) (a .image .now) (l .i) 0) in
-    (omega arith, simp length-set (l .inv .1), gather-turn s (l .buffer) _ (l .i) (omega arith) (omega arith) read (l .inv .2))
+    let l = c .before .before .loop in
+    let a = c .before .before .before .args in
+    let long : length (drop (a .from) (a .image .now)) ≡ length (a .image .now) - a .from = length-drop (a .from) (a .image .now) in
+    (omega arith, simp length-set (l .inv .1), gather-turn _ (l .buffer) _ (l .i) (omega arith) (omega arith) (sym (getD-drop (a .from) (a .image .now) (l .i) 0)) (l .inv .2))
 
 returns : tie.Need-returns Inv-loop μ-loop
 returns c =

@@ -20,13 +20,8 @@ loop-holds c = (omega arith, refl, sym (put-nil _ _))
 
 loop-again : tie.Need-loop-again Inv-loop μ-loop
 loop-again c =
-    let turn : tie.At-loop Inv-loop μ-loop = search in
-    let l = turn .loop in
-    let a = turn .before .args in (
-      omega arith,
-      simp length-set (l .inv .1),
-      scatter-turn (a .image .now) (l .image) (a .buffer .now) (a .to) (l .i) (omega arith) (omega arith) (l .inv .2),
-    )
+    let l = c .before .before .loop in
+    (omega arith, simp length-set (l .inv .1), scatter-turn _ _ _ _ _ (omega arith) (omega arith) (l .inv .2))
 
 returns : tie.Need-returns Inv-loop μ-loop
 returns c =
