@@ -1,4 +1,4 @@
--- `block::bytes::copy_down`. Invariant: the first i bytes are copied, and those from `from + i` on are as they were. Measure: the bytes left.
+-- `block::bytes::copy_down`. Invariant: just the first i bytes are copied; those still to be read stand above them. Measure: the bytes left.
 -- Assumes nothing.
 use mathlib.Core.Path.{_≡_, refl, sym}
 use Prim.Native.Nat.{_-_, _≤_}
@@ -17,7 +17,7 @@ Inv-loop image₀ to from n i₀ image i = (i ≤ n) × (length image ≡ length
 abbrev μ-loop : tie.MeasureT-loop
 μ-loop image₀ to from n i₀ image i = n - i
 
--- The places: a turn's start, and where it is known how many bytes it copies.
+-- The places: the start, and in a turn where it is known how many bytes it copies.
 abbrev start : tie.At-loop Inv-loop μ-loop → tie.Start Inv-loop μ-loop
 start c = c .before .before
 

@@ -1,4 +1,4 @@
--- `block::bytes::copy_up`. Invariant: the bytes from i on are copied, and those before `from + i` are as they were. Measure: i, the bytes left.
+-- `block::bytes::copy_up`. Invariant: just the bytes from i on are copied; those still to be read stand below them. Measure: i, the bytes left.
 -- Assumes nothing.
 use mathlib.Core.Path.{_≡_, refl, sym, _∙_}
 use Prim.Native.Nat.{_+_, _-_, _≤_}
@@ -18,7 +18,7 @@ Inv-loop image₀ to from n i₀ image i = (i ≤ n) × (length image ≡ length
 abbrev μ-loop : tie.MeasureT-loop
 μ-loop image₀ to from n i₀ image i = i
 
--- The places: a turn's start, and where it is known how many bytes it copies.
+-- The places: the start, and in a turn where it is known how many bytes it copies.
 abbrev start : tie.At-loop Inv-loop μ-loop → tie.Start Inv-loop μ-loop
 start c = c .before .before
 

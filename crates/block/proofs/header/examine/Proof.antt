@@ -22,7 +22,7 @@ returns-2 c = sym (examined-unsound _ _ (unsound-past _ _ (omega arith)))
 returns-3 : tie.Need-returns-3
 returns-3 c = sym (examined-unsound _ _ (unsound-past _ _ (omega arith)))
 
--- the size that was read is one of four bytes
+-- the size that was read fits four bytes
 well-formed-requires : tie.Need-well-formed-requires
 well-formed-requires c κs =
     let known : tie.After-shared-slice-known = search in

@@ -17,7 +17,7 @@ Inv-loop image len objects₀ bytes₀ h₀ objects bytes h = Walking counting i
 abbrev μ-loop : tie.MeasureT-loop
 μ-loop image len objects₀ bytes₀ h₀ objects bytes h = length image - h
 
--- The places: a turn's start, where the header at h is sound, and where its block is counted or passed.
+-- The places: the start; in a turn its start, where the header at h is sound, and where the block is counted or passed.
 abbrev start : tie.At-loop Inv-loop μ-loop → tie.Start Inv-loop μ-loop
 start c = c .before .before
 
@@ -34,10 +34,16 @@ loop-holds : tie.Need-loop-holds Inv-loop μ-loop
 loop-holds c = (begins _ _ _, omega arith)
 
 add-objects : tie.Need-add-objects Inv-loop μ-loop
-add-objects c = let s = seen (c .before .before .before) in omega arith
+add-objects c =
+    let d : tie.After-d Inv-loop μ-loop = search in
+    let s = seen d in
+    omega arith
 
 add-bytes : tie.Need-add-bytes Inv-loop μ-loop
-add-bytes c = let s = seen (c .before .before .before .before) in omega (arith, live-holds s (c .before .if2 .taken))
+add-bytes c =
+    let d : tie.After-d Inv-loop μ-loop = search in
+    let s = seen d in
+    omega (arith, live-holds s (c .before .if2 .taken))
 
 add-h : tie.Need-add-h Inv-loop μ-loop
 add-h c = let s = seen (at-d c) in omega arith

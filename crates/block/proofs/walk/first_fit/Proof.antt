@@ -19,7 +19,7 @@ Inv-loop image need len h₀ h = Walking (fitting need) image tt tt h
 abbrev μ-loop : tie.MeasureT-loop
 μ-loop image need len h₀ h = length image - h
 
--- The places: a turn's start, and where the header at h is sound.
+-- The places: the start; in a turn its start, where the header at h is sound, and where the block is passed.
 abbrev start : tie.At-loop Inv-loop μ-loop → tie.Start Inv-loop μ-loop
 start c = c .before .before
 

@@ -17,7 +17,7 @@ Inv-loop image target len before₀ h₀ before h = Walking (reaching target) im
 abbrev μ-loop : tie.MeasureT-loop
 μ-loop image target len before₀ h₀ before h = length image - h
 
--- The places: a turn's start, where the header at h is sound, and where the block there is passed.
+-- The places: the start; in a turn its start, where the header at h is sound, and where the block is passed.
 abbrev start : tie.At-loop Inv-loop μ-loop → tie.Start Inv-loop μ-loop
 start c = c .before .before
 

@@ -30,26 +30,25 @@ sub-result c = rw (c .frame-start .ensures) (div-mul-le-self _ _)
 -- flagged, and no slot holds the object
 returns : tie.Need-returns
 returns c =
-    let flagged = c .before .before in
+    let flagged : tie.Then1 = search in
     not-small (held (flagged .before)) (flagged .if1 .taken) (sym (c .before .same-frame .ensures) ∙ not-true _ (c .if2 .taken))
 
 -- flagged: the place in the slot decides
 returns-2 : tie.Need-returns-2
 returns-2 c =
-    let test = c .before .before in
-    let flagged = test .before in
-    rw (c .frame-start .ensures) (small (held (flagged .before)) (flagged .if1 .taken) (sym (test .same-frame .ensures) ∙ not-false _ (c .before .if2 .left)))
+    let flagged : tie.Then1 = search in
+    rw (c .frame-start .ensures) (small (held (flagged .before)) (flagged .if1 .taken) (sym (c .before .before .same-frame .ensures) ∙ not-false _ (c .before .if2 .left)))
 
 -- the frame does not hold the object
 returns-3 : tie.Need-returns-3
 returns-3 c =
-    let large = c .before .before in
+    let large : tie.Else1 = search in
     not-within (held (large .before)) (large .if1 .left) (sym (c .before .same-frame2 .ensures) ∙ not-true _ (c .if3 .taken))
 
--- it does: half of it must not
+-- it does: no frame of half its size may
 returns-4 : tie.Need-returns-4
 returns-4 c =
-    let large = at-large (c .before) in
+    let large : tie.Else1 = search in
     rw (c .same-frame3 .ensures) (within (held (large .before)) (large .if1 .left) (sym (c .before .before .same-frame2 .ensures) ∙ not-false _ (c .before .if3 .left)))
 
 pub tag-matches-spec : {M : Type 1} → statement M
