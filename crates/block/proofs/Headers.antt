@@ -32,15 +32,15 @@ put-fields image h a b c d e room =
     let lab : length ab ≡ 6 = length-append (encode 4 a) (encode 2 b) ∙ omega arith in
     let labc : length abc ≡ 8 = length-append ab (encode 2 c) ∙ omega arith in
     let labcd : length abcd ≡ 12 = length-append abc (encode 4 d) ∙ omega arith in
-    ap (λ (x : List ℕ). put (put (put x (h + 6) (encode 2 c)) (h + 8) (encode 4 d)) (h + 12) (encode 4 e)) (put-append image h (encode 4 a) (encode 2 b) (h + 4) (omega arith) (omega arith))
-    ∙ ap (λ (x : List ℕ). put (put x (h + 8) (encode 4 d)) (h + 12) (encode 4 e)) (put-append image h ab (encode 2 c) (h + 6) (omega arith) (omega arith))
-    ∙ ap (λ (x : List ℕ). put x (h + 12) (encode 4 e)) (put-append image h abc (encode 4 d) (h + 8) (omega arith) (omega arith))
-    ∙ put-append image h abcd (encode 4 e) (h + 12) (omega arith) (omega arith)
-    ∙ ap (put image h) (simp append-assoc)
+    rw (put-append image h (encode 4 a) (encode 2 b) (h + 4) (omega arith) (omega arith))
+    (rw (put-append image h ab (encode 2 c) (h + 6) (omega arith) (omega arith))
+    (rw (put-append image h abc (encode 4 d) (h + 8) (omega arith) (omega arith))
+    (put-append image h abcd (encode 4 e) (h + 12) (omega arith) (omega arith) ∙ ap (put image h) (simp append-assoc))))
 
 module _ (L h : ℕ) (d : Header) where
   -- a header that is neither free nor live as it must be
-  pub ill-formed : (16 ≤ d .extent → h + d .extent ≤ L → d .last ≡ 0 → Free d → ⊥) → (h + d .extent ≤ L → d .last ≡ 0 → Live d → ⊥) → wellFormed L h d ≡ false
+  pub ill-formed : (16 ≤ d .extent → h + d .extent ≤ L → d .last ≡ 0 → Free d → ⊥)
+      → (h + d .extent ≤ L → d .last ≡ 0 → Live d → ⊥) → wellFormed L h d ≡ false
   ill-formed f l =
       refuted (wellFormed L h d)
       (λ e. let w = well-formed-parts L h d e in ⊎-elim (f (w .long) (w .inside) (w .zero-last)) (l (w .inside) (w .zero-last)) (w .kinds))
@@ -50,6 +50,7 @@ module _ (L h : ℕ) (d : Header) where
   unfolding wellFormed
   free-by-size a b c e f = simp (le-leb _ _ a, le-leb _ _ b, eq-eqb _ _ c, eq-eqb _ _ e, eq-eqb _ _ f)
 
-  pub live-by-extent : 16 ≤ d .extent → h + d .extent ≤ L → d .last ≡ 0 → d .kind ≡ 2 → 1 ≤ d .size → 16 + d .size ≤ d .extent → wellFormed L h d ≡ leb (d .extent) (31 + d .size)
+  pub live-by-extent : 16 ≤ d .extent → h + d .extent ≤ L → d .last ≡ 0 → d .kind ≡ 2 → 1 ≤ d .size → 16 + d .size ≤ d .extent
+      → wellFormed L h d ≡ leb (d .extent) (31 + d .size)
   unfolding wellFormed
   live-by-extent a b c e f g = simp (le-leb _ _ a, le-leb _ _ b, eq-eqb _ _ c, eq-eqb _ _ e, ne-eqb (d .kind) 1 (omega arith), le-leb _ _ f, le-leb _ _ g)

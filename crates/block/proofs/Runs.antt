@@ -10,7 +10,8 @@ use Rattle.block.specs.Bytes.{put}
 use Rattle.block.specs.laws.Writes.{put-cons, put-nil, put-append, put-before, set-put-end, drop-put-above, part-put-below}
 
 -- filling: what is left to fill, after one byte more
-pub fill-turn : (l : List ℕ) (at n i b : ℕ) → i < n → at + n ≤ length l → put (set l (at + i) b) (at + (i + 1)) (replicate (n - (i + 1)) b) ≡ put l (at + i) (replicate (n - i) b)
+pub fill-turn : (l : List ℕ) (at n i b : ℕ) → i < n → at + n ≤ length l
+    → put (set l (at + i) b) (at + (i + 1)) (replicate (n - (i + 1)) b) ≡ put l (at + i) (replicate (n - i) b)
 fill-turn l at n i b h fits =
     let e : n - i ≡ suc (n - (i + 1)) = omega arith in
     let f : at + (i + 1) ≡ suc (at + i) = omega arith in
@@ -22,7 +23,8 @@ pub fill-none : (l : List ℕ) (at n b : ℕ) → n ≡ 0 → put l at (replicat
 fill-none l at n b e = rw e (put-nil l at)
 
 -- reading into a buffer: what is read, after one byte more
-pub gather-turn : (s buffer : List ℕ) (b i : ℕ) → i < length s → i < length buffer → b ≡ getD s i 0 → take i buffer ≡ take i s → take (i + 1) (set buffer i b) ≡ take (i + 1) s
+pub gather-turn : (s buffer : List ℕ) (b i : ℕ) → i < length s → i < length buffer → b ≡ getD s i 0 → take i buffer ≡ take i s
+    → take (i + 1) (set buffer i b) ≡ take (i + 1) s
 gather-turn s buffer b i h k e f =
     ap (λ (n : ℕ). take n (set buffer i b)) (add-one i)
     ∙ take-suc-set buffer i b k
@@ -31,7 +33,8 @@ gather-turn s buffer b i h k e f =
     ∙ sym (ap (λ (n : ℕ). take n s) (add-one i) ∙ take-suc s i 0 h)
 
 -- writing from a buffer: what is written, after one byte more
-pub scatter-turn : (l image s : List ℕ) (to i : ℕ) → to + i < length l → i < length s → image ≡ put l to (take i s) → set image (to + i) (getD s i 0) ≡ put l to (take (i + 1) s)
+pub scatter-turn : (l image s : List ℕ) (to i : ℕ) → to + i < length l → i < length s → image ≡ put l to (take i s)
+    → set image (to + i) (getD s i 0) ≡ put l to (take (i + 1) s)
 scatter-turn l image s to i fits h e =
     let part : length (take i s) ≡ i = length-take-le i s (omega arith) in
     ap (λ (x : List ℕ). set x (to + i) (getD s i 0)) e
@@ -55,7 +58,8 @@ down-turn l image to from n i k below fits h e =
     ∙ ap (put l to) (sym (take-add i k s))
 
 -- copying from the last part on: what is copied, after k bytes more
-pub up-turn : (l image : List ℕ) (to from n i k : ℕ) → from ≤ to → to + n ≤ length l → k ≤ i → i ≤ n → image ≡ put l (to + i) (take (n - i) (drop (from + i) l))
+pub up-turn : (l image : List ℕ) (to from n i k : ℕ) → from ≤ to → to + n ≤ length l → k ≤ i → i ≤ n
+    → image ≡ put l (to + i) (take (n - i) (drop (from + i) l))
     → put image (to + (i - k)) (take k (drop (from + (i - k)) image)) ≡ put l (to + (i - k)) (take (n - (i - k)) (drop (from + (i - k)) l))
 up-turn l image to from n i k above fits h g e =
     let j : ℕ = i - k in

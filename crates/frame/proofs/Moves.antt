@@ -70,9 +70,9 @@ distance d = toZ w64 (ofZ w64 d)
 abbrev sum : Pointer → ℤ → ℤ
 sum p d = toZ w64 (ofZ w64 (toZ w64 (p .address) +ℤ distance d))
 
-module _ (p : Pointer) (n : ℕ) (d : ℤ) (r : InRange p) (fits : SFits w64 d) where
-  pub far : ltZ (pos top) (distance d) ≡ true → Outside ≡ moved p n d
-  far t = far-out p n d (rw (toZ-ofZ fits) at t)
+module _ {p : Pointer} {d : ℤ} (r : InRange p) (fits : SFits w64 d) where
+  pub far : (n : ℕ) → ltZ (pos top) (distance d) ≡ true → Outside ≡ moved p n d
+  far n t = far-out p n d (rw (toZ-ofZ fits) at t)
 
   module _ (near : ltZ (pos top) (distance d) ≡ false) where
     operands : toZ w64 (p .address) +ℤ distance d ≡ pos (p .address) +ℤ d
@@ -81,23 +81,23 @@ module _ (p : Pointer) (n : ℕ) (d : ℤ) (r : InRange p) (fits : SFits w64 d) 
     pub sum-fits : SFits w64 (toZ w64 (p .address) +ℤ distance d)
     sum-fits = rw operands (record { sfits = sum-small (p .address) d (r .address) (fits .sfits) (rw (toZ-ofZ fits) at near) })
 
-    landed-sum : landed p n (sum p d) ≡ moved p n d
+    landed-sum : (n : ℕ) → landed p n (sum p d) ≡ moved p n d
     unfolding moved
-    landed-sum = ap (landed p n) (toZ-ofZ sum-fits ∙ operands)
+    landed-sum n = ap (landed p n) (toZ-ofZ sum-fits ∙ operands)
 
-    pub negative : ltZ (sum p d) (pos 0) ≡ true → Outside ≡ moved p n d
-    negative t = negative-out p n (sum p d) t ∙ landed-sum
+    pub negative : (n : ℕ) → ltZ (sum p d) (pos 0) ≡ true → Outside ≡ moved p n d
+    negative n t = negative-out p n (sum p d) t ∙ landed-sum n
 
     module _ (positive : ltZ (sum p d) (pos 0) ≡ false) where
       pub address-fits : T (nonNeg (sum p d)) × Fits w64 (natAbs (sum p d))
       address-fits = (not-negative (sum p d) positive, abs-fits (sum p d) (rw (toZ-ofZ sum-fits) sum-fits))
 
-      pub past : top < natAbs (sum p d) → Outside ≡ moved p n d
-      past l = past-out p n (sum p d) (not-negative (sum p d) positive) l ∙ landed-sum
+      pub past : (n : ℕ) → top < natAbs (sum p d) → Outside ≡ moved p n d
+      past n l = past-out p n (sum p d) (not-negative (sum p d) positive) l ∙ landed-sum n
 
-      module _ (low : natAbs (sum p d) ≤ top) where
+      module _ (n : ℕ) (low : natAbs (sum p d) ≤ top) where
         pub within : natAbs (sum p d) / 2 ^ n ≡ p .address / 2 ^ n → To (at p (natAbs (sum p d))) ≡ moved p n d
-        within e = lands p n (sum p d) (not-negative (sum p d) positive) low e ∙ landed-sum
+        within e = lands p n (sum p d) (not-negative (sum p d) positive) low e ∙ landed-sum n
 
         pub elsewhere : (natAbs (sum p d) / 2 ^ n ≡ p .address / 2 ^ n → ⊥) → Outside ≡ moved p n d
-        elsewhere f = leaves-frame p n (sum p d) (not-negative (sum p d) positive) low f ∙ landed-sum
+        elsewhere f = leaves-frame p n (sum p d) (not-negative (sum p d) positive) low f ∙ landed-sum n

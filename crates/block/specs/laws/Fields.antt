@@ -64,6 +64,15 @@ pub field-bound : (image : List ℕ) → Bytes image → (w at : ℕ) → field 
 field-bound image h zero at = rw (field-zero image at) (omega arith)
 field-bound image h (suc w) at = omega (arith, pow-suc 256 w, field-step image at w, field-bound image h w (suc at), h at)
 
+-- a field read in two parts: `low`, its v low bytes, and `high`, the w others
+module _ (image : List ℕ) (v w at low high : ℕ) (l : low ≡ field image at v) (h : high ≡ field image (at + v) w) where
+  pub parts-are : low + 256 ^ v * high ≡ field image at (v + w)
+  parts-are = cc (field-add image v w at)
+
+  -- so the sum fits that many bytes
+  pub parts-fit : Bytes image → low + 256 ^ v * high < 256 ^ (v + w)
+  parts-fit b = rw parts-are (field-bound image b (v + w) at)
+
 -- equal bytes give equal fields
 pub field-ext : (a b : List ℕ) (w at : ℕ) → ((k : ℕ) → at ≤ k → k < at + w → getD a k 0 ≡ getD b k 0) → field a at w ≡ field b at w
 field-ext a b zero at h = field-zero a at ∙ sym (field-zero b at)

@@ -141,13 +141,13 @@ put-before image at a b n e fits =
     ∙ ap (λ (k : ℕ). take at image ++ ((a ++ b) ++ drop k image)) sum
     ∙ sym (put-def image at (a ++ b))
 
--- a number written by two halves of its bytes
-pub put-halves : (image : List ℕ) (at w v : ℕ) → at + (w + w) ≤ length image
-    → put (put image at (encode w v)) (at + w) (encode w (v / 256 ^ w)) ≡ put image at (encode (w + w) v)
-put-halves image at w v fits =
-    let l = length-encode w v in
-    let m = length-encode w (v / 256 ^ w) in
-    put-append image at (encode w v) (encode w (v / 256 ^ w)) (at + w) (omega arith) (omega arith) ∙ ap (put image at) (sym (encode-add w w v))
+-- a number written in two parts: its v low bytes, and the w others
+pub put-parts : (image : List ℕ) (at v w n : ℕ) → at + (v + w) ≤ length image
+    → put (put image at (encode v n)) (at + v) (encode w (n / 256 ^ v)) ≡ put image at (encode (v + w) n)
+put-parts image at v w n fits =
+    let l = length-encode v n in
+    let m = length-encode w (n / 256 ^ v) in
+    put-append image at (encode v n) (encode w (n / 256 ^ v)) (at + v) (omega arith) (omega arith) ∙ ap (put image at) (sym (encode-add v w n))
 
 -- the same bytes, where the image is in parts
 pub put-at : (p old q b : List ℕ) (at : ℕ) → length p ≡ at → length old ≡ length b → put (p ++ (old ++ q)) at b ≡ p ++ (b ++ q)
@@ -185,8 +185,8 @@ unfolding put
 put-nil image at = rw (add-zero at) (take-append-drop at image)
 
 -- an image with a run in it, in parts
-put-parts : (image : List ℕ) (at : ℕ) (bs : List ℕ) → at + length bs ≤ length image → put image at bs ≡ take at image ++ (bs ++ drop (at + length bs) image)
-put-parts image at bs fits = sym (take-append-drop at (put image at bs)) ∙ rw (take-put image at bs fits, drop-put image at bs fits) refl
+put-split : (image : List ℕ) (at : ℕ) (bs : List ℕ) → at + length bs ≤ length image → put image at bs ≡ take at image ++ (bs ++ drop (at + length bs) image)
+put-split image at bs fits = sym (take-append-drop at (put image at bs)) ∙ rw (take-put image at bs fits, drop-put image at bs fits) refl
 
 -- a run put over the front of a longer one
 pub put-over : (image : List ℕ) (at : ℕ) (a b r : List ℕ) → length a ≡ length b → at + length (a ++ r) ≤ length image → put (put image at (a ++ r)) at b ≡ put image at (b ++ r)
@@ -195,8 +195,8 @@ put-over image at a b r e fits =
     let l : at + length (b ++ r) ≤ length image = rw n at fits in
     let q : List ℕ = drop (at + length (a ++ r)) image in
     let p : length (take at image) ≡ at = simp length-take (omega arith) in
-    ap (λ (x : List ℕ). put x at b) (put-parts image at (a ++ r) fits ∙ ap (λ (x : List ℕ). take at image ++ x) (append-assoc a r q))
+    ap (λ (x : List ℕ). put x at b) (put-split image at (a ++ r) fits ∙ ap (λ (x : List ℕ). take at image ++ x) (append-assoc a r q))
     ∙ put-at (take at image) a (r ++ q) b at p e
     ∙ ap (λ (x : List ℕ). take at image ++ x) (sym (append-assoc b r q))
     ∙ ap (λ (k : ℕ). take at image ++ ((b ++ r) ++ drop (at + k) image)) n
-    ∙ sym (put-parts image at (b ++ r) l)
+    ∙ sym (put-split image at (b ++ r) l)

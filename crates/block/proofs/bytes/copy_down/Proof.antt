@@ -1,7 +1,7 @@
--- `block::bytes::copy_down` meets its contract. Assumes nothing.
-use mathlib.Core.Path.{_≡_, refl, sym, ap, _∙_}
-use Prim.Native.Nat.{ℕ, _+_, _-_, _≤_}
-use native.Mathlib.Nat.{add-zero, sub-zero}
+-- `block::bytes::copy_down`. Invariant: just the first i bytes are copied; those still to be read stand above them. Measure: the bytes left.
+-- Assumes nothing.
+use mathlib.Core.Path.{_≡_, refl, sym}
+use Prim.Native.Nat.{_-_, _≤_}
 use native.Mathlib.Omega.{arith}
 use borrow.Author.Needs.{needs}
 use lib.ListN.{length, take, drop}
@@ -17,45 +17,32 @@ Inv-loop image₀ to from n i₀ image i = (i ≤ n) × (length image ≡ length
 abbrev μ-loop : tie.MeasureT-loop
 μ-loop image₀ to from n i₀ image i = n - i
 
+-- The places: the start, and in a turn where it is known how many bytes it copies.
+abbrev start : tie.At-loop Inv-loop μ-loop → tie.Start Inv-loop μ-loop
+start c = c .before .before
+
+abbrev at-part : tie.After-slice-known2 Inv-loop μ-loop → tie.After-part Inv-loop μ-loop
+at-part c = c .before .before .before .before
+
 loop-holds : tie.Need-loop-holds Inv-loop μ-loop
 loop-holds c = (omega arith, refl, sym (put-nil _ _))
 
-sub-part : tie.Need-sub-part Inv-loop μ-loop
-sub-part c = omega arith
-
-part-requires : tie.Need-part-requires Inv-loop μ-loop
-part-requires c κs = search needs
-
-add-copy-part : tie.Need-add-copy-part Inv-loop μ-loop
-add-copy-part c = omega arith
-
-add-copy-part-2 : tie.Need-add-copy-part-2 Inv-loop μ-loop
-add-copy-part-2 c = omega arith
-
-copy-part-requires : tie.Need-copy-part-requires Inv-loop μ-loop
-copy-part-requires c κs = (omega arith, omega arith, omega arith)
-
-add-i : tie.Need-add-i Inv-loop μ-loop
-add-i c = omega arith
-
 loop-less : tie.Need-loop-less Inv-loop μ-loop
-loop-less c = omega (arith, c .before .before .before .before .part .ensures .2 (omega arith))
+loop-less c = omega (arith, at-part c .part .ensures .2 (omega arith))
 
 loop-again : tie.Need-loop-again Inv-loop μ-loop
 loop-again c =
-    let l = c .before .before .before .before .before .before .loop in
-    let a = c .before .before .before .before .before .before .before .before .args in
-    let k : ℕ = c .before .before .before .before .part .result in
-    (omega arith, omega arith, c .before .before .copy-part .ensures ∙ down-turn (a .image .now) (l .image) (a .to) (a .from) (a .n) (l .i) k (omega arith) (omega arith) (omega arith) (l .inv .2))
-
-same-length : tie.Need-same-length Inv-loop μ-loop
-same-length c = omega arith
+    let turn : tie.At-loop Inv-loop μ-loop = search in (
+      omega arith,
+      omega arith,
+      rw (c .before .before .copy-part .ensures) (down-turn _ _ _ _ (start turn .args .n) _ _ (omega arith) (omega arith) (omega arith) (turn .loop .inv .2)),
+    )
 
 returns : tie.Need-returns Inv-loop μ-loop
 returns c =
-    let a = c .before .before .before .args in
-    let e : c .before .loop .i ≡ a .n = omega arith in
-    c .before .loop .inv .2 ∙ ap (λ (k : ℕ). put (a .image .now) (a .to) (take k (drop (a .from) (a .image .now)))) e
+    let l = c .before .loop in
+    let e : l .i ≡ start (c .before) .args .n = omega arith in
+    rw e at (l .inv .2)
 
 pub copy-down-spec : {M : Type 1} → statement M
 copy-down-spec =
@@ -64,13 +51,13 @@ copy-down-spec =
     Inv-loop
     μ-loop
     loop-holds
-    sub-part
-    part-requires
-    add-copy-part
-    add-copy-part-2
-    copy-part-requires
-    add-i
+    (λ c. omega arith)
+    (λ c κs. search needs)
+    (λ c. omega arith)
+    (λ c. omega arith)
+    (λ c κs. (omega arith, omega arith, omega arith))
+    (λ c. omega arith)
     loop-less
     loop-again
-    same-length
+    (λ c. omega arith)
     returns)

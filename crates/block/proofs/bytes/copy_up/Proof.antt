@@ -1,6 +1,7 @@
--- `block::bytes::copy_up` meets its contract. Assumes nothing.
-use mathlib.Core.Path.{_≡_, refl, sym, ap, _∙_}
-use Prim.Native.Nat.{ℕ, _+_, _-_, _≤_}
+-- `block::bytes::copy_up`. Invariant: just the bytes from i on are copied; those still to be read stand below them. Measure: i, the bytes left.
+-- Assumes nothing.
+use mathlib.Core.Path.{_≡_, refl, sym, _∙_}
+use Prim.Native.Nat.{_+_, _-_, _≤_}
 use native.Mathlib.Nat.{add-zero, sub-zero}
 use native.Mathlib.Omega.{arith}
 use borrow.Author.Needs.{needs}
@@ -17,44 +18,34 @@ Inv-loop image₀ to from n i₀ image i = (i ≤ n) × (length image ≡ length
 abbrev μ-loop : tie.MeasureT-loop
 μ-loop image₀ to from n i₀ image i = i
 
+-- The places: the start, and in a turn where it is known how many bytes it copies.
+abbrev start : tie.At-loop Inv-loop μ-loop → tie.Start Inv-loop μ-loop
+start c = c .before .before
+
+abbrev at-part : tie.After-slice-known2 Inv-loop μ-loop → tie.After-part Inv-loop μ-loop
+at-part c = c .before .before .before .before
+
 loop-holds : tie.Need-loop-holds Inv-loop μ-loop
 loop-holds c =
     let e : c .before .args .n - c .before .args .n ≡ 0 = omega arith in
     (omega arith, refl, rw e (sym (put-nil _ _)))
 
-part-requires : tie.Need-part-requires Inv-loop μ-loop
-part-requires c κs = search needs
-
-sub-i : tie.Need-sub-i Inv-loop μ-loop
-sub-i c = omega arith
-
-add-copy-part : tie.Need-add-copy-part Inv-loop μ-loop
-add-copy-part c = omega arith
-
-add-copy-part-2 : tie.Need-add-copy-part-2 Inv-loop μ-loop
-add-copy-part-2 c = omega arith
-
-copy-part-requires : tie.Need-copy-part-requires Inv-loop μ-loop
-copy-part-requires c κs = (omega arith, omega arith, omega arith)
-
 loop-less : tie.Need-loop-less Inv-loop μ-loop
-loop-less c = omega (arith, c .before .before .before .before .part .ensures .2 (omega arith))
+loop-less c = omega (arith, at-part c .part .ensures .2 (omega arith))
 
 loop-again : tie.Need-loop-again Inv-loop μ-loop
 loop-again c =
-    let l = c .before .before .before .before .before .before .loop in
-    let a = c .before .before .before .before .before .before .before .before .args in
-    let k : ℕ = c .before .before .before .before .part .result in
-    (omega arith, omega arith, c .before .before .copy-part .ensures ∙ up-turn (a .image .now) (l .image) (a .to) (a .from) (a .n) (l .i) k (omega arith) (omega arith) (omega arith) (omega arith) (l .inv .2))
-
-same-length : tie.Need-same-length Inv-loop μ-loop
-same-length c = omega arith
+    let turn : tie.At-loop Inv-loop μ-loop = search in (
+      omega arith,
+      omega arith,
+      rw (c .before .before .copy-part .ensures) (up-turn _ _ _ _ (start turn .args .n) _ _ (omega arith) (omega arith) (omega arith) (omega arith) (turn .loop .inv .2)),
+    )
 
 returns : tie.Need-returns Inv-loop μ-loop
 returns c =
-    let a = c .before .before .before .args in
-    let e : c .before .loop .i ≡ 0 = omega arith in
-    c .before .loop .inv .2 ∙ rw e (simp (add-zero, sub-zero))
+    let l = c .before .loop in
+    let e : l .i ≡ 0 = omega arith in
+    l .inv .2 ∙ rw e (simp (add-zero, sub-zero))
 
 pub copy-up-spec : {M : Type 1} → statement M
 copy-up-spec =
@@ -63,12 +54,12 @@ copy-up-spec =
     Inv-loop
     μ-loop
     loop-holds
-    part-requires
-    sub-i
-    add-copy-part
-    add-copy-part-2
-    copy-part-requires
+    (λ c κs. search needs)
+    (λ c. omega arith)
+    (λ c. omega arith)
+    (λ c. omega arith)
+    (λ c κs. (omega arith, omega arith, omega arith))
     loop-less
     loop-again
-    same-length
+    (λ c. omega arith)
     returns)

@@ -1,4 +1,4 @@
--- `block::bytes::fill` meets its contract. Assumes nothing.
+-- `block::bytes::fill`. Invariant: to fill what is left is to fill all. Measure: the bytes left. Assumes nothing.
 use mathlib.Core.Path.{_≡_, refl, sym, _∙_}
 use Prim.Native.Nat.{_+_, _-_, _≤_}
 use native.Mathlib.Nat.{add-zero, sub-zero}
@@ -18,31 +18,16 @@ abbrev μ-loop : tie.MeasureT-loop
 loop-holds : tie.Need-loop-holds Inv-loop μ-loop
 loop-holds c = (omega arith, refl, simp (add-zero, sub-zero))
 
-add-image : tie.Need-add-image Inv-loop μ-loop
-add-image c = omega arith
-
-slice-write-image : tie.Need-slice-write-image Inv-loop μ-loop
-slice-write-image c = omega arith
-
-add-i : tie.Need-add-i Inv-loop μ-loop
-add-i c = omega arith
-
-loop-less : tie.Need-loop-less Inv-loop μ-loop
-loop-less c = omega arith
-
 loop-again : tie.Need-loop-again Inv-loop μ-loop
 loop-again c =
     let l = c .before .loop in
     let a = c .before .before .args in
     (omega arith, simp length-set (l .inv .1), fill-turn (l .image) (a .at) (a .n) (l .i) (a .byte) (c .loop-test .taken) (omega arith) ∙ l .inv .2)
 
-same-length : tie.Need-same-length Inv-loop μ-loop
-same-length c = omega arith
-
 returns : tie.Need-returns Inv-loop μ-loop
 returns c =
-    let a = c .before .before .args in
     let l = c .before .loop in
+    let a = c .before .before .args in
     sym (fill-none (l .image) (a .at + l .i) (a .n - l .i) (a .byte) (omega arith)) ∙ l .inv .2
 
 pub fill-spec : {M : Type 1} → statement M
@@ -52,10 +37,10 @@ fill-spec =
     Inv-loop
     μ-loop
     loop-holds
-    add-image
-    slice-write-image
-    add-i
-    loop-less
+    (λ c. omega arith)
+    (λ c. omega arith)
+    (λ c. omega arith)
+    (λ c. omega arith)
     loop-again
-    same-length
+    (λ c. omega arith)
     returns)

@@ -1,29 +1,26 @@
--- `block::bytes::read4` meets its contract: a field in two halves. Assumes nothing.
-use Prim.Native.Nat.{_+_}
+-- `block::bytes::read4`: the two halves are the field, and so their sum fits 4 bytes. Assumes nothing.
+use Prim.Native.Nat.{_+_, _*_, _^_, _<_}
 use native.Mathlib.Omega.{arith}
-use Rattle.block.specs.laws.Fields.{field-add, field-bound}
+use Rattle.block.specs.laws.Fields.{parts-are, parts-fit}
 use borrow.Author.Needs.{needs}
 use Rattle.block.proofs.bytes.read4.Statement.{statement}
 use Rattle.block.proofs.bytes.read4.Tie as tie
 
-read2-requires : tie.Need-read2-requires
-read2-requires c κs = search needs
-
-add-read2 : tie.Need-add-read2
-add-read2 c = search needs
-
-read2-requires-2 : tie.Need-read2-requires-2
-read2-requires-2 c κs = search needs
-
-mul-result : tie.Need-mul-result
-mul-result c = omega (arith, c .read22 .ensures, field-bound (c .before .before .before .args .image .now) (λ k. c .before .before .shared-slice-known .given k .fits) 2 (c .before .before .before .args .at + 2))
-
-add-result : tie.Need-add-result
-add-result c = omega (arith, c .read22 .ensures, c .before .read2 .ensures, field-bound (c .before .before .before .args .image .now) (λ k. c .before .before .shared-slice-known .given k .fits) 2 (c .before .before .before .args .at), field-bound (c .before .before .before .args .image .now) (λ k. c .before .before .shared-slice-known .given k .fits) 2 (c .before .before .before .args .at + 2))
+sum : (c : tie.After-read22) → c .before .read2 .result + 256 ^ 2 * c .read22 .result < 256 ^ (2 + 2)
+sum c =
+    let known : tie.After-shared-slice-known = search in
+    parts-fit _ 2 2 _ _ _ (c .before .read2 .ensures) (c .read22 .ensures) (λ k. known .shared-slice-known .given k .fits)
 
 returns : tie.Need-returns
-returns c = omega (arith, c .read22 .ensures, c .before .read2 .ensures, field-add (c .before .before .before .args .image .now) 2 2 (c .before .before .before .args .at))
+returns c = parts-are _ 2 2 _ _ _ (c .before .read2 .ensures) (c .read22 .ensures)
 
 pub read4-spec : {M : Type 1} → statement M
 read4-spec =
-    tie.close (tie.spec read2-requires add-read2 read2-requires-2 mul-result add-result returns)
+    tie.close
+    (tie.spec
+    (λ c κs. search needs)
+    (λ c. search needs)
+    (λ c κs. search needs)
+    (λ c. omega (arith, sum c))
+    (λ c. omega (arith, sum c))
+    returns)

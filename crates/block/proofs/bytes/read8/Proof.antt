@@ -1,29 +1,26 @@
--- `block::bytes::read8` meets its contract: a field in two halves. Assumes nothing.
-use Prim.Native.Nat.{_+_}
+-- `block::bytes::read8`: the two halves are the field, and so their sum fits 8 bytes. Assumes nothing.
+use Prim.Native.Nat.{_+_, _*_, _^_, _<_}
 use native.Mathlib.Omega.{arith}
-use Rattle.block.specs.laws.Fields.{field-add, field-bound}
+use Rattle.block.specs.laws.Fields.{parts-are, parts-fit}
 use borrow.Author.Needs.{needs}
 use Rattle.block.proofs.bytes.read8.Statement.{statement}
 use Rattle.block.proofs.bytes.read8.Tie as tie
 
-read4-requires : tie.Need-read4-requires
-read4-requires c κs = search needs
-
-add-read4 : tie.Need-add-read4
-add-read4 c = search needs
-
-read4-requires-2 : tie.Need-read4-requires-2
-read4-requires-2 c κs = search needs
-
-mul-result : tie.Need-mul-result
-mul-result c = omega (arith, c .read42 .ensures, field-bound (c .before .before .before .args .image .now) (λ k. c .before .before .shared-slice-known .given k .fits) 4 (c .before .before .before .args .at + 4))
-
-add-result : tie.Need-add-result
-add-result c = omega (arith, c .read42 .ensures, c .before .read4 .ensures, field-bound (c .before .before .before .args .image .now) (λ k. c .before .before .shared-slice-known .given k .fits) 4 (c .before .before .before .args .at), field-bound (c .before .before .before .args .image .now) (λ k. c .before .before .shared-slice-known .given k .fits) 4 (c .before .before .before .args .at + 4))
+sum : (c : tie.After-read42) → c .before .read4 .result + 256 ^ 4 * c .read42 .result < 256 ^ (4 + 4)
+sum c =
+    let known : tie.After-shared-slice-known = search in
+    parts-fit _ 4 4 _ _ _ (c .before .read4 .ensures) (c .read42 .ensures) (λ k. known .shared-slice-known .given k .fits)
 
 returns : tie.Need-returns
-returns c = omega (arith, c .read42 .ensures, c .before .read4 .ensures, field-add (c .before .before .before .args .image .now) 4 4 (c .before .before .before .args .at))
+returns c = parts-are _ 4 4 _ _ _ (c .before .read4 .ensures) (c .read42 .ensures)
 
 pub read8-spec : {M : Type 1} → statement M
 read8-spec =
-    tie.close (tie.spec read4-requires add-read4 read4-requires-2 mul-result add-result returns)
+    tie.close
+    (tie.spec
+    (λ c κs. search needs)
+    (λ c. search needs)
+    (λ c κs. search needs)
+    (λ c. omega (arith, sum c))
+    (λ c. omega (arith, sum c))
+    returns)

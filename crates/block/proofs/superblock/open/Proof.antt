@@ -1,4 +1,4 @@
--- `block::superblock::open` meets its contract. Assumes nothing.
+-- `block::superblock::open`: each test that fails rules out a field of `Superblock`; where all pass, the exponent is the one read. Assumes nothing.
 use mathlib.Core.Path.{sym, ap, _∙_}
 use native.Mathlib.Omega.{arith}
 use Rattle.block.specs.laws.Superblock.{superblock-good, opened-good, opened-bad}
@@ -7,65 +7,41 @@ use borrow.Author.Needs.{needs}
 use Rattle.block.proofs.superblock.open.Statement.{statement}
 use Rattle.block.proofs.superblock.open.Tie as tie
 
+-- an image that is too short
 returns : tie.Need-returns
 returns c = sym (opened-bad _ (λ p. omega arith))
 
+-- too long
 returns-2 : tie.Need-returns-2
 returns-2 c = sym (opened-bad _ (λ p. omega arith))
 
-read4-requires : tie.Need-read4-requires
-read4-requires c κs = search needs
-
+-- another extent
 returns-3 : tie.Need-returns-3
 returns-3 c = sym (opened-bad _ (λ p. omega arith))
 
-read2-requires : tie.Need-read2-requires
-read2-requires c κs = search needs
-
+-- another kind
 returns-4 : tie.Need-returns-4
 returns-4 c = sym (opened-bad _ (λ p. omega arith))
 
-read4-requires-2 : tie.Need-read4-requires-2
-read4-requires-2 c κs = search needs
-
+-- another length than the image's
 returns-5 : tie.Need-returns-5
 returns-5 c = sym (opened-bad _ (λ p. omega arith))
 
-read4-requires-3 : tie.Need-read4-requires-3
-read4-requires-3 c κs = search needs
-
+-- the last four bytes are not zero
 returns-6 : tie.Need-returns-6
 returns-6 c = sym (opened-bad _ (λ p. omega arith))
 
-slot-exponent-requires : tie.Need-slot-exponent-requires
-slot-exponent-requires c κs = search needs
-
+-- a slot exponent that is too low
 returns-7 : tie.Need-returns-7
 returns-7 c = sym (opened-bad _ (λ p. omega arith))
 
+-- too high
 returns-8 : tie.Need-returns-8
 returns-8 c = sym (opened-bad _ (λ p. omega arith))
 
-cast-t7 : tie.Need-cast-t7
-cast-t7 c = search needs
-
+-- a good superblock
 returns-9 : tie.Need-returns-9
-returns-9 c =
-    ap opening.Exponent (c .before .before .slot-exponent .ensures)
-    ∙ sym
-    (opened-good _
-    (superblock-good _
-    (record {
-      long = omega arith;
-      own-length = omega arith;
-      own-kind = omega arith;
-      exponent-low = omega arith;
-      exponent-high = omega arith;
-      length-low = omega arith;
-      length-high = omega arith;
-      has-length = omega arith;
-      zero-last = omega arith;
-    })))
+returns-9 c = ap opening.Exponent (c .before .before .slot-exponent .ensures) ∙ sym (opened-good _ (superblock-good _ (search needs)))
 
 pub open-spec : {M : Type 1} → statement M
 open-spec =
@@ -73,16 +49,16 @@ open-spec =
     (tie.spec
     returns
     returns-2
-    read4-requires
+    (λ c κs. search needs)
     returns-3
-    read2-requires
+    (λ c κs. search needs)
     returns-4
-    read4-requires-2
+    (λ c κs. search needs)
     returns-5
-    read4-requires-3
+    (λ c κs. search needs)
     returns-6
-    slot-exponent-requires
+    (λ c κs. search needs)
     returns-7
     returns-8
-    cast-t7
+    (λ c. search needs)
     returns-9)

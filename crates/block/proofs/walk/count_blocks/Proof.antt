@@ -1,81 +1,76 @@
--- `block::walk::count_blocks` meets its contract. Assumes nothing.
-use mathlib.Core.Path.{_≡_, refl, sym, ap, _∙_}
+-- `block::walk::count_blocks`. Invariant: the walk from h on is what is left of the whole walk (`Walking`), and the counts are no more than fit below h.
+-- Measure: the bytes from h to the image's end. Assumes nothing.
+use mathlib.Core.Path.{sym, ap, _∙_}
 use mathlib.Core.Logic.{⊎-elim}
 use Prim.Native.Nat.{_+_, _*_, _-_, _≤_}
 use native.Mathlib.Omega.{arith}
 use lib.ListN.{length}
 use borrow.Author.Needs.{needs}
-use Rattle.block.specs.Layout.{examined}
-use Rattle.block.specs.Walk.{walkFrom, walk, Gathered, counting, countOf, countBlocks}
-use Rattle.block.specs.laws.Walks.{walk-ended}
-use Rattle.block.specs.declared.header.Examined.the-variants as examining
-use Rattle.block.proofs.Turns.{gathered, turn-unsound, turn-end, turn-extent, turn-live, count-live, count-other}
+use Rattle.block.specs.Walk.{counting, countOf, countBlocks}
+use Rattle.block.proofs.Turns.{Walking, Seen, seen-at, live-holds, begins, at-end, at-unsound, gathered, counts-live, counts-other}
 use Rattle.block.proofs.walk.count_blocks.Statement.{statement}
 use Rattle.block.proofs.walk.count_blocks.Tie as tie
 
 abbrev Inv-loop : tie.InvT-loop
-Inv-loop image len objects₀ bytes₀ h₀ objects bytes h = (walkFrom counting image (gathered objects bytes) h ≡ walk counting image (gathered 0 0)) × (16 + 16 * objects + bytes ≤ h)
+Inv-loop image len objects₀ bytes₀ h₀ objects bytes h = Walking counting image (gathered 0 0) (gathered objects bytes) h × (16 + 16 * objects + bytes ≤ h)
 
 abbrev μ-loop : tie.MeasureT-loop
 μ-loop image len objects₀ bytes₀ h₀ objects bytes h = length image - h
 
+-- The places: the start; in a turn its start, where the header at h is sound, and where the block is counted or passed.
+abbrev start : tie.At-loop Inv-loop μ-loop → tie.Start Inv-loop μ-loop
+start c = c .before .before
+
+abbrev at-loop : tie.After-d Inv-loop μ-loop → tie.At-loop Inv-loop μ-loop
+at-loop c = c .before .before .before .before
+
+abbrev at-d : tie.After-struct-known3 Inv-loop μ-loop → tie.After-d Inv-loop μ-loop
+at-d c = c .before .before .before .before
+
+seen : (c : tie.After-d Inv-loop μ-loop) → Seen (start (at-loop c) .args .image .now) (at-loop c .loop .h) (c .d .given .0 .0)
+seen c = seen-at _ _ _ (sym (c .before .before .examine .ensures) ∙ c .d .given .1)
+
 loop-holds : tie.Need-loop-holds Inv-loop μ-loop
-unfolding walk
-loop-holds c = (refl, omega arith)
-
-examine-requires : tie.Need-examine-requires Inv-loop μ-loop
-examine-requires c κs = search needs
-
-enum-known-d : tie.Need-enum-known-d Inv-loop μ-loop
-enum-known-d c = search needs
-
-enum-told : tie.Need-enum-told Inv-loop μ-loop
-enum-told c = search needs
-
--- the header that was examined
-seen : (c : tie.After-d Inv-loop μ-loop) → examined (c .before .before .before .before .before .before .args .image .now) (c .before .before .before .before .loop .h) ≡ examining.Sound (c .d .given .0 .0)
-seen c = sym (c .before .before .examine .ensures) ∙ c .d .given .1
+loop-holds c = (begins _ _ _, omega arith)
 
 add-objects : tie.Need-add-objects Inv-loop μ-loop
-add-objects c = omega (arith, turn-end _ _ _ (seen (c .before .before .before)))
+add-objects c =
+    let d : tie.After-d Inv-loop μ-loop = search in
+    let s = seen d in
+    omega arith
 
 add-bytes : tie.Need-add-bytes Inv-loop μ-loop
-add-bytes c = omega (arith, turn-end _ _ _ (seen (c .before .before .before .before)), turn-live _ _ _ (seen (c .before .before .before .before)) (c .before .if2 .taken))
+add-bytes c =
+    let d : tie.After-d Inv-loop μ-loop = search in
+    let s = seen d in
+    omega (arith, live-holds s (c .before .if2 .taken))
 
 add-h : tie.Need-add-h Inv-loop μ-loop
-add-h c = omega (arith, turn-end _ _ _ (seen (c .before .before .before .before)))
+add-h c = let s = seen (at-d c) in omega arith
 
 loop-less : tie.Need-loop-less Inv-loop μ-loop
-loop-less c = omega (arith, turn-end _ _ _ (seen (c .before .before .before .before)), turn-extent _ _ _ (seen (c .before .before .before .before)))
+loop-less c = let s = seen (at-d c) in omega arith
 
 loop-again : tie.Need-loop-again Inv-loop μ-loop
 loop-again c =
-    let l = c .before .before .before .before .before .before .before .before .loop in
-    let image = c .before .before .before .before .before .before .before .before .before .before .args .image .now in
-    let d = c .before .before .before .before .d .given .0 .0 in
-    let e = seen (c .before .before .before .before) in
+    let w = at-loop (at-d c) .loop .inv .0 in
+    let s = seen (at-d c) in
     ⊎-elim
-    (λ w. (
-      ap (λ (x : Gathered). walkFrom counting image x (l .h + d .extent)) (λ i. record { objects = w .2 i; bytes = w .3 i }) ∙ sym (count-live image (l .h) d e (l .objects) (l .bytes) (w .0 .taken)) ∙ l .inv .0,
-      omega (arith, turn-live image (l .h) d e (w .0 .taken), w .2, w .3),
-    ))
-    (λ w. (
-      ap (λ (x : Gathered). walkFrom counting image x (l .h + d .extent)) (λ i. record { objects = w .1 i; bytes = w .2 i }) ∙ sym (count-other image (l .h) d e (l .objects) (l .bytes) (w .0 .left)) ∙ l .inv .0,
-      omega (arith, w .1, w .2),
-    ))
+    (λ j. (rw (j .2, j .3) (counts-live w s (j .0 .taken)), omega (arith, live-holds s (j .0 .taken))))
+    (λ j. (rw (j .1, j .2) (counts-other w s (j .0 .left)), omega arith))
     (c .before .if2 .came)
 
+-- the image's end
 returns : tie.Need-returns Inv-loop μ-loop
 unfolding countBlocks countOf
-returns c =
-    let l = c .before .loop in
-    ap countOf (sym (walk-ended counting _ (gathered (l .objects) (l .bytes)) (l .h) (c .if1 .taken)) ∙ l .inv .0)
+returns c = ap countOf (at-end (c .before .loop .inv .0) (c .if1 .taken))
 
+-- an unsound header
 returns-2 : tie.Need-returns-2 Inv-loop μ-loop
 unfolding countBlocks countOf
 returns-2 c =
-    let l = c .before .before .before .before .loop in
-    ap countOf (sym (turn-unsound counting _ (gathered (l .objects) (l .bytes)) (l .h) (c .before .before .before .if1 .left) (sym (c .before .before .examine .ensures) ∙ c .enum-told .given .1)) ∙ l .inv .0)
+    let l : tie.At-loop Inv-loop μ-loop = search in
+    ap countOf (at-unsound (l .loop .inv .0) (search) (sym (c .before .before .examine .ensures) ∙ c .enum-told .given .1))
 
 pub count-blocks-spec : {M : Type 1} → statement M
 count-blocks-spec =
@@ -84,9 +79,9 @@ count-blocks-spec =
     Inv-loop
     μ-loop
     loop-holds
-    examine-requires
-    enum-known-d
-    enum-told
+    (λ c κs. search needs)
+    (λ c. search needs)
+    (λ c. search needs)
     add-objects
     add-bytes
     add-h

@@ -1,5 +1,5 @@
--- `frame::entry_index` meets its contract. Assumes nothing.
-use Prim.Native.Nat.{_+_}
+-- `frame::entry_index`: the frame starts below 2^30, so that no sum or product wraps. Assumes nothing.
+use Prim.Native.Nat.{_+_, _/_, _^_, _≤_}
 use native.Mathlib.Omega.{arith}
 use lib.Pow.{shr-le}
 use Rattle.frame.specs.Tags.{entryAt}
@@ -7,32 +7,8 @@ use borrow.Author.Needs.{needs}
 use Rattle.frame.proofs.tag.entry_index.Statement.{statement}
 use Rattle.frame.proofs.tag.entry_index.Tie as tie
 
-frame-start-requires : tie.Need-frame-start-requires
-frame-start-requires c κs = search needs
-
-add-result : tie.Need-add-result
-add-result c = search needs
-
-cast-result : tie.Need-cast-result
-cast-result c = search needs
-
-shr-result : tie.Need-shr-result
-shr-result c = search needs
-
-mul-result : tie.Need-mul-result
-mul-result c = omega (arith, c .frame-start .ensures, shr-le (c .frame-start .result) (c .before .args .s + 1))
-
-sub-result : tie.Need-sub-result
-sub-result c = search needs
-
-sub-result-2 : tie.Need-sub-result-2
-sub-result-2 c = search needs
-
-cast-result-2 : tie.Need-cast-result-2
-cast-result-2 c = search needs
-
-add-result-2 : tie.Need-add-result-2
-add-result-2 c = omega (arith, c .frame-start .ensures, shr-le (c .frame-start .result) (c .before .args .s + 1))
+shifted : (c : tie.After-frame-start) → let f = c .frame-start .result in f / 2 ^ (c .before .args .s + 1) ≤ f
+shifted c = shr-le _ _
 
 returns : tie.Need-returns
 unfolding entryAt
@@ -42,13 +18,13 @@ pub entry-index-spec : {M : Type 1} → statement M
 entry-index-spec =
     tie.close
     (tie.spec
-    frame-start-requires
-    add-result
-    cast-result
-    shr-result
-    mul-result
-    sub-result
-    sub-result-2
-    cast-result-2
-    add-result-2
+    (λ c κs. search needs)
+    (λ c. search needs)
+    (λ c. search needs)
+    (λ c. search needs)
+    (λ c. omega (arith, shifted c))
+    (λ c. search needs)
+    (λ c. search needs)
+    (λ c. search needs)
+    (λ c. omega (arith, shifted c))
     returns)

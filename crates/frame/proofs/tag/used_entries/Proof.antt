@@ -1,5 +1,5 @@
--- `frame::used_entries` meets its contract. Assumes nothing.
-use Prim.Native.Nat.{_+_, _-_}
+-- `frame::used_entries`: an image has at most 2^30 bytes, so that no sum or product wraps. Assumes nothing.
+use Prim.Native.Nat.{_+_, _-_, _/_, _^_, _≤_}
 use mathlib.Core.Path.{refl}
 use native.Mathlib.Omega.{arith}
 use lib.Pow.{shr-le}
@@ -8,23 +8,8 @@ use borrow.Author.Needs.{needs}
 use Rattle.frame.proofs.tag.used_entries.Statement.{statement}
 use Rattle.frame.proofs.tag.used_entries.Tie as tie
 
-sub-result : tie.Need-sub-result
-sub-result c = search needs
-
-add-result : tie.Need-add-result
-add-result c = search needs
-
-cast-result : tie.Need-cast-result
-cast-result c = search needs
-
-shr-result : tie.Need-shr-result
-shr-result c = search needs
-
-add-result-2 : tie.Need-add-result-2
-add-result-2 c = omega (arith, shr-le (c .args .len - 1) (c .args .s + 1))
-
-mul-result : tie.Need-mul-result
-mul-result c = omega (arith, shr-le (c .args .len - 1) (c .args .s + 1))
+shifted : (c : tie.Start) → let n = c .args .len - 1 in n / 2 ^ (c .args .s + 1) ≤ n
+shifted c = shr-le _ _
 
 returns : tie.Need-returns
 unfolding usedEntries
@@ -33,4 +18,11 @@ returns c = refl
 pub used-entries-spec : {M : Type 1} → statement M
 used-entries-spec =
     tie.close
-    (tie.spec sub-result add-result cast-result shr-result add-result-2 mul-result returns)
+    (tie.spec
+    (λ c. search needs)
+    (λ c. search needs)
+    (λ c. search needs)
+    (λ c. search needs)
+    (λ c. omega (arith, shifted c))
+    (λ c. omega (arith, shifted c))
+    returns)

@@ -1,97 +1,70 @@
--- `frame::Pointer::tag_matches` meets its contract. Assumes nothing.
-use Prim.Native.Nat.{_^_}
-use mathlib.Core.Path.{_≡_, sym, _∙_}
-use mathlib.Core.Bool.{true, false}
+-- `frame::Pointer::tag_matches`: each way out is a way through the test (`Tests`). Assumes nothing.
+use Prim.Native.Nat.{_≤_, _<_}
+use mathlib.Core.Path.{sym, _∙_}
 use borrow.Author.Tests.{not-true, not-false}
 use native.Mathlib.Nat.{div-mul-le-self}
 use native.Mathlib.Omega.{arith}
-use Rattle.frame.specs.Frame.{sameFrame}
 use Rattle.frame.specs.laws.Pointers.{good-large}
-use Rattle.frame.specs.Tags.{firstHeld, lastHeld}
-use Rattle.frame.proofs.Tests.{not-small, small, not-within, within}
+use Rattle.frame.proofs.Tests.{Held, not-small, small, not-within, within}
 use borrow.Author.Needs.{needs}
 use Rattle.frame.proofs.parts.Pointer.tag_matches.Statement.{statement}
 use Rattle.frame.proofs.parts.Pointer.tag_matches.Tie as tie
 
-first-held-requires : tie.Need-first-held-requires
-first-held-requires c κs = search needs
+-- The places: where both bytes are known, where the pointer is not flagged, and where its frame holds the object.
+abbrev start : tie.After-last-held → tie.Start
+start c = c .before .before
 
-last-held-requires : tie.Need-last-held-requires
-last-held-requires c κs = search needs
+abbrev at-large : tie.Else3 → tie.Else1
+at-large c = c .before .before
 
-same-frame-requires : tie.Need-same-frame-requires
-same-frame-requires c κs = search needs
+held : (c : tie.After-last-held) → let a = start c .args in Held (a .s) (a .h) (a .size) (a .self) (c .before .first-held .result) (c .last-held .result)
+held c = record { good = start c .pre .1; first = c .before .first-held .ensures; last = c .last-held .ensures }
 
-returns : tie.Need-returns
-returns c =
-    let f = c .before .before .before .before in
-    let b = f .before in
-    let e : sameFrame (b .args .s) (firstHeld (b .args .h)) (lastHeld (b .args .h) (b .args .size)) ≡ false = rw (f .first-held .ensures, c .before .before .before .last-held .ensures) at (sym (c .before .same-frame .ensures) ∙ not-true _ (c .if2 .taken)) in
-    not-small (b .args .s) (b .args .h) (b .args .size) (b .args .self) (b .pre .1) (c .before .before .if1 .taken) e
-
-frame-start-requires : tie.Need-frame-start-requires
-frame-start-requires c κs = search needs
+-- the tag number is then the exponent of a frame above the slot's
+exponent : (c : tie.Else1) → let a = start (c .before) .args in (a .s < a .self .tag) × (a .self .tag ≤ 31)
+exponent c = good-large _ _ (c .if1 .left) (start (c .before) .pre .1)
 
 sub-result : tie.Need-sub-result
-sub-result c =
-    let a = c .before .before .before .before .before .before .args in
-    omega (arith, c .frame-start .ensures, div-mul-le-self (a .h) (2 ^ a .s))
+sub-result c = rw (c .frame-start .ensures) (div-mul-le-self _ _)
 
+-- flagged, and no slot holds the object
+returns : tie.Need-returns
+returns c =
+    let flagged : tie.Then1 = search in
+    not-small (held (flagged .before)) (flagged .if1 .taken) (sym (c .before .same-frame .ensures) ∙ not-true _ (c .if2 .taken))
+
+-- flagged: the place in the slot decides
 returns-2 : tie.Need-returns-2
 returns-2 c =
-    let f = c .before .before .before .before .before in
-    let b = f .before in
-    let e : sameFrame (b .args .s) (firstHeld (b .args .h)) (lastHeld (b .args .h) (b .args .size)) ≡ true = rw (f .first-held .ensures, c .before .before .before .before .last-held .ensures) at (sym (c .before .before .same-frame .ensures) ∙ not-false _ (c .before .if2 .left)) in
-    rw (c .frame-start .ensures) (small (b .args .s) (b .args .h) (b .args .size) (b .args .self) (b .pre .1) (c .before .before .before .if1 .taken) e)
+    let flagged : tie.Then1 = search in
+    rw (c .frame-start .ensures) (small (held (flagged .before)) (flagged .if1 .taken) (sym (c .before .before .same-frame .ensures) ∙ not-false _ (c .before .if2 .left)))
 
-cast-n : tie.Need-cast-n
-cast-n c =
-    let b = c .before .before .before in
-    omega (arith, good-large (b .args .s) (b .args .self) (c .if1 .left) (b .pre .1))
-
-same-frame-requires-2 : tie.Need-same-frame-requires-2
-same-frame-requires-2 c κs =
-    let b = c .before .before .before in
-    omega (arith, good-large (b .args .s) (b .args .self) (c .if1 .left) (b .pre .1))
-
+-- the frame does not hold the object
 returns-3 : tie.Need-returns-3
 returns-3 c =
-    let f = c .before .before .before .before in
-    let b = f .before in
-    let e : sameFrame (b .args .self .tag) (firstHeld (b .args .h)) (lastHeld (b .args .h) (b .args .size)) ≡ false = rw (f .first-held .ensures, c .before .before .before .last-held .ensures) at (sym (c .before .same-frame2 .ensures) ∙ not-true _ (c .if3 .taken)) in
-    not-within (b .args .s) (b .args .h) (b .args .size) (b .args .self) (b .pre .1) (c .before .before .if1 .left) e
+    let large : tie.Else1 = search in
+    not-within (held (large .before)) (large .if1 .left) (sym (c .before .same-frame2 .ensures) ∙ not-true _ (c .if3 .taken))
 
-sub-same-frame : tie.Need-sub-same-frame
-sub-same-frame c =
-    let b = c .before .before .before .before .before in
-    omega (arith, good-large (b .args .s) (b .args .self) (c .before .before .if1 .left) (b .pre .1))
-
-same-frame-requires-3 : tie.Need-same-frame-requires-3
-same-frame-requires-3 c κs =
-    let b = c .before .before .before .before .before in
-    omega (arith, good-large (b .args .s) (b .args .self) (c .before .before .if1 .left) (b .pre .1))
-
+-- it does: no frame of half its size may
 returns-4 : tie.Need-returns-4
 returns-4 c =
-    let f = c .before .before .before .before .before in
-    let b = f .before in
-    let e : sameFrame (b .args .self .tag) (firstHeld (b .args .h)) (lastHeld (b .args .h) (b .args .size)) ≡ true = rw (f .first-held .ensures, c .before .before .before .before .last-held .ensures) at (sym (c .before .before .same-frame2 .ensures) ∙ not-false _ (c .before .if3 .left)) in
-    rw (c .same-frame3 .ensures, f .first-held .ensures, c .before .before .before .before .last-held .ensures) (within (b .args .s) (b .args .h) (b .args .size) (b .args .self) (b .pre .1) (c .before .before .before .if1 .left) e)
+    let large : tie.Else1 = search in
+    rw (c .same-frame3 .ensures) (within (held (large .before)) (large .if1 .left) (sym (c .before .before .same-frame2 .ensures) ∙ not-false _ (c .before .if3 .left)))
 
 pub tag-matches-spec : {M : Type 1} → statement M
 tag-matches-spec =
     tie.close
     (tie.spec
-    first-held-requires
-    last-held-requires
-    same-frame-requires
+    (λ c κs. search needs)
+    (λ c κs. search needs)
+    (λ c κs. search needs)
     returns
-    frame-start-requires
+    (λ c κs. search needs)
     sub-result
     returns-2
-    cast-n
-    same-frame-requires-2
+    (λ c. omega (arith, exponent c))
+    (λ c κs. omega (arith, exponent c))
     returns-3
-    sub-same-frame
-    same-frame-requires-3
+    (λ c. omega (arith, exponent (at-large c)))
+    (λ c κs. omega (arith, exponent (at-large c)))
     returns-4)

@@ -1,4 +1,4 @@
--- `frame::Pointer::unpack` meets its contract: a mask of low bits is a remainder. Assumes nothing.
+-- `frame::Pointer::unpack`: a mask of low bits is a remainder. Assumes nothing.
 use Prim.Native.Nat.{_/_, _^_}
 use lib.Bits.{and-mask}
 use lib.Dec.{eqb}
