@@ -5,8 +5,8 @@ use mathlib.Core.Bool.{true, false}
 use Prim.Native.Nat.{ℕ, _+_, _≤_}
 use lib.ListN.{length}
 use borrow.Author.Tests.{eq-eqb}
-use Rattle.block.specs.Layout.{headerAt, sound, examined}
-use Rattle.block.specs.laws.Soundness.{Live, sound-live, sound-extent, sound-end, examined-is-sound, examined-is-unsound}
+use Rattle.block.specs.Layout.{headerAt, sound}
+use Rattle.block.specs.laws.Soundness.{examined, Live, sound-live, sound-extent, sound-end, examined-is-sound, examined-is-unsound}
 use Rattle.block.specs.Walk.{stopped, unsound, ended, Search, walkFrom, walk, Gathered, counting}
 use Rattle.block.specs.laws.Walks.{walk-ended, walk-unsound, walk-stopped, walk-next}
 use Rattle.block.specs.laws.Counting.{used-live, used-other}

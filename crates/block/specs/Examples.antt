@@ -4,7 +4,8 @@ use mathlib.Core.List.{List, _++_}
 use Prim.Native.Nat.{ℕ}
 use lib.ListN.{replicate}
 use Rattle.block.specs.Bytes.{encode, decode, field, put}
-use Rattle.block.specs.Layout.{superblock, superblockGood, opened, header, freeHeader, liveHeader, headerAt, wellFormed, sound}
+use Rattle.block.specs.Layout.{superblock, superblockGood, header, freeHeader, liveHeader, headerAt, wellFormed, sound}
+use Rattle.block.specs.laws.Superblock.{opened}
 use Rattle.block.specs.Walk.{walkIn, walkFrom, walk, fitOf, firstFit, metOf, walkTo, countOf, countBlocks}
 use Rattle.block.specs.declared.superblock.Opened.the-variants as opening
 use Rattle.block.specs.declared.walk.Fit.the-variants as fit

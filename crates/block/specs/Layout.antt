@@ -6,10 +6,6 @@ use lib.ListN.{length}
 use lib.Dec.{leb, eqb}
 use Rattle.block.specs.Bytes.{encode, field}
 use Rattle.block.specs.declared.header.Header.{Header}
-use Rattle.block.specs.declared.header.Examined.{Examined}
-use Rattle.block.specs.declared.header.Examined.the-variants as examining
-use Rattle.block.specs.declared.superblock.Opened.{Opened}
-use Rattle.block.specs.declared.superblock.Opened.the-variants as opening
 
 -- lo ≤ x ≤ hi
 abbrev pub within : ℕ → ℕ → ℕ → Bool
@@ -39,10 +35,6 @@ superblockGood image =
     && (eqb (field image 4 2) 3
     && (goodExponent (slotExponent image)
     && (goodLength (field image 8 4) && (eqb (field image 8 4) (length image) && eqb (field image 12 4) 0)))))
-
--- what opening an image answers
-unfoldable pub opened : List ℕ → Opened
-opened image = cond (superblockGood image) (opening.Exponent (slotExponent image)) opening.Bad
 
 -- the 16 bytes of a block header: extent (header included), kind, type number, raw size, zero
 unfoldable pub header : ℕ → ℕ → ℕ → ℕ → List ℕ
@@ -111,7 +103,3 @@ wellFormed L h d =
 -- whether a sound header stands at h
 unfoldable pub sound : List ℕ → ℕ → Bool
 sound image h = leb 16 h && (leb (h + 16) (length image) && wellFormed (length image) h (headerAt image h))
-
--- what examining the place h answers
-unfoldable pub examined : List ℕ → ℕ → Examined
-examined image h = cond (sound image h) (examining.Sound (headerAt image h)) examining.Unsound

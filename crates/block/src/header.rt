@@ -7,7 +7,8 @@ ghost use mathlib.Core.Path.{_≡_};
 ghost use Prim.Native.Nat.{_+_, _≤_, _<_, _^_};
 ghost use lib.ListN.{length};
 ghost use Rattle.block.specs.Bytes.{put};
-ghost use Rattle.block.specs.Layout.{header, freeHeader, liveHeader, headerAt, extentAt, kindAt, typeAt, sizeAt, wellFormed, examined};
+ghost use Rattle.block.specs.Layout.{header, freeHeader, liveHeader, headerAt, extentAt, kindAt, typeAt, sizeAt, wellFormed};
+ghost use Rattle.block.specs.laws.Soundness.{examined};
 
 // A block header's fields. `last` is the four bytes that must be zero.
 pub struct Header {

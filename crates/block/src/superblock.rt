@@ -7,7 +7,8 @@ ghost use mathlib.Core.Path.{_≡_};
 ghost use Prim.Native.Nat.{_≤_, _<_};
 ghost use lib.ListN.{length};
 ghost use Rattle.block.specs.Bytes.{put};
-ghost use Rattle.block.specs.Layout.{superblock, slotExponent, opened};
+ghost use Rattle.block.specs.Layout.{superblock, slotExponent};
+ghost use Rattle.block.specs.laws.Superblock.{opened};
 
 // What an image's superblock says: the slot exponent, or that it is not as laid out.
 pub enum Opened {

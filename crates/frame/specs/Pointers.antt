@@ -7,8 +7,6 @@ use Rattle.frame.specs.Frame.{sameFrame}
 use Rattle.frame.specs.declared.parts.Pointer.{Pointer}
 use Rattle.frame.specs.declared.parts.Moved.{Moved}
 use Rattle.frame.specs.declared.parts.Moved.the-variants.{To, Outside}
-use Rattle.frame.specs.declared.parts.Reach.{Reach}
-use Rattle.frame.specs.declared.parts.Reach.the-variants.{Within, BadTag}
 
 -- the flag as a bit: 1 for a small-framed object, 0 for a large-framed one
 abbrev pub bit : Bool → ℕ
@@ -35,10 +33,6 @@ goodTag s p = cond (p .flag) (ltb (p .tag) (2 ^ s)) (ltb s (p .tag) && leb (p .t
 -- the exponent of the slot or frame that the address may move in
 unfoldable pub reach : ℕ → Pointer → ℕ
 reach s p = cond (p .flag) s (p .tag)
-
--- that exponent, where the tag number is good
-unfoldable pub reachOf : ℕ → Pointer → Reach
-reachOf s p = cond (goodTag s p) (Within (reach s p)) BadTag
 
 -- the pointer at another address, its tag unchanged
 abbrev pub at : Pointer → ℕ → Pointer

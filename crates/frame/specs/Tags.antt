@@ -4,8 +4,6 @@ use mathlib.Core.Bool.{Bool, cond, _&&_, not}
 use lib.Dec.{leb, eqb}
 use Rattle.frame.specs.Frame.{frameNumber, frameStart}
 use Rattle.frame.specs.declared.parts.Pointer.{Pointer}
-use Rattle.frame.specs.declared.tag.Tagged.{Tagged}
-use Rattle.frame.specs.declared.tag.Tagged.the-variants.{Small, Large}
 
 -- An object is given by its header's place h and its raw size in bytes; its body starts 16 bytes after h.
 
@@ -48,7 +46,3 @@ entryAt s n a = 48 * (frameStart n a / 2 ^ (s + 1)) + (n - s - 1)
 -- the table entry of a large-framed object
 abbrev pub entryOf : ℕ → ℕ → ℕ → ℕ
 entryOf s h size = entryAt s (wrapper h size) h
-
--- its pointer, with its entry where it is large-framed
-unfoldable pub tagged : ℕ → ℕ → ℕ → Tagged
-tagged s h size = cond (isSmall s h size) (Small (pointerTo s h size)) (Large (pointerTo s h size) (entryOf s h size))

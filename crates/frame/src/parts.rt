@@ -2,7 +2,8 @@
 ghost use mathlib.Core.Path.{_≡_};
 ghost use Prim.Native.Nat.{_+_, _<_};
 ghost use Rattle.frame.specs.Frame.{frameStart};
-ghost use Rattle.frame.specs.Pointers.{unpack, pack, InRange, moved, reachOf};
+ghost use Rattle.frame.specs.Pointers.{unpack, pack, InRange, moved};
+ghost use Rattle.frame.specs.laws.Pointers.{reachOf};
 
 // A pointer's parts: the top bit, set for a small-framed object; 15 bits; 48 bits.
 pub struct Pointer {

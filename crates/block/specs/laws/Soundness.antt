@@ -9,9 +9,10 @@ use lib.ListN.{length}
 use lib.Dec.{leb, eqb}
 use borrow.Author.Tests.{le-leb, lt-leb, eq-eqb, ne-eqb, leb-true, eqb-true}
 use Rattle.block.specs.laws.Booleans.{byBool, and-left, and-right}
-use Rattle.block.specs.Layout.{fields, headerAt, extentAt, kindAt, isLive, freeFormed, liveFormed, wellFormed, sound, examined}
+use Rattle.block.specs.Layout.{fields, headerAt, extentAt, kindAt, isLive, freeFormed, liveFormed, wellFormed, sound}
 use Rattle.block.specs.declared.header.Header.{Header}
 use Rattle.block.specs.declared.header.Examined.the-variants as examining
+use Rattle.block.specs.declared.header.Examined.{Examined}
 
 -- well-formed headers, taken apart
 
@@ -148,6 +149,10 @@ module _ (image : List ℕ) (h : ℕ) where
   pub unsound-past : length image < h + 16 → sound image h ≡ false
   unfolding sound
   unsound-past p = simp (and-false, lt-leb _ _ p)
+
+-- what `examine` answers
+unfoldable pub examined : List ℕ → ℕ → Examined
+examined image h = cond (sound image h) (examining.Sound (headerAt image h)) examining.Unsound
 
 -- what examining answers
 pub examined-sound : (image : List ℕ) (h : ℕ) → sound image h ≡ true → examined image h ≡ examining.Sound (headerAt image h)

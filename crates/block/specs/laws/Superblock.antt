@@ -1,7 +1,7 @@
 -- The superblock: taken apart, and how it is good. Assumes nothing.
 use mathlib.Core.Path.{_≡_, refl, sym, ap, _∙_}
 use mathlib.Core.List.{List, _++_}
-use mathlib.Core.Bool.{true, false}
+use mathlib.Core.Bool.{cond, true, false}
 use Prim.Native.Nat.{ℕ, _+_, _^_, _≤_, _<_}
 use native.Mathlib.Omega.{arith}
 use lib.ListN.{length, getD, length-append}
@@ -11,8 +11,9 @@ use Rattle.block.specs.Bytes.{encode, field, put}
 use Rattle.block.specs.laws.Fields.{decode-encode, field-ext}
 use Rattle.block.specs.laws.Writes.{length-put, getD-put-below}
 use Rattle.block.specs.laws.Booleans.{byBool, refuted, and-both, and-left, and-right}
-use Rattle.block.specs.Layout.{superblock, slotExponent, goodExponent, goodLength, superblockGood, opened}
+use Rattle.block.specs.Layout.{superblock, slotExponent, goodExponent, goodLength, superblockGood}
 use Rattle.block.specs.declared.superblock.Opened.the-variants as opening
+use Rattle.block.specs.declared.superblock.Opened.{Opened}
 
 -- the superblock
 
@@ -116,6 +117,10 @@ superblock-same a b l e =
 pub superblock-kept : (image : List ℕ) (at : ℕ) (bs : List ℕ) → at + length bs ≤ length image → 16 ≤ at → (superblockGood (put image at bs) ≡ superblockGood image) × (slotExponent (put image at bs) ≡ slotExponent image)
 superblock-kept image at bs fits low =
     superblock-same (put image at bs) image (length-put image at bs fits) (λ k l. getD-put-below image at bs fits k (omega arith))
+
+-- what `open` answers
+unfoldable pub opened : List ℕ → Opened
+opened image = cond (superblockGood image) (opening.Exponent (slotExponent image)) opening.Bad
 
 -- what opening answers
 pub opened-good : (image : List ℕ) → superblockGood image ≡ true → opened image ≡ opening.Exponent (slotExponent image)

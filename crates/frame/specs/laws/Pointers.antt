@@ -9,10 +9,11 @@ use lib.IntN.{ℤ, pos, negsuc, _+ℤ_}
 use lib.Pow.{pow-pos}
 use borrow.Author.Tests.{eq-eqb, ne-eqb, eqb-true, ltb-true, leb-true}
 use Rattle.frame.specs.Frame.{sameFrame}
-use Rattle.frame.specs.Pointers.{bit, unpack, pack, InRange, goodTag, reach, reachOf, at, landed, moved}
+use Rattle.frame.specs.Pointers.{bit, unpack, pack, InRange, goodTag, reach, at, landed, moved}
 use Rattle.frame.specs.declared.parts.Pointer.{Pointer}
 use Rattle.frame.specs.declared.parts.Moved.the-variants.{To, Outside}
 use Rattle.frame.specs.declared.parts.Reach.the-variants.{Within, BadTag}
+use Rattle.frame.specs.declared.parts.Reach.{Reach}
 
 -- a conjunction, taken apart
 pub and-left : (a b : Bool) → a && b ≡ true → a ≡ true
@@ -79,6 +80,10 @@ good-large s p f g =
 pub reach-large : (s : ℕ) (p : Pointer) → p .flag ≡ false → reach s p ≡ p .tag
 unfolding reach
 reach-large s p f = rw f
+
+-- what `reach` answers: the exponent of the slot or frame that the address may move in, where the tag number is good
+unfoldable pub reachOf : ℕ → Pointer → Reach
+reachOf s p = cond (goodTag s p) (Within (reach s p)) BadTag
 
 pub reach-bad : (s : ℕ) (p : Pointer) → reachOf s p ≡ BadTag → goodTag s p ≡ false
 unfolding reachOf

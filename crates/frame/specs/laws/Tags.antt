@@ -11,7 +11,7 @@ use borrow.Author.Tests.{le-leb, lt-leb, leb-true, leb-false, eq-eqb, ne-eqb, eq
 use Rattle.frame.specs.Frame.{frameStart, sameFrame}
 use Rattle.frame.specs.Pointers.{InRange, goodTag, reach, at}
 use Rattle.frame.specs.laws.Pointers.{and-left, and-right, good-large}
-use Rattle.frame.specs.Tags.{firstHeld, lastHeld, wrapper, isSmall, tagNumber, pointerTo, tagMatches, entryOf, tagged}
+use Rattle.frame.specs.Tags.{firstHeld, lastHeld, wrapper, isSmall, tagNumber, pointerTo, tagMatches, entryOf}
 use Rattle.frame.specs.laws.Wrappers.{wrapper-iff, wrapper-holds, wrapper-at-most, slot-place}
 use Rattle.frame.specs.declared.parts.Pointer.{Pointer}
 use Rattle.frame.specs.declared.tag.Tagged.{Tagged}
@@ -169,6 +169,10 @@ matches-pointer s h size p e =
     λ i. record { flag = f i; tag = t i; address = p .address }
 
 -- and with its entry
+
+-- what `tag_object` answers: an object's pointer, with its entry where it is large-framed
+unfoldable pub tagged : ℕ → ℕ → ℕ → Tagged
+tagged s h size = cond (isSmall s h size) (Small (pointerTo s h size)) (Large (pointerTo s h size) (entryOf s h size))
 
 -- the pointer of a tagged object
 unfoldable pub taggedPointer : Tagged → Pointer

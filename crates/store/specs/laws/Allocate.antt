@@ -9,7 +9,8 @@ use lib.Dec.{ltb}
 use lib.ListN.{length}
 use borrow.Author.Tests.{ltb-true, lt-ltb, le-ltb, ltb-false}
 use mathlib.Core.Logic.{inl}
-use Rattle.frame.specs.Tags.{pointerTo, entryOf, tagged}
+use Rattle.frame.specs.Tags.{pointerTo, entryOf}
+use Rattle.frame.specs.laws.Tags.{tagged}
 use Rattle.frame.specs.Pointers.{pack}
 use Rattle.frame.specs.declared.parts.Pointer.{Pointer}
 use Rattle.block.specs.laws.Booleans.{byBool}

@@ -9,10 +9,10 @@ use lib.Seq.{getD-set-same, drop-set-lt}
 use lib.Dec.{eqb}
 use borrow.Author.Tests.{le-leb, lt-leb, eq-eqb}
 use Rattle.frame.specs.Pointers.{reach, at}
-use Rattle.frame.specs.Tags.{wrapper, pointerTo, tagMatches, entryAt, entryOf, tagged}
+use Rattle.frame.specs.Tags.{wrapper, pointerTo, tagMatches, entryAt, entryOf}
 use Rattle.frame.specs.laws.Pointers.{reach-large}
 use Rattle.frame.specs.laws.Wrappers.{entry-same}
-use Rattle.frame.specs.laws.Tags.{by-frame, pointer-small, pointer-large, matches-pointer, tagged-small, tagged-large}
+use Rattle.frame.specs.laws.Tags.{tagged, by-frame, pointer-small, pointer-large, matches-pointer, tagged-small, tagged-large}
 use Rattle.frame.specs.declared.parts.Pointer.{Pointer}
 use Rattle.frame.specs.declared.tag.Tagged.{Tagged}
 use Rattle.frame.specs.declared.tag.Tagged.the-variants.{Small, Large}

@@ -7,9 +7,9 @@ use borrow.Author.Tests.{le-leb, lt-leb, leb-true, leb-false}
 use lib.Dec.{leb}
 use native.Mathlib.Nat.{div-mul-le-self}
 use native.Mathlib.Omega.{arith}
-use Rattle.frame.specs.Tags.{wrapper, tagged}
+use Rattle.frame.specs.Tags.{wrapper}
 use Rattle.frame.specs.laws.Wrappers.{wrapper-at-most}
-use Rattle.frame.specs.laws.Tags.{small-test, pointer-small, pointer-large}
+use Rattle.frame.specs.laws.Tags.{tagged, small-test, pointer-small, pointer-large}
 use borrow.Author.Needs.{needs}
 use Rattle.frame.proofs.tag.tag_object.Statement.{statement}
 use Rattle.frame.proofs.tag.tag_object.Tie as tie

@@ -1,8 +1,8 @@
 -- `store::allocate` meets its contract: refused by `opening` or `allocatable`, or the block is carved and its entry noted. Assumes nothing.
 use mathlib.Core.Path.{_≡_, sym, ap, _∙_}
 use native.Mathlib.Omega.{arith}
-use Rattle.frame.specs.Tags.{pointerTo, tagged}
-use Rattle.frame.specs.laws.Tags.{pointer-range, taggedPointer, tagged-pointer}
+use Rattle.frame.specs.Tags.{pointerTo}
+use Rattle.frame.specs.laws.Tags.{tagged, pointer-range, taggedPointer, tagged-pointer}
 use Rattle.frame.specs.declared.tag.Tagged.{Tagged}
 use Rattle.store.specs.State.{State, state}
 use Rattle.store.specs.Calls.{opening, allocateChecks}

@@ -2,7 +2,8 @@
 use borrow.Author.Needs.{needs}
 use borrow.Author.Tests.{lt-ltb, le-ltb, le-leb, lt-leb}
 use native.Mathlib.Omega.{arith}
-use Rattle.frame.specs.Pointers.{goodTag, reach, reachOf}
+use Rattle.frame.specs.Pointers.{goodTag, reach}
+use Rattle.frame.specs.laws.Pointers.{reachOf}
 use Rattle.frame.proofs.Shifts.{one-shl}
 use Rattle.frame.proofs.parts.Pointer.reach.Statement.{statement}
 use Rattle.frame.proofs.parts.Pointer.reach.Tie as tie
