@@ -18,9 +18,9 @@
  * - Time: allocate, free and tally walk over the blocks from the image's start and grow with their number. Setup, free,
  *   fill and copy also grow with the bytes that they write. Load, store and move take constant time.
  * - Stack, in bytes at most: the return address and all below it, without memmove and memset.
- *     cue_setup     48    cue_load     168    cue_fill     152
- *     cue_allocate  64    cue_store    152    cue_copy     200
- *     cue_move       8    cue_free     184    cue_tally     72
+ *     cue_setup     48    cue_load     168    cue_fill     168
+ *     cue_allocate  64    cue_store    168    cue_copy     200
+ *     cue_move       8    cue_free     216    cue_tally     72
  *
  * On CUE_UNSOUND something else has written into the image. Allocate and free nothing more there. Objects that their
  * pointers still reach can be loaded; save image and table for diagnosis, then set the store up afresh. */
@@ -98,8 +98,11 @@ static inline const char *cue_reason(uint32_t number)
  * bytes for each 2^(s + 1) bytes of image, at least once:
  *     s        6      7      8      9     10     11     12     13     14     15
  *     table  300 %  150 %   75 %   38 %   19 %  9.4 %  4.7 %  2.3 %  1.2 %  0.6 %  of the image
- * A larger s costs less table and makes more objects small-framed; with a smaller one cue_move refuses nearer to the
- * object. */
+ * Of many objects of one size, about (16 + size) / 2^s are not small-framed, and all are where 17 + size > 2^s:
+ *     16 bytes  50 %   25 %   12 %    6 %    3 %    2 %    1 %   < 1 %  < 1 %  < 1 %
+ *    256 bytes  100 %  100 %  100 %   53 %   27 %   13 %    7 %    3 %    2 %    1 %
+ *   4096 bytes  100 %  100 %  100 %  100 %  100 %  100 %  100 %   50 %   25 %   13 %
+ * (measured: an image of 1 MiB filled with them). So take 15, unless cue_move is to refuse nearer to the object. */
 uint32_t cue_setup(uint8_t *image, size_t image_len, uint64_t *table, size_t table_len, uint32_t slot_exponent);
 
 /* Takes the lowest free block that fits and gives the tagged pointer to the body, which is not written: it is zero on an
