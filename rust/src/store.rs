@@ -50,7 +50,7 @@ impl<'a> Store<'a> {
     /// A fresh store: zeroes the image, writes its superblock and one free block, and zeroes the used table entries.
     ///
     /// Entries beyond the used ones stay as they are. A larger slot exponent makes the table smaller and more objects
-    /// small-framed; a smaller one suits a small image.
+    /// small-framed; with a smaller one [`offset`](Store::offset) refuses nearer to the object.
     ///
     /// Refused with, in this order: [`BadExponent`](Refusal::BadExponent), [`BadLength`](Refusal::BadLength),
     /// [`TooFewEntries`](Refusal::TooFewEntries).
