@@ -4,8 +4,8 @@ use crate::model;
 use cueledger::Refusal;
 use std::fmt;
 
-/// The rows of the refusal table are 1 to this.
-pub const ROWS: usize = Refusal::ALL.len();
+/// The last row of the refusal table: the highest number that a call answers.
+pub const ROWS: usize = Refusal::ALL[Refusal::ALL.len() - 1] as usize;
 
 /// The most values that a call answers: tally's.
 pub const VALUES: usize = 3;
@@ -160,15 +160,16 @@ impl Store for Model {
 
 #[cfg(test)]
 mod tests {
-    use super::{KINDS, ROWS};
+    use super::KINDS;
+    use cueledger::Refusal;
 
     #[test]
     fn every_row_is_some_calls() {
-        for row in 1..=ROWS as u32 {
-            assert!(KINDS.iter().any(|kind| kind.rows.contains(&row)), "{row}");
+        for refusal in Refusal::ALL {
+            assert!(KINDS.iter().any(|kind| kind.rows.contains(&refusal.number())), "{refusal}");
         }
         for kind in KINDS {
-            assert!(kind.rows.iter().all(|&row| 1 <= row && row <= ROWS as u32), "{}", kind.name);
+            assert!(kind.rows.iter().all(|&row| Refusal::from_number(row).is_some()), "{}", kind.name);
         }
     }
 }
