@@ -1,4 +1,5 @@
--- A new block in a gap that has room for it, and what first fit finds. Assumes nothing.
+-- A new block in a gap that has room for it, and what first fit finds.
+-- In order: the layout with the new block; its bytes; the carved image; first fit. Assumes nothing.
 use Prim.Native.Nat.{ℕ, _+_, _-_, _^_, _≤_, _<_}
 use mathlib.Core.Path.{_≡_, refl, sym, ap, _∙_}
 use mathlib.Core.Bool.{cond}

@@ -1,4 +1,5 @@
--- A place of a layout in its image: a gap's start, seen with the layout from there on. Assumes nothing.
+-- A place of a layout in its image: a gap's start, seen with the layout from there on.
+-- In order: the walk past a gap and a block; the view itself, the whole, the next one, another rest; what stands at a place. Assumes nothing.
 use Prim.Native.Nat.{ℕ, zero, suc, _+_, _≤_, _<_}
 use mathlib.Core.Path.{_≡_, refl, sym, ap, _∙_, subst}
 use mathlib.Core.Bool.{true, false, cond, _&&_, and-false}

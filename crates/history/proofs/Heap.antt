@@ -1,4 +1,5 @@
--- Laws of the abstract heap, by header places. Assumes nothing.
+-- Laws of the abstract heap, by header places.
+-- In order: the object at a place; owners; one object more, changed, less. Not here: image and table. Assumes nothing.
 use Prim.Native.Nat.{ℕ, zero, suc, _-_, _<_}
 use mathlib.Core.Path.{_≡_, refl, sym, ap, _∙_}
 use mathlib.Core.Bool.{Bool, true, false, cond}

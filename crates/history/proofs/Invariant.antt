@@ -1,4 +1,5 @@
--- What holds of image, table and abstract heap between any two calls of a list. Assumes nothing.
+-- What holds of image, table and abstract heap between any two calls of a list.
+-- In order: the invariant; a live object in the image; what pointers lead to; set-up. Not here: that each call keeps it (`Steps`). Assumes nothing.
 use Prim.Native.Nat.{ℕ, _+_, _-_, _^_, _≤_}
 use mathlib.Core.Path.{_≡_, refl, sym, ap, _∙_, subst}
 use mathlib.Core.Bool.{Bool, true, false, cond}

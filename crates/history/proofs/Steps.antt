@@ -1,4 +1,5 @@
--- Each call keeps the invariant, and what it answers. Assumes nothing.
+-- Each call keeps the invariant, and what it answers.
+-- In order: allocate; free; a changed object; move; load; store, fill and copy. Not here: what follows for a list (`Theorem`). Assumes nothing.
 use Prim.Native.Nat.{ℕ, _+_, _^_, _≤_, _<_}
 use mathlib.Core.Path.{_≡_, refl, sym, ap, _∙_, subst}
 use mathlib.Core.Bool.{true, false, cond, _&&_, and-true, and-false}

@@ -1,4 +1,5 @@
--- The table of large-framed objects, against the abstract heap. Assumes nothing.
+-- The table of large-framed objects, against the abstract heap.
+-- In order: what is kept of it; that entries differ; an entry noted, cleared, and left as it was. Assumes nothing.
 use Prim.Native.Nat.{ℕ, _+_, _^_, _≤_, _<_}
 use mathlib.Core.Path.{_≡_, refl, sym, ap, _∙_}
 use mathlib.Core.Bool.{cond}

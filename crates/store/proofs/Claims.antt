@@ -1,4 +1,5 @@
--- What holds of single calls on every image and table. Assumes nothing.
+-- What holds of single calls on every image and table.
+-- In order: shapes that are kept; how each call ends; the claims. Assumes nothing.
 use Prim.Native.Nat.{ℕ, _+_, _^_, _≤_, _<_}
 use mathlib.Core.Path.{_≡_, refl, sym, ap, _∙_, subst}
 use mathlib.Core.List.{List}

@@ -1,4 +1,5 @@
--- An object's tag and its pointer. Assumes nothing.
+-- An object's tag and its pointer.
+-- In order: the test of a tag in constant time; the pointer to an object; its pointer with its entry. Not here: wrapper frames and entries (`Wrappers`). Assumes nothing.
 use Prim.Native.Nat.{ℕ, _+_, _-_, _/_, _^_, _≤_, _<_}
 use mathlib.Core.Path.{_≡_, refl, sym, ap, _∙_}
 use mathlib.Core.Bool.{Bool, true, false, cond, _&&_, not}
