@@ -14,7 +14,7 @@ use borrow.Author.Needs.{needs}
 use Rattle.store.proofs.access.load.Statement.{statement}
 use Rattle.store.proofs.access.load.Tie as tie
 
--- The places: where rows 4 and 5 are passed, where the width is good, and where the bytes are.
+-- The places: where rows 4 and 5 are passed, where the width is tested, and where the bytes are.
 abbrev start : tie.After-s → tie.Start
 start c = c .before .before .before .before .before
 
@@ -33,6 +33,7 @@ is-open c = cc
 is-good : (c : tie.Else1) → goodWidth (start (at-open (c .before)) .args .width) ≡ true
 is-good c = sym (c .before .good-width .ensures) ∙ not-false _ (c .if1 .left)
 
+-- the bytes' address
 found : (c : tie.After-at) →
     let w = at-wide (c .before .before) in
     let o = at-open (w .before) in

@@ -12,7 +12,7 @@ use borrow.Author.Needs.{needs}
 use Rattle.store.proofs.access.storable.Statement.{statement}
 use Rattle.store.proofs.access.storable.Tie as tie
 
--- The places: where rows 4 and 5 are passed, and where the width is good.
+-- The places: where rows 4 and 5 are passed, where the width is tested, and where the value is.
 abbrev start : tie.After-s → tie.Start
 start c = c .before .before .before .before .before
 

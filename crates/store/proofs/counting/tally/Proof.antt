@@ -12,7 +12,7 @@ use borrow.Author.Needs.{needs}
 use Rattle.store.proofs.counting.tally.Statement.{statement}
 use Rattle.store.proofs.counting.tally.Tie as tie
 
--- The places: where rows 4 and 5 are passed, and where the blocks are counted.
+-- The places: where rows 4 and 5 are passed, where the blocks are counted, and where all are sound.
 abbrev start : tie.After-enum-told → tie.Start
 start c = c .before .before .before .before .before
 

@@ -9,7 +9,7 @@ use borrow.Author.Needs.{needs}
 use Rattle.store.proofs.moving.offset_in.Statement.{statement}
 use Rattle.store.proofs.moving.offset_in.Tie as tie
 
--- The places: where the pointer is unpacked, where its tag is good, and where it is moved.
+-- The places: where the pointer is unpacked, where its tag is good, where it is moved, and where it stays inside.
 abbrev start : tie.After-unpack → tie.Start
 start c = c .before
 

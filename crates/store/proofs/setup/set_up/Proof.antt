@@ -9,7 +9,7 @@ use borrow.Author.Needs.{needs}
 use Rattle.store.proofs.setup.set_up.Statement.{statement}
 use Rattle.store.proofs.setup.set_up.Tie as tie
 
--- The places: where rows 1, 2 and 3 are passed, and where the image is laid out.
+-- The places: where rows 1, 2 and 3 are passed, where the used entries are known, and where the image is laid out.
 abbrev start : tie.After-enum-told → tie.Start
 start c = c .before .before .before .before .before .before .before
 
