@@ -1,34 +1,23 @@
--- `capi::cue_allocate` meets its contract. Assumes nothing.
+-- `capi::cue_allocate`: what `store::allocate` leaves, its answer as a number and a pointer. Assumes nothing.
 use Rattle.capi.proofs.Outcomes.{gives}
 use borrow.Author.Needs.{needs}
 use Rattle.capi.proofs.cue_allocate.Statement.{statement}
 use Rattle.capi.proofs.cue_allocate.Tie as tie
 
-allocate-requires : tie.Need-allocate-requires
-allocate-requires c κs = search needs
+abbrev at-allocated : tie.After-value → tie.After-allocate
+at-allocated c = c .before .before .before .before .before
 
-value-requires : tie.Need-value-requires
-value-requires c κs = search needs
-
-returned-requires : tie.Need-returned-requires
-returned-requires c κs = search needs
-
-same-length : tie.Need-same-length
-same-length c = search needs
-
-same-length-2 : tie.Need-same-length-2
-same-length-2 c = search needs
-
+-- what `allocate` left
 returns : tie.Need-returns
-returns c = gives _ _ _ _ _ _ (c .returned .ensures) (c .before .value .ensures) (c .before .before .before .before .before .before .allocate .ensures)
+returns c = gives _ _ _ _ _ _ (c .returned .ensures) (c .before .value .ensures) (at-allocated (c .before) .allocate .ensures)
 
 pub cue-allocate-spec : {M : Type 1} → statement M
 cue-allocate-spec =
     tie.close
     (tie.spec
-    allocate-requires
-    value-requires
-    returned-requires
-    same-length
-    same-length-2
+    (λ c κs. search needs)
+    (λ c κs. search needs)
+    (λ c κs. search needs)
+    (λ c. search needs)
+    (λ c. search needs)
     returns)

@@ -1,20 +1,18 @@
--- `capi::cue_copy` meets its contract. Assumes nothing.
+-- `capi::cue_copy`: what `store::copy` leaves, its answer as a number. Assumes nothing.
 use Rattle.capi.proofs.Outcomes.{leaves}
 use borrow.Author.Needs.{needs}
 use Rattle.capi.proofs.cue_copy.Statement.{statement}
 use Rattle.capi.proofs.cue_copy.Tie as tie
 
-copy-requires : tie.Need-copy-requires
-copy-requires c κs = search needs
-
-returned-requires : tie.Need-returned-requires
-returned-requires c κs = search needs
-
-same-length : tie.Need-same-length
-same-length c = search needs
-
+-- what `copy` left
 returns : tie.Need-returns
 returns c = leaves _ _ _ _ _ (c .returned .ensures) (c .before .before .before .copy .ensures)
 
 pub cue-copy-spec : {M : Type 1} → statement M
-cue-copy-spec = tie.close (tie.spec copy-requires returned-requires same-length returns)
+cue-copy-spec =
+    tie.close
+    (tie.spec
+    (λ c κs. search needs)
+    (λ c κs. search needs)
+    (λ c. search needs)
+    returns)

@@ -1,24 +1,22 @@
--- `capi::cue_free` meets its contract. Assumes nothing.
+-- `capi::cue_free`: what `store::free` leaves, its answer as a number. Assumes nothing.
 use Rattle.capi.proofs.Outcomes.{leaves}
 use borrow.Author.Needs.{needs}
 use Rattle.capi.proofs.cue_free.Statement.{statement}
 use Rattle.capi.proofs.cue_free.Tie as tie
 
-free-requires : tie.Need-free-requires
-free-requires c κs = search needs
+abbrev at-left : tie.After-returned → tie.After-free
+at-left c = c .before .before .before .before .before
 
-returned-requires : tie.Need-returned-requires
-returned-requires c κs = search needs
-
-same-length : tie.Need-same-length
-same-length c = search needs
-
-same-length-2 : tie.Need-same-length-2
-same-length-2 c = search needs
-
+-- what `free` left
 returns : tie.Need-returns
-returns c = leaves _ _ _ _ _ (c .returned .ensures) (c .before .before .before .before .before .free .ensures)
+returns c = leaves _ _ _ _ _ (c .returned .ensures) (at-left c .free .ensures)
 
 pub cue-free-spec : {M : Type 1} → statement M
 cue-free-spec =
-    tie.close (tie.spec free-requires returned-requires same-length same-length-2 returns)
+    tie.close
+    (tie.spec
+    (λ c κs. search needs)
+    (λ c κs. search needs)
+    (λ c. search needs)
+    (λ c. search needs)
+    returns)

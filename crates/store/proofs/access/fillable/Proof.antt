@@ -1,48 +1,48 @@
--- `store::fillable` meets its contract. Assumes nothing.
-use mathlib.Core.Path.{sym, _∙_}
+-- `store::fillable` meets its contract: 4 and 5 (`opening`), 6, then 10, 11 and 13 (`access`). Assumes nothing.
+use mathlib.Core.Path.{_≡_}
 use native.Mathlib.Omega.{arith}
 use Rattle.store.specs.State.{state}
+use Rattle.store.specs.Calls.{opening}
 use Rattle.store.specs.laws.Opening.{opening-parts}
 use Rattle.store.specs.laws.Fill.{fill-shut, fill-empty, fill-access}
+use Rattle.store.specs.declared.answer.Answer.the-variants.{Accepted}
 use borrow.Author.Needs.{needs}
 use Rattle.store.proofs.access.fillable.Statement.{statement}
 use Rattle.store.proofs.access.fillable.Tie as tie
 
-opening-requires : tie.Need-opening-requires
-opening-requires c κs = search needs
+-- The places: where rows 4 and 5 are passed, and where the length is not 0.
+abbrev start : tie.After-s → tie.Start
+start c = c .before .before .before .before .before
 
-enum-known-r : tie.Need-enum-known-r
-enum-known-r c = search needs
+abbrev at-open : tie.Else1 → tie.After-s
+at-open c = c .before .before
 
-enum-known-s : tie.Need-enum-known-s
-enum-known-s c = search needs
+is-open : (c : tie.After-s) → opening (state (start c .args .image .now) (start c .args .table .now)) ≡ Accepted (c .s .given .0 .0)
+is-open c = cc
 
+-- row 6
 returns : tie.Need-returns
-returns c = fill-empty (state _ _) _ (sym (c .before .before .before .before .opening .ensures) ∙ c .before .before .s .given .1) _ _ (c .if1 .taken)
+returns c = fill-empty (state _ _) _ (is-open (c .before .before)) _ _ (c .if1 .taken)
 
-cast-access : tie.Need-cast-access
-cast-access c =
-    let o = opening-parts (state _ _) _ (sym (c .before .before .before .before .opening .ensures) ∙ c .before .before .s .given .1) in
-    omega (arith, o .high)
-
-access-requires : tie.Need-access-requires
-access-requires c κs = sym (c .before .before .before .before .opening .ensures) ∙ c .before .before .s .given .1
-
+-- row 4 or 5
 returns-2 : tie.Need-returns-2
-returns-2 c = fill-shut (state _ _) _ (sym (c .before .before .before .opening .ensures) ∙ c .before .r .given .1) _ _
+returns-2 c = fill-shut (state _ _) _ (cc) _ _
 
+-- row 10, 11 or 13, or the address
 returns-3 : tie.Need-returns-3
-returns-3 c = c .access .ensures ∙ fill-access (state _ _) _ (sym (c .before .before .before .before .before .opening .ensures) ∙ c .before .before .before .s .given .1) _ _ (omega (arith, c .before .if1 .left))
+returns-3 c =
+    let o = at-open (c .before) in
+    cc (fill-access (state _ _) _ (is-open o) _ (start o .args .length) (omega (arith, c .before .if1 .left)))
 
 pub fillable-spec : {M : Type 1} → statement M
 fillable-spec =
     tie.close
     (tie.spec
-    opening-requires
-    enum-known-r
-    enum-known-s
+    (λ c κs. search needs)
+    (λ c. search needs)
+    (λ c. search needs)
     returns
-    cast-access
-    access-requires
+    (λ c. omega (arith, opening-parts (state _ _) _ (is-open (at-open c)) .high))
+    (λ c κs. is-open (at-open c))
     returns-2
     returns-3)

@@ -1,8 +1,11 @@
--- `store::load` meets its contract. Assumes nothing.
-use mathlib.Core.Path.{sym, ap, _∙_}
+-- `store::load` meets its contract: 4 and 5 (`opening`), 14, then 10, 11 and 13 (`access`); or the field is read. Assumes nothing.
+use mathlib.Core.Path.{_≡_, sym, _∙_}
+use mathlib.Core.Bool.{true}
 use native.Mathlib.Omega.{arith}
 use borrow.Author.Tests.{not-true, not-false}
-use Rattle.store.specs.State.{state}
+use Rattle.frame.specs.Pointers.{unpack}
+use Rattle.store.specs.State.{State, state}
+use Rattle.store.specs.Calls.{opening, goodWidth, accessed}
 use Rattle.store.specs.laws.Opening.{opening-parts}
 use Rattle.store.specs.laws.Access.{accessed-parts}
 use Rattle.store.specs.declared.answer.Answer.the-variants.{Accepted}
@@ -11,65 +14,68 @@ use borrow.Author.Needs.{needs}
 use Rattle.store.proofs.access.load.Statement.{statement}
 use Rattle.store.proofs.access.load.Tie as tie
 
-opening-requires : tie.Need-opening-requires
-opening-requires c κs = search needs
+-- The places: where rows 4 and 5 are passed, where the width is tested, and where the bytes are.
+abbrev start : tie.After-s → tie.Start
+start c = c .before .before .before .before .before
 
-enum-known-r : tie.Need-enum-known-r
-enum-known-r c = search needs
+abbrev at-open : tie.After-good-width → tie.After-s
+at-open c = c .before .before
 
-enum-known-s : tie.Need-enum-known-s
-enum-known-s c = search needs
+abbrev at-wide : tie.After-access → tie.Else1
+at-wide c = c .before
 
-good-width-requires : tie.Need-good-width-requires
-good-width-requires c κs = search needs
+abbrev given : tie.Start → State
+given c = state (c .args .image .now) (c .args .table .now)
 
+is-open : (c : tie.After-s) → opening (given (start c)) ≡ Accepted (c .s .given .0 .0)
+is-open c = cc
+
+is-good : (c : tie.Else1) → goodWidth (start (at-open (c .before)) .args .width) ≡ true
+is-good c = sym (c .before .good-width .ensures) ∙ not-false _ (c .if1 .left)
+
+-- the bytes' address
+found : (c : tie.After-at) →
+    let w = at-wide (c .before .before) in
+    let o = at-open (w .before) in
+    let b = start o in
+    accessed (o .s .given .0 .0) (unpack (b .args .pointer)) (b .args .width) (given b) ≡ Accepted (c .at .given .0 .0)
+found c = cc
+
+-- row 14
 returns : tie.Need-returns
-returns c = load-width (state _ _) _ (sym (c .before .before .before .before .before .opening .ensures) ∙ c .before .before .before .s .given .1) _ _ (sym (c .before .good-width .ensures) ∙ not-true _ (c .if1 .taken))
+returns c = load-width (state _ _) _ (is-open (at-open (c .before))) _ _ (sym (c .before .good-width .ensures) ∙ not-true _ (c .if1 .taken))
 
-cast-access : tie.Need-cast-access
-cast-access c =
-    let o = opening-parts (state _ _) _ (sym (c .before .before .before .before .before .opening .ensures) ∙ c .before .before .before .s .given .1) in
-    omega (arith, o .high)
-
-access-requires : tie.Need-access-requires
-access-requires c κs = sym (c .before .before .before .before .before .opening .ensures) ∙ c .before .before .before .s .given .1
-
-enum-known-r-2 : tie.Need-enum-known-r-2
-enum-known-r-2 c = search needs
-
-enum-known-at : tie.Need-enum-known-at
-enum-known-at c = search needs
-
-read-field-requires : tie.Need-read-field-requires
-read-field-requires c κs =
-    let a = accessed-parts _ _ _ (state _ _) _ (sym (c .before .before .before .access .ensures) ∙ c .before .at .given .1) in
-    (sym (c .before .before .before .before .before .good-width .ensures) ∙ not-false _ (c .before .before .before .before .if1 .left), a .inside)
-
+-- row 4 or 5
 returns-2 : tie.Need-returns-2
-returns-2 c = load-shut (state _ _) _ (sym (c .before .before .before .opening .ensures) ∙ c .before .r .given .1) _ _
+returns-2 c = load-shut (state _ _) _ (cc) _ _
 
+-- row 10, 11 or 13
 returns-3 : tie.Need-returns-3
-returns-3 c = load-refused (state _ _) _ (sym (c .before .before .before .before .before .before .before .before .before .opening .ensures) ∙ c .before .before .before .before .before .before .before .s .given .1) _ _ (sym (c .before .before .before .before .before .good-width .ensures) ∙ not-false _ (c .before .before .before .before .if1 .left)) _ (sym (c .before .before .before .access .ensures) ∙ c .before .r2 .given .1)
+returns-3 c =
+    let w = at-wide (c .before .before .before) in
+    load-refused (state _ _) _ (is-open (at-open (w .before))) _ _ (is-good w) _ cc
 
+-- the field
 returns-4 : tie.Need-returns-4
 returns-4 c =
-    ap Accepted (c .read-field .ensures)
-    ∙ load-given (state _ _) _ (sym (c .before .before .before .before .before .before .before .before .before .before .opening .ensures) ∙ c .before .before .before .before .before .before .before .before .s .given .1) _ _ (sym (c .before .before .before .before .before .before .good-width .ensures) ∙ not-false _ (c .before .before .before .before .before .if1 .left)) _ (sym (c .before .before .before .before .access .ensures) ∙ c .before .before .at .given .1)
+    let a = c .before .before in
+    let w = at-wide (a .before .before) in
+    cc (load-given (state _ _) _ (is-open (at-open (w .before))) _ _ (is-good w) _ (found a))
 
 pub load-spec : {M : Type 1} → statement M
 load-spec =
     tie.close
     (tie.spec
-    opening-requires
-    enum-known-r
-    enum-known-s
-    good-width-requires
+    (λ c κs. search needs)
+    (λ c. search needs)
+    (λ c. search needs)
+    (λ c κs. search needs)
     returns
-    cast-access
-    access-requires
-    enum-known-r-2
-    enum-known-at
-    read-field-requires
+    (λ c. omega (arith, opening-parts (state _ _) _ (is-open (at-open (c .before))) .high))
+    (λ c κs. is-open (at-open (c .before)))
+    (λ c. search needs)
+    (λ c. search needs)
+    (λ c κs. (is-good (at-wide (c .before .before .before)), accessed-parts _ _ _ (state _ _) _ (found (c .before)) .inside))
     returns-2
     returns-3
     returns-4)

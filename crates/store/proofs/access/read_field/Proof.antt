@@ -1,47 +1,43 @@
--- `store::read_field` meets its contract. Assumes nothing.
-use mathlib.Core.Path.{sym, ap, _∙_}
+-- `store::read_field`: one way out for each good width, by the read of that width. Assumes nothing.
+use mathlib.Core.Path.{_≡_}
 use native.Mathlib.Omega.{arith}
-use Rattle.block.specs.Bytes.{field}
 use Rattle.store.specs.laws.Access.{width-last}
 use borrow.Author.Needs.{needs}
 use Rattle.store.proofs.access.read_field.Statement.{statement}
 use Rattle.store.proofs.access.read_field.Tie as tie
 
-read1-requires : tie.Need-read1-requires
-read1-requires c κs = search needs
+abbrev start : tie.Else3 → tie.Start
+start c = c .before .before .before .before
 
+-- no other width is left
+is-8 : (c : tie.Else3) → start c .args .width ≡ 8
+is-8 c = width-last _ (start c .pre .0) (c .before .before .if1 .left) (c .before .if2 .left) (c .if3 .left)
+
+-- 1
 returns : tie.Need-returns
-returns c = c .read1 .ensures ∙ ap (field _ _) (sym (c .before .if1 .taken))
+returns c = cc
 
-read2-requires : tie.Need-read2-requires
-read2-requires c κs = search needs
-
+-- 2
 returns-2 : tie.Need-returns-2
-returns-2 c = c .read2 .ensures ∙ ap (field _ _) (sym (c .before .if2 .taken))
+returns-2 c = cc
 
-read4-requires : tie.Need-read4-requires
-read4-requires c κs = search needs
-
+-- 4
 returns-3 : tie.Need-returns-3
-returns-3 c = c .read4 .ensures ∙ ap (field _ _) (sym (c .before .if3 .taken))
+returns-3 c = cc
 
-read8-requires : tie.Need-read8-requires
-read8-requires c κs =
-    let e = width-last _ (c .before .before .before .before .pre .0) (c .before .before .if1 .left) (c .before .if2 .left) (c .if3 .left) in
-    omega (arith, c .before .before .before .before .pre .1)
-
+-- 8
 returns-4 : tie.Need-returns-4
-returns-4 c = c .read8 .ensures ∙ ap (field _ _) (sym (width-last _ (c .before .before .before .before .before .pre .0) (c .before .before .before .if1 .left) (c .before .before .if2 .left) (c .before .if3 .left)))
+returns-4 c = cc (is-8 (c .before))
 
 pub read-field-spec : {M : Type 1} → statement M
 read-field-spec =
     tie.close
     (tie.spec
-    read1-requires
+    (λ c κs. search needs)
     returns
-    read2-requires
+    (λ c κs. search needs)
     returns-2
-    read4-requires
+    (λ c κs. search needs)
     returns-3
-    read8-requires
+    (λ c κs. omega (arith, is-8 c, start c .pre .1))
     returns-4)

@@ -1,64 +1,47 @@
--- `store::write_field` meets its contract. Assumes nothing.
-use Prim.Native.Nat.{ℕ}
-use mathlib.Core.Path.{sym, ap, _∙_}
+-- `store::write_field`: one way out for each good width, by the write of that width. Assumes nothing.
+use mathlib.Core.Path.{_≡_}
 use native.Mathlib.Omega.{arith}
-use Rattle.block.specs.Bytes.{encode, put}
 use Rattle.store.specs.laws.Access.{width-last}
 use borrow.Author.Needs.{needs}
 use Rattle.store.proofs.access.write_field.Statement.{statement}
 use Rattle.store.proofs.access.write_field.Tie as tie
 
-write1-requires : tie.Need-write1-requires
-write1-requires c κs = search needs
+abbrev start : tie.Else3 → tie.Start
+start c = c .before .before .before .before
 
-write2-requires : tie.Need-write2-requires
-write2-requires c κs = search needs
+-- no other width is left
+is-8 : (c : tie.Else3) → start c .args .width ≡ 8
+is-8 c = width-last _ (start c .pre .0) (c .before .before .if1 .left) (c .before .if2 .left) (c .if3 .left)
 
-write4-requires : tie.Need-write4-requires
-write4-requires c κs = search needs
-
-write8-requires : tie.Need-write8-requires
-write8-requires c κs =
-    let e = width-last _ (c .before .before .before .before .before .pre .0) (c .before .before .before .if1 .left) (c .before .before .if2 .left) (c .before .if3 .left) in
-    omega (arith, c .before .before .before .before .before .pre .1)
-
-same-length : tie.Need-same-length
-same-length c = search needs
-
+-- 1
 returns : tie.Need-returns
-returns c = c .before .before .write1 .ensures ∙ ap (λ (w : ℕ). put (c .before .before .before .before .before .before .args .image .now) (c .before .before .before .before .before .before .args .at) (encode w (c .before .before .before .before .before .before .args .value))) (sym (c .before .before .before .before .if1 .taken))
+returns c = cc
 
-same-length-2 : tie.Need-same-length-2
-same-length-2 c = search needs
-
+-- 2
 returns-2 : tie.Need-returns-2
-returns-2 c = c .before .before .write2 .ensures ∙ ap (λ (w : ℕ). put (c .before .before .before .before .before .before .before .args .image .now) (c .before .before .before .before .before .before .before .args .at) (encode w (c .before .before .before .before .before .before .before .args .value))) (sym (c .before .before .before .before .if2 .taken))
+returns-2 c = cc
 
-same-length-3 : tie.Need-same-length-3
-same-length-3 c = search needs
-
+-- 4
 returns-3 : tie.Need-returns-3
-returns-3 c = c .before .before .write4 .ensures ∙ ap (λ (w : ℕ). put (c .before .before .before .before .before .before .before .before .args .image .now) (c .before .before .before .before .before .before .before .before .args .at) (encode w (c .before .before .before .before .before .before .before .before .args .value))) (sym (c .before .before .before .before .if3 .taken))
+returns-3 c = cc
 
-same-length-4 : tie.Need-same-length-4
-same-length-4 c = search needs
-
+-- 8
 returns-4 : tie.Need-returns-4
-returns-4 c = c .before .before .write8 .ensures ∙ ap (λ (w : ℕ). put (c .before .before .before .before .before .before .before .before .args .image .now) (c .before .before .before .before .before .before .before .before .args .at) (encode w (c .before .before .before .before .before .before .before .before .args .value))) (sym (width-last _ (c .before .before .before .before .before .before .before .before .pre .0) (c .before .before .before .before .before .before .if1 .left) (c .before .before .before .before .before .if2 .left) (c .before .before .before .before .if3 .left)))
+returns-4 c = cc (is-8 (c .before .before .before .before))
 
 pub write-field-spec : {M : Type 1} → statement M
 write-field-spec =
     tie.close
     (tie.spec
-    write1-requires
-    write2-requires
-    write4-requires
-    write8-requires
-    same-length
+    (λ c κs. search needs)
+    (λ c κs. search needs)
+    (λ c κs. search needs)
+    (λ c κs. omega (arith, is-8 (c .before), start (c .before) .pre .1))
+    (λ c. search needs)
     returns
-    same-length-2
+    (λ c. search needs)
     returns-2
-    same-length-3
+    (λ c. search needs)
     returns-3
-    same-length-4
+    (λ c. search needs)
     returns-4)

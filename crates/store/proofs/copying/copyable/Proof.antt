@@ -1,70 +1,66 @@
--- `store::copyable` meets its contract. Assumes nothing.
-use mathlib.Core.Path.{sym, _∙_}
+-- `store::copyable` meets its contract: 4 and 5 (`opening`), 6, then 10, 11 and 13 (`access`) of the target, and of the source. Assumes nothing.
+use mathlib.Core.Path.{_≡_, _∙_}
+use Prim.Native.Nat.{_<_}
 use native.Mathlib.Omega.{arith}
 use Rattle.store.specs.State.{state}
+use Rattle.store.specs.Calls.{opening}
 use Rattle.store.specs.laws.Opening.{opening-parts}
 use Rattle.store.specs.laws.Copy.{copy-shut, copy-empty, copy-refused, copy-access}
+use Rattle.store.specs.declared.answer.Answer.the-variants.{Accepted}
 use borrow.Author.Needs.{needs}
 use Rattle.store.proofs.copying.copyable.Statement.{statement}
 use Rattle.store.proofs.copying.copyable.Tie as tie
 
-opening-requires : tie.Need-opening-requires
-opening-requires c κs = search needs
+-- The places: where rows 4 and 5 are passed, where the length is not 0, and where the target is tested.
+abbrev start : tie.After-s → tie.Start
+start c = c .before .before .before .before .before
 
-enum-known-r : tie.Need-enum-known-r
-enum-known-r c = search needs
+abbrev at-open : tie.Else1 → tie.After-s
+at-open c = c .before .before
 
-enum-known-s : tie.Need-enum-known-s
-enum-known-s c = search needs
+abbrev at-some : tie.After-access → tie.Else1
+at-some c = c .before
 
+is-open : (c : tie.After-s) → opening (state (start c .args .image .now) (start c .args .table .now)) ≡ Accepted (c .s .given .0 .0)
+is-open c = cc
+
+some : (c : tie.Else1) → 0 < start (at-open c) .args .length
+some c = omega (arith, c .if1 .left)
+
+-- row 6
 returns : tie.Need-returns
-returns c = copy-empty (state _ _) _ (sym (c .before .before .before .before .opening .ensures) ∙ c .before .before .s .given .1) _ _ _ (c .if1 .taken)
+returns c = copy-empty (state _ _) _ (is-open (c .before .before)) _ _ _ (c .if1 .taken)
 
-cast-access : tie.Need-cast-access
-cast-access c =
-    let o = opening-parts (state _ _) _ (sym (c .before .before .before .before .opening .ensures) ∙ c .before .before .s .given .1) in
-    omega (arith, o .high)
-
-access-requires : tie.Need-access-requires
-access-requires c κs = sym (c .before .before .before .before .opening .ensures) ∙ c .before .before .s .given .1
-
-enum-known-r-2 : tie.Need-enum-known-r-2
-enum-known-r-2 c = search needs
-
-enum-told : tie.Need-enum-told
-enum-told c = search needs
-
-cast-access-2 : tie.Need-cast-access-2
-cast-access-2 c =
-    let o = opening-parts (state _ _) _ (sym (c .before .before .before .before .before .before .before .opening .ensures) ∙ c .before .before .before .before .before .s .given .1) in
-    omega (arith, o .high)
-
-access-requires-2 : tie.Need-access-requires-2
-access-requires-2 c κs = sym (c .before .before .before .before .before .before .before .opening .ensures) ∙ c .before .before .before .before .before .s .given .1
-
+-- row 4 or 5
 returns-2 : tie.Need-returns-2
-returns-2 c = copy-shut (state _ _) _ (sym (c .before .before .before .opening .ensures) ∙ c .before .r .given .1) _ _ _
+returns-2 c = copy-shut (state _ _) _ (cc) _ _ _
 
+-- the target's row 10, 11 or 13
 returns-3 : tie.Need-returns-3
-returns-3 c = copy-refused (state _ _) _ (sym (c .before .before .before .before .before .before .before .before .opening .ensures) ∙ c .before .before .before .before .before .before .s .given .1) _ _ _ (omega (arith, c .before .before .before .before .if1 .left)) _ (sym (c .before .before .before .access .ensures) ∙ c .before .r2 .given .1)
+returns-3 c =
+    let l = at-some (c .before .before .before) in
+    copy-refused (state _ _) _ (is-open (at-open l)) _ _ _ (some l) _ cc
 
+-- the source's, or its address
 returns-4 : tie.Need-returns-4
-returns-4 c = c .access2 .ensures ∙ copy-access (state _ _) _ (sym (c .before .before .before .before .before .before .before .before .opening .ensures) ∙ c .before .before .before .before .before .before .s .given .1) _ _ _ (omega (arith, c .before .before .before .before .if1 .left)) _ (sym (c .before .before .before .access .ensures) ∙ c .before .enum-told .given .1)
+returns-4 c =
+    let l = at-some (c .before .before .before) in
+    c .access2 .ensures ∙ copy-access (state _ _) _ (is-open (at-open l)) _ _ _ (some l) (c .before .enum-told .given .0 .0) cc
 
 pub copyable-spec : {M : Type 1} → statement M
 copyable-spec =
     tie.close
     (tie.spec
-    opening-requires
-    enum-known-r
-    enum-known-s
+    (λ c κs. search needs)
+    (λ c. search needs)
+    (λ c. search needs)
     returns
-    cast-access
-    access-requires
-    enum-known-r-2
-    enum-told
-    cast-access-2
-    access-requires-2
+    (λ c. omega (arith, opening-parts (state _ _) _ (is-open (at-open c)) .high))
+    (λ c κs. is-open (at-open c))
+    (λ c. search needs)
+    (λ c. search needs)
+    (λ c. omega (arith, opening-parts (state _ _) _ (is-open (at-open (at-some (c .before .before)))) .high))
+    (λ c κs. is-open (at-open (at-some (c .before .before))))
     returns-2
     returns-3
     returns-4)

@@ -1,58 +1,58 @@
--- `store::tally` meets its contract. Assumes nothing.
-use mathlib.Core.Path.{sym, _∙_}
+-- `store::tally` meets its contract: 4 and 5 (`opening`), then 7 (`count_blocks`); or the counts. Assumes nothing.
+use mathlib.Core.Path.{_≡_}
 use native.Mathlib.Omega.{arith}
+use Rattle.block.specs.Walk.{countBlocks}
 use Rattle.block.specs.laws.Counting.{count-bound}
+use Rattle.block.specs.declared.walk.Counted.the-variants as counted
 use Rattle.store.specs.State.{state}
+use Rattle.store.specs.Calls.{opening}
 use Rattle.store.specs.laws.Tally.{tally-shut, tally-unsound, tally-counts}
+use Rattle.store.specs.declared.answer.Answer.the-variants.{Accepted}
 use borrow.Author.Needs.{needs}
 use Rattle.store.proofs.counting.tally.Statement.{statement}
 use Rattle.store.proofs.counting.tally.Tie as tie
 
-opening-requires : tie.Need-opening-requires
-opening-requires c κs = search needs
+-- The places: where rows 4 and 5 are passed, where the blocks are counted, and where all are sound.
+abbrev start : tie.After-enum-told → tie.Start
+start c = c .before .before .before .before .before
 
-enum-known-r : tie.Need-enum-known-r
-enum-known-r c = search needs
+abbrev at-open : tie.After-count-blocks → tie.After-enum-told
+at-open c = c .before
 
-enum-told : tie.Need-enum-told
-enum-told c = search needs
+abbrev at-counted : tie.After-objects → tie.After-count-blocks
+at-counted c = c .before .before
 
-count-blocks-requires : tie.Need-count-blocks-requires
-count-blocks-requires c κs = search needs
+is-open : (c : tie.After-enum-told) → opening (state (start c .args .image .now) (start c .args .table .now)) ≡ Accepted (c .enum-told .given .0 .0)
+is-open c = cc
 
-enum-told-2 : tie.Need-enum-told-2
-enum-told-2 c = search needs
+counts : (c : tie.After-objects) → let g = c .objects .given .0 in
+    countBlocks (start (at-open (at-counted c)) .args .image .now) ≡ counted.Counts (g .0) (g .1 .0)
+counts c = cc
 
-enum-known-objects : tie.Need-enum-known-objects
-enum-known-objects c = search needs
-
-sub-t13 : tie.Need-sub-t13
-sub-t13 c = omega (arith, count-bound _ _ _ (sym (c .before .before .before .count-blocks .ensures) ∙ c .before .objects .given .1))
-
-sub-t14 : tie.Need-sub-t14
-sub-t14 c = omega (arith, count-bound _ _ _ (sym (c .before .before .before .count-blocks .ensures) ∙ c .before .objects .given .1))
-
+-- row 4 or 5
 returns : tie.Need-returns
-returns c = tally-shut (state _ _) _ (sym (c .before .before .before .opening .ensures) ∙ c .before .r .given .1)
+returns c = tally-shut (state _ _) _ cc
 
+-- row 7
 returns-2 : tie.Need-returns-2
-returns-2 c = tally-unsound (state _ _) _ (sym (c .before .before .before .before .before .opening .ensures) ∙ c .before .before .before .enum-told .given .1) (sym (c .before .before .count-blocks .ensures) ∙ c .enum-told2 .given .1)
+returns-2 c = tally-unsound (state _ _) _ (is-open (at-open (c .before .before))) cc
 
+-- the counts
 returns-3 : tie.Need-returns-3
-returns-3 c = tally-counts (state _ _) _ (sym (c .before .before .before .before .before .before .opening .ensures) ∙ c .before .before .before .before .enum-told .given .1) _ _ (sym (c .before .before .before .count-blocks .ensures) ∙ c .before .objects .given .1)
+returns-3 c = tally-counts (state _ _) _ (is-open (at-open (at-counted (c .before)))) _ _ (counts (c .before))
 
 pub tally-spec : {M : Type 1} → statement M
 tally-spec =
     tie.close
     (tie.spec
-    opening-requires
-    enum-known-r
-    enum-told
-    count-blocks-requires
-    enum-told-2
-    enum-known-objects
-    sub-t13
-    sub-t14
+    (λ c κs. search needs)
+    (λ c. search needs)
+    (λ c. search needs)
+    (λ c κs. search needs)
+    (λ c. search needs)
+    (λ c. search needs)
+    (λ c. omega (arith, count-bound _ _ _ (counts (c .before))))
+    (λ c. omega (arith, count-bound _ _ _ (counts (c .before))))
     returns
     returns-2
     returns-3)

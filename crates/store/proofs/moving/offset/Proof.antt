@@ -1,51 +1,45 @@
--- `store::offset` meets its contract. Assumes nothing.
-use mathlib.Core.Path.{sym, ap, _∙_}
+-- `store::offset` meets its contract: 4 and 5 (`opening`), then 10 and 12 (`offset_in`). Assumes nothing.
+use mathlib.Core.Path.{_≡_}
 use native.Mathlib.Omega.{arith}
-use lib.IntN.{ℤ}
 use mir.Facts.{toZ-ofZ}
 use Rattle.store.specs.State.{state}
-use Rattle.store.specs.Calls.{moveAnswer}
-use Rattle.store.specs.laws.Opening.{opening-parts}
+use Rattle.store.specs.Calls.{opening}
+use Rattle.store.specs.laws.Opening.{Open, opening-parts}
 use Rattle.store.specs.laws.Move.{move-shut, move-answer}
+use Rattle.store.specs.declared.answer.Answer.the-variants.{Accepted}
 use borrow.Author.Needs.{needs}
 use Rattle.store.proofs.moving.offset.Statement.{statement}
 use Rattle.store.proofs.moving.offset.Tie as tie
 
-opening-requires : tie.Need-opening-requires
-opening-requires c κs = search needs
+abbrev start : tie.After-s → tie.Start
+start c = c .before .before .before .before .before
 
-enum-known-r : tie.Need-enum-known-r
-enum-known-r c = search needs
+-- rows 4 and 5 are passed
+is-open : (c : tie.After-s) → opening (state (start c .args .image .now) (start c .args .table .now)) ≡ Accepted (c .s .given .0 .0)
+is-open c = cc
 
-enum-known-s : tie.Need-enum-known-s
-enum-known-s c = search needs
+opens : (c : tie.After-s) → Open (state (start c .args .image .now) (start c .args .table .now)) (c .s .given .0 .0)
+opens c = opening-parts _ _ (is-open c)
 
-cast-offset-in : tie.Need-cast-offset-in
-cast-offset-in c =
-    let o = opening-parts (state _ _) _ (sym (c .before .before .before .opening .ensures) ∙ c .before .s .given .1) in
-    omega (arith, o .high)
-
-offset-in-requires : tie.Need-offset-in-requires
-offset-in-requires c κs =
-    let o = opening-parts (state _ _) _ (sym (c .before .before .before .opening .ensures) ∙ c .before .s .given .1) in
-    omega (arith, o .high)
-
+-- row 4 or 5
 returns : tie.Need-returns
-returns c = move-shut (state _ _) _ (sym (c .before .before .before .opening .ensures) ∙ c .before .r .given .1) _ _
+returns c = move-shut (state _ _) _ (cc) _ _
 
+-- row 10 or 12, or the pointer
 returns-2 : tie.Need-returns-2
 returns-2 c =
-    c .offset-in .ensures ∙ move-answer (state _ _) _ (sym (c .before .before .before .before .opening .ensures) ∙ c .before .before .s .given .1) _ _
-    ∙ ap (λ (d : ℤ). moveAnswer (c .before .before .before .before .before .before .before .args .pointer) d (state (c .before .before .before .before .before .before .before .args .image .now) (c .before .before .before .before .before .before .before .args .table .now))) (toZ-ofZ (c .before .before .before .before .before .before .before .fits .distance))
+    let s = c .before .before in
+    let b = start s in
+    cc (move-answer (state _ _) _ (is-open s) (b .args .pointer) (b .args .distance), toZ-ofZ (b .fits .distance))
 
 pub offset-spec : {M : Type 1} → statement M
 offset-spec =
     tie.close
     (tie.spec
-    opening-requires
-    enum-known-r
-    enum-known-s
-    cast-offset-in
-    offset-in-requires
+    (λ c κs. search needs)
+    (λ c. search needs)
+    (λ c. search needs)
+    (λ c. omega (arith, opens (c .before) .high))
+    (λ c κs. omega (arith, opens (c .before) .high))
     returns
     returns-2)

@@ -1,72 +1,79 @@
--- `store::offset_in` meets its contract. Assumes nothing.
-use Prim.Native.Nat.{ℕ}
-use mathlib.Core.Path.{sym, ap, _∙_, subst}
+-- `store::offset_in` meets its contract: 10 (`reach`), then 12 (`moved`); or the moved pointer is packed. Assumes nothing.
+use mathlib.Core.Path.{_≡_, sym, _∙_, subst}
 use native.Mathlib.Omega.{arith}
 use mir.Facts.{toZ-ofZ}
-use Rattle.frame.specs.Pointers.{InRange, moved}
-use Rattle.frame.specs.laws.Pointers.{unpack-range, reach-within, reach-bad, moved-range}
-use Rattle.store.specs.declared.answer.Answer.the-variants.{Accepted}
+use Rattle.frame.specs.Pointers.{InRange, moved, reach}
+use Rattle.frame.specs.laws.Pointers.{Reaches, unpack-range, reach-within, reach-bad, moved-range}
 use Rattle.store.specs.laws.Move.{moved-bad, moved-out, moved-in}
 use borrow.Author.Needs.{needs}
 use Rattle.store.proofs.moving.offset_in.Statement.{statement}
 use Rattle.store.proofs.moving.offset_in.Tie as tie
 
-unpack-requires : tie.Need-unpack-requires
-unpack-requires c κs = search needs
+-- The places: where the pointer is unpacked, where its tag is good, where it is moved, and where it stays inside.
+abbrev start : tie.After-unpack → tie.Start
+start c = c .before
 
-reach-requires : tie.Need-reach-requires
-reach-requires c κs = search needs
+abbrev at-parts : tie.After-n → tie.After-unpack
+at-parts c = c .before .before .before
 
-enum-told : tie.Need-enum-told
-enum-told c = search needs
+abbrev at-good : tie.After-moved → tie.After-n
+at-good c = c .before .before
 
-enum-known-n : tie.Need-enum-known-n
-enum-known-n c = search needs
+abbrev at-moved : tie.After-q → tie.After-moved
+at-moved c = c .before .before
 
-moved-requires : tie.Need-moved-requires
-moved-requires c κs = (subst InRange (sym (c .before .before .before .before .unpack .ensures)) (unpack-range _), omega (arith, reach-within _ _ _ (sym (c .before .before .before .reach .ensures) ∙ c .before .n .given .1) .small (omega (arith, c .before .before .before .before .before .pre))))
+in-range : (c : tie.After-unpack) → InRange (c .unpack .result)
+in-range c = subst InRange (sym (c .unpack .ensures)) (unpack-range _)
 
-enum-told-2 : tie.Need-enum-told-2
-enum-told-2 c = search needs
+-- the slot or frame
+reaches : (c : tie.After-n) → let u = at-parts c in Reaches (start u .args .s) (u .unpack .result) (c .n .given .0 .0)
+reaches c = reach-within _ _ _ cc
 
-enum-known-q : tie.Need-enum-known-q
-enum-known-q c = search needs
+-- the move, as it was made
+moves : (c : tie.After-moved) → let u = at-parts (at-good c) in let a = start u .args in
+    moved (u .unpack .result) (reach (a .s) (u .unpack .result)) (a .distance) ≡ c .moved .result
+moves c = cc (reaches (at-good c) .exponent, toZ-ofZ (start (at-parts (at-good c)) .fits .distance))
 
 pack-requires : tie.Need-pack-requires
-pack-requires c κs = moved-range _ _ _ _ (subst InRange (sym (c .before .before .before .before .before .before .before .before .unpack .ensures)) (unpack-range _)) (sym (c .before .before .before .moved .ensures) ∙ c .before .q .given .1)
+pack-requires c κs =
+    let m = at-moved (c .before) in
+    moved-range _ _ _ _ (in-range (at-parts (at-good m))) (moves m ∙ c .before .q .given .1)
 
+-- row 10
 returns : tie.Need-returns
 returns c =
-    let b = c .before .before .before .before in
-    rw (← c .before .before .before .unpack .ensures) (moved-bad (b .args .s) (c .before .before .before .unpack .result) (b .args .distance) (reach-bad _ _ (sym (c .before .before .reach .ensures) ∙ c .enum-told .given .1)))
+    let u = c .before .before .before in
+    let a = start u .args in
+    cc (moved-bad (a .s) (u .unpack .result) (a .distance) (reach-bad _ _ cc))
 
+-- row 12
 returns-2 : tie.Need-returns-2
 returns-2 c =
-    let b = c .before .before .before .before .before .before .before .before in
-    let p = c .before .before .before .before .before .before .before .unpack .result in
-    let r = reach-within _ _ _ (sym (c .before .before .before .before .before .before .reach .ensures) ∙ c .before .before .before .before .n .given .1) in
-    let m = sym (ap (λ (n : ℕ). moved p n (b .args .distance)) (r .exponent)) ∙ sym (ap (moved p _) (toZ-ofZ (b .fits .distance))) ∙ sym (c .before .before .moved .ensures) ∙ c .enum-told2 .given .1 in
-    rw (← c .before .before .before .before .before .before .before .unpack .ensures) (moved-out (b .args .s) p (b .args .distance) (r .good) m)
+    let m = c .before .before in
+    let u = at-parts (at-good m) in
+    let a = start u .args in
+    cc (moved-out (a .s) (u .unpack .result) (a .distance) (reaches (at-good m) .good) (moves m ∙ c .enum-told2 .given .1))
 
+-- the moved pointer
 returns-3 : tie.Need-returns-3
 returns-3 c =
-    let b = c .before .before .before .before .before .before .before .before .before .before in
-    let p = c .before .before .before .before .before .before .before .before .before .unpack .result in
-    let r = reach-within _ _ _ (sym (c .before .before .before .before .before .before .before .before .reach .ensures) ∙ c .before .before .before .before .before .before .n .given .1) in
-    let m = sym (ap (λ (n : ℕ). moved p n (b .args .distance)) (r .exponent)) ∙ sym (ap (moved p _) (toZ-ofZ (b .fits .distance))) ∙ sym (c .before .before .before .before .moved .ensures) ∙ c .before .before .q .given .1 in
-    rw (← c .before .before .before .before .before .before .before .before .before .unpack .ensures) (ap Accepted (c .pack .ensures) ∙ moved-in (b .args .s) p (b .args .distance) _ (r .good) m)
+    let q = c .before .before in
+    let m = at-moved q in
+    let u = at-parts (at-good m) in
+    let a = start u .args in
+    cc (moved-in (a .s) (u .unpack .result) (a .distance) (q .q .given .0 .0) (reaches (at-good m) .good) (moves m ∙ q .q .given .1))
 
 pub offset-in-spec : {M : Type 1} → statement M
 offset-in-spec =
     tie.close
     (tie.spec
-    unpack-requires
-    reach-requires
-    enum-told
-    enum-known-n
-    moved-requires
-    enum-told-2
-    enum-known-q
+    (λ c κs. search needs)
+    (λ c κs. search needs)
+    (λ c. search needs)
+    (λ c. search needs)
+    (λ c κs. (in-range (at-parts (c .before)), omega (arith, reaches (c .before) .small (omega (arith, start (at-parts (c .before)) .pre)))))
+    (λ c. search needs)
+    (λ c. search needs)
     pack-requires
     returns
     returns-2

@@ -1,31 +1,26 @@
--- `store::release::merge` meets its contract. Assumes nothing.
+-- `store::release::merge` meets its contract: the bytes from `from` to `to` are filled with zeros, then the free header is put. Assumes nothing.
 use native.Mathlib.Omega.{arith}
 use Rattle.store.proofs.Merging.{merged-over}
 use borrow.Author.Needs.{needs}
 use Rattle.store.proofs.release.merge.Statement.{statement}
 use Rattle.store.proofs.release.merge.Tie as tie
 
-sub-fill : tie.Need-sub-fill
-sub-fill c = search needs
+abbrev start : tie.After-write-free-arg → tie.Start
+start c = c .before .before .before .before .before .before
 
-fill-requires : tie.Need-fill-requires
-fill-requires c κs = search needs
-
-sub-write-free : tie.Need-sub-write-free
-sub-write-free c = search needs
-
-write-free-requires : tie.Need-write-free-requires
-write-free-requires c κs = search needs
-
-same-length : tie.Need-same-length
-same-length c = search needs
-
+-- one free block
 returns : tie.Need-returns
 returns c =
-    let a = c .before .before .before .before .before .before .before .before .before .args in
+    let a = start (c .before .before .before) .args in
     cc (merged-over (a .image .now) (a .from) (a .to) (omega arith) (omega arith))
 
 pub merge-spec : {M : Type 1} → statement M
 merge-spec =
     tie.close
-    (tie.spec sub-fill fill-requires sub-write-free write-free-requires same-length returns)
+    (tie.spec
+    (λ c. search needs)
+    (λ c κs. search needs)
+    (λ c. search needs)
+    (λ c κs. search needs)
+    (λ c. search needs)
+    returns)

@@ -12,7 +12,7 @@ returns c = sym (starts-first _ _ _ (omega arith))
 
 -- the block before is free
 returns-2 : tie.Need-returns-2
-returns-2 c = sym (starts-before _ _ _ (omega arith) (sym (c .before .kind-at .ensures) ∙ c .if2 .taken))
+returns-2 c = sym (starts-before _ _ _ (omega arith) cc)
 
 -- it is live
 returns-3 : tie.Need-returns-3

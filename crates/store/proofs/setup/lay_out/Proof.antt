@@ -1,4 +1,4 @@
--- `store::setup::lay_out` meets its contract. Assumes nothing.
+-- `store::setup::lay_out` meets its contract: the image is filled with zeros, then the superblock and one free header are put. Assumes nothing.
 use mathlib.Core.Path.{refl}
 use native.Mathlib.Omega.{arith}
 use lib.ListN.{length}
@@ -7,33 +7,26 @@ use borrow.Author.Needs.{needs}
 use Rattle.store.proofs.setup.lay_out.Statement.{statement}
 use Rattle.store.proofs.setup.lay_out.Tie as tie
 
-fill-requires : tie.Need-fill-requires
-fill-requires c κs = search needs
+-- The places: where the image is zero, and where it has a superblock.
+abbrev start : tie.After-write-superblock-arg → tie.Start
+start c = c .before .before .before .before .before .before
 
-write-superblock-requires : tie.Need-write-superblock-requires
-write-superblock-requires c κs = search needs
+abbrev at-zero : tie.After-write-free-arg → tie.After-write-superblock-arg
+at-zero c = c .before .before .before .before
 
-sub-write-free : tie.Need-sub-write-free
-sub-write-free c = search needs
-
-write-free-requires : tie.Need-write-free-requires
-write-free-requires c κs = search needs
-
-same-length : tie.Need-same-length
-same-length c = search needs
-
+-- a fresh image
 returns : tie.Need-returns
 returns c =
-    let a = c .before .before .before .before .before .before .before .before .before .before .before .before .before .args in
+    let a = start (at-zero (c .before .before .before)) .args in
     cc (laid-out (a .image .now) (a .s) (length (a .image .now)) refl (omega arith))
 
 pub lay-out-spec : {M : Type 1} → statement M
 lay-out-spec =
     tie.close
     (tie.spec
-    fill-requires
-    write-superblock-requires
-    sub-write-free
-    write-free-requires
-    same-length
+    (λ c κs. search needs)
+    (λ c κs. search needs)
+    (λ c. search needs)
+    (λ c κs. search needs)
+    (λ c. search needs)
     returns)

@@ -1,7 +1,7 @@
--- `store::setup::set_up` meets its contract. Assumes nothing.
-use mathlib.Core.Path.{_≡_, sym, _∙_}
+-- `store::setup::set_up` meets its contract: refused by `settable`, or the image is laid out and the used entries are cleared. Assumes nothing.
+use mathlib.Core.Path.{_≡_, sym}
 use native.Mathlib.Omega.{arith}
-use Rattle.store.specs.State.{state}
+use Rattle.store.specs.State.{State, state}
 use Rattle.store.specs.Calls.{setUpChecks}
 use Rattle.store.specs.declared.answer.Answer.the-variants.{Accepted}
 use Rattle.store.specs.laws.SetUp.{Settable, settable-parts, set-up-declined, set-up-done}
@@ -9,64 +9,48 @@ use borrow.Author.Needs.{needs}
 use Rattle.store.proofs.setup.set_up.Statement.{statement}
 use Rattle.store.proofs.setup.set_up.Tie as tie
 
-settable-requires : tie.Need-settable-requires
-settable-requires c κs = search needs
+-- The places: where rows 1, 2 and 3 are passed, where the used entries are known, and where the image is laid out.
+abbrev start : tie.After-enum-told → tie.Start
+start c = c .before .before .before .before .before .before .before
 
-enum-known-r : tie.Need-enum-known-r
-enum-known-r c = search needs
+abbrev at-passed : tie.After-used-entries → tie.After-enum-told
+at-passed c = c .before
 
-enum-told : tie.Need-enum-told
-enum-told c = search needs
+abbrev at-used : tie.After-clear-entries-arg → tie.After-used-entries
+at-used c = c .before .before .before .before .before
 
--- the three tests passed
-accepted : (c : tie.After-enum-told) → let a = c .before .before .before .before .before .before .before .args in setUpChecks (a .s) (state (a .image .now) (a .table .now)) ≡ Accepted (c .enum-told .given .0 .0)
-accepted c = sym (c .before .before .settable .ensures) ∙ c .enum-told .given .1
+abbrev given : tie.Start → State
+given c = state (c .args .image .now) (c .args .table .now)
 
-settled : (c : tie.After-enum-told) → let a = c .before .before .before .before .before .before .before .args in Settable (a .s) (state (a .image .now) (a .table .now))
+accepted : (c : tie.After-enum-told) → setUpChecks (start c .args .s) (given (start c)) ≡ Accepted (c .enum-told .given .0 .0)
+accepted c = cc
+
+settled : (c : tie.After-enum-told) → Settable (start c .args .s) (given (start c))
 settled c = settable-parts _ _ _ (accepted c)
 
-used-entries-requires : tie.Need-used-entries-requires
-used-entries-requires c κs = let t = settled c in omega arith
-
-lay-out-requires : tie.Need-lay-out-requires
-lay-out-requires c κs = let t = settled (c .before .before) in omega arith
-
-clear-entries-requires : tie.Need-clear-entries-requires
-clear-entries-requires c κs = let t = settled (c .before .before .before .before .before .before) in omega (arith, c .before .before .before .before .before .used-entries .ensures)
-
-same-length : tie.Need-same-length
-same-length c = search needs
-
-same-length-2 : tie.Need-same-length-2
-same-length-2 c = search needs
-
+-- row 1, 2 or 3
 returns : tie.Need-returns
-returns c = sym (set-up-declined _ _ _ (sym (c .before .before .before .settable .ensures) ∙ c .before .r .given .1))
+returns c = sym (set-up-declined _ (state _ _) _ cc)
 
-same-length-3 : tie.Need-same-length-3
-same-length-3 c = search needs
-
-same-length-4 : tie.Need-same-length-4
-same-length-4 c = search needs
-
+-- a fresh store
 returns-2 : tie.Need-returns-2
 returns-2 c =
-    let a = c .before .before .before .before .before .before .before .before .before .before .before .before .before .before .before .before .args in
-    cc (set-up-done (a .s) (state (a .image .now) (a .table .now)) _ (accepted (c .before .before .before .before .before .before .before .before .before)), c .before .before .before .before .before .before .before .before .used-entries .ensures, c .before .before .before .before .before .before .lay-out .ensures, c .before .before .clear-entries .ensures)
+    let p = at-passed (at-used (c .before .before .before)) in
+    cc (set-up-done (start p .args .s) (given (start p)) _ (accepted p))
 
 pub set-up-spec : {M : Type 1} → statement M
 set-up-spec =
     tie.close
     (tie.spec
-    settable-requires
-    enum-known-r
-    enum-told
-    used-entries-requires
-    lay-out-requires
-    clear-entries-requires
-    same-length
-    same-length-2
+    (λ c κs. search needs)
+    (λ c. search needs)
+    (λ c. search needs)
+    (λ c κs. let t = settled c in omega arith)
+    (λ c κs. let t = settled (at-passed (c .before)) in omega arith)
+    (λ c κs. let t = settled (at-passed (at-used c)) in omega (arith, at-used c .used-entries .ensures))
+    (λ c. search needs)
+    (λ c. search needs)
     returns
-    same-length-3
-    same-length-4
+    (λ c. search needs)
+    (λ c. search needs)
     returns-2)
