@@ -1,7 +1,6 @@
 -- `frame::tag_object` meets its contract: one test by shifts says whether the object is small-framed; only a large-framed one has its frame number found.
 -- Assumes nothing.
 use mathlib.Core.Path.{_≡_, sym, _∙_}
-use mathlib.Core.Bool.{true, false}
 use Prim.Native.Nat.{_≤_, _<_, _^_}
 use borrow.Author.Tests.{le-leb, lt-leb, leb-true, leb-false}
 use lib.Dec.{leb}
