@@ -1,29 +1,35 @@
 // The store at work: a story of four load buffers, then the cases of docs/FORMAT.md. Each call has its expected answer beside it, and the
 // last line counts how many gave it.
-mod calls;
 mod cases;
+mod labels;
 mod print;
+mod run;
 mod story;
 
-use calls::Score;
 use print::decimal;
 use print::text;
-
-// The last line.
-fn summary(score: Score) {
-    text(b"\n");
-    decimal(score.made);
-    text(b" calls, ");
-    decimal(score.met);
-    text(b" answered as docs/FORMAT.md says\n");
-}
+use run::Run;
+use store::Answer;
 
 fn main() {
-    let mut image = [7u8; 1024];
-    let mut table = [9u64; 384];
     text(b"CueLedger's object store\n");
-    let score = Score { made: 0, met: 0 };
-    let score = story::story(score, &mut image, &mut table);
-    let score = cases::cases(score, &mut image, &mut table);
-    summary(score);
+    let run = Run {
+        image: [7; 1024],
+        table: [9; 384],
+        bytes: 1024,
+        entries: 384,
+        answer: Answer::Accepted(0),
+        made: 0,
+        met: 0,
+    };
+    let run = story::freed(story::used(story::allocated(run)));
+    let run = cases::copies(cases::access(cases::openings(run)));
+    let run = cases::tags(cases::frame_moves(cases::slot_moves(run)));
+    let run = cases::frees(cases::not_open(run));
+    let run = cases::damaged(cases::fresh(run));
+    text(b"\n");
+    decimal(run.made);
+    text(b" calls, ");
+    decimal(run.met);
+    text(b" answered as docs/FORMAT.md says\n");
 }

@@ -1,4 +1,5 @@
 // What the program writes.
+use crate::labels::LABELS;
 use libc::STDOUT_FILENO;
 use store::Answer;
 use store::Usage;
@@ -14,7 +15,7 @@ pub fn decimal(n: u64) {
 }
 
 // A pointer, or the bytes of a load, in 16 digits.
-pub fn hex(n: u64) {
+fn hex(n: u64) {
     text(b"0x");
     io::print_hex(STDOUT_FILENO, n, 16);
 }
@@ -26,99 +27,128 @@ pub fn heading(t: &[u8]) {
     text(b"\n");
 }
 
-// The first column of a line, of 32 places.
-pub fn name(t: &[u8]) {
+// The label of the call with this number, 0 the first.
+pub fn label(call: u64) {
     text(b"  ");
-    text(t);
-    let blanks: &[u8] = b"                                ";
-    let n = t.len();
-    if n < blanks.len() {
-        text(&blanks[n..]);
+    if call < 79 {
+        let at = 32 * call as usize;
+        let end = at + 32;
+        text(&LABELS[at..end]);
     }
 }
 
 // Why a call was declined, by its number.
-pub fn reason(number: u32) {
-    match number {
-        1 => text(b"slot exponent outside 6 to 15"),
-        2 => text(b"image length outside 64 to 2^30"),
-        3 => text(b"table too short to set up"),
-        4 => text(b"superblock not as laid out"),
-        5 => text(b"table shorter than the used entries"),
-        6 => text(b"size or length 0"),
-        7 => text(b"walk meets an unsound header"),
-        8 => text(b"no free block fits"),
-        9 => text(b"table entry not zero"),
-        10 => text(b"tag number out of range"),
-        11 => text(b"tag leads to no live object"),
-        12 => text(b"move leaves slot, frame or 48 bits"),
-        13 => text(b"bytes not all inside the body"),
-        14 => text(b"width not 1, 2, 4 or 8"),
-        15 => text(b"address is not the base"),
-        16 => text(b"value too large for the width"),
-        _ => text(b"no reason known"),
+const REASONS: [u8; 612] = *b"no reason known                     \
+slot exponent outside 6 to 15       \
+image length outside 64 to 2^30     \
+table too short to set up           \
+superblock not as laid out          \
+table shorter than the used entries \
+size or length 0                    \
+walk meets an unsound header        \
+no free block fits                  \
+table entry not zero                \
+tag number out of range             \
+tag leads to no live object         \
+move leaves slot, frame or 48 bits  \
+bytes not all inside the body       \
+width not 1, 2, 4 or 8              \
+address is not the base             \
+value too large for the width       ";
+
+// Text without the blanks at its end.
+fn trimmed(t: &[u8]) {
+    let mut n = t.len();
+    while 0 < n {
+        if t[n - 1] != b' ' {
+            break;
+        }
+        n -= 1;
     }
+    text(&t[..n]);
 }
 
 // A refusal.
-pub fn refused(number: u32) {
+fn refused(number: u32) {
     text(b"refused ");
     decimal(number as u64);
     text(b": ");
-    reason(number);
-}
-
-// The answer of a call that gives no value.
-pub fn done(a: Answer) {
-    match a {
-        Answer::Accepted(_) => text(b"accepted"),
-        Answer::Refused(r) => refused(r.number()),
+    if number < 17 {
+        let at = 36 * number as usize;
+        let end = at + 36;
+        trimmed(&REASONS[at..end]);
     }
-}
-
-// The answer of a call that gives a pointer or loaded bytes.
-pub fn given(a: Answer) {
-    match a {
-        Answer::Accepted(v) => hex(v),
-        Answer::Refused(r) => refused(r.number()),
-    }
-}
-
-// The counts of a tally.
-pub fn counts(objects: u64, live: u64, free: u64) {
-    text(b"live objects ");
-    decimal(objects);
-    text(b", live bytes ");
-    decimal(live);
-    text(b", free bytes ");
-    decimal(free);
 }
 
 // The answer of a tally.
 pub fn usage(u: Usage) {
     match u {
-        Usage::Counts(objects, live, free) => counts(objects, live, free),
+        Usage::Counts(objects, live, free) => {
+            text(b"live objects ");
+            decimal(objects);
+            text(b", live bytes ");
+            decimal(live);
+            text(b", free bytes ");
+            decimal(free);
+        }
         Usage::Refused(r) => refused(r.number()),
     }
 }
 
-// The flag, the tag number and the address of a pointer.
-pub fn parts(pointer: u64) {
+// What a table entry holds.
+pub fn entry(at: u64, value: u64) {
+    text(b"entry ");
+    decimal(at);
+    text(b" holds ");
+    decimal(value);
+}
+
+// The table entry of a large-framed pointer to the first two slots.
+fn framed(flag: u64, tag: u64, table: &[u64]) {
+    if flag == 1 {
+        text(b"no table entry");
+    } else if tag >= 7 {
+        let at = (tag - 7) as usize;
+        if at < table.len() {
+            entry(tag - 7, table[at]);
+        }
+    }
+}
+
+// A pointer, its parts, and its table entry.
+fn parts(pointer: u64, table: &[u64]) {
+    let flag = pointer >> 63;
+    let tag = (pointer >> 48) & 0x7fff;
+    text(b"pointer ");
+    hex(pointer);
     text(b", flag ");
-    decimal(pointer >> 63);
+    decimal(flag);
     text(b", tag ");
-    decimal((pointer >> 48) & 0x7fff);
+    decimal(tag);
     text(b", body at ");
     decimal(pointer & 0xffff_ffff_ffff);
     text(b", ");
+    framed(flag, tag, table);
 }
 
-// What a table entry holds.
-pub fn entry(table: &[u64], at: usize) {
-    if at < table.len() {
-        text(b"entry ");
-        decimal(at as u64);
-        text(b" holds ");
-        decimal(table[at]);
+// How a value is shown: not at all, as bytes, as a number, as a pointer with its parts.
+pub const DONE: u32 = 0;
+
+pub const BYTES: u32 = 1;
+
+pub const NUMBER: u32 = 2;
+
+pub const PARTS: u32 = 3;
+
+// An answer.
+pub fn answer(a: Answer, form: u32, table: &[u64]) {
+    match a {
+        Answer::Refused(r) => refused(r.number()),
+        Answer::Accepted(v) => match form {
+            DONE => text(b"accepted"),
+            BYTES => hex(v),
+            NUMBER => decimal(v),
+            _ => parts(v, table),
+        },
     }
 }

@@ -1,0 +1,80 @@
+// The first column of each call's line: 32 places, in the order of the calls.
+pub const LABELS: [u8; 2528] = *b"set up                          \
+10 bytes                        \
+20 bytes                        \
+32 bytes                        \
+1 byte                          \
+store 1250 in 4 bytes           \
+load 4 bytes                    \
+move the pointer by 17          \
+load 4 bytes there              \
+free                            \
+load through its pointer        \
+tally                           \
+slot exponent 5                 \
+slot exponent 16                \
+63 bytes                        \
+383 entries                     \
+nothing                         \
+allocate 10                     \
+tally                           \
+load 8 at 34                    \
+load 8 at 35                    \
+load 1 at 31                    \
+load 3 at 32                    \
+store 256 in 1 at 41            \
+store 255 in 1 at 41            \
+store 1 in 1 at 42              \
+fill 1 at 40 with 7             \
+load 2 at 40                    \
+store 0x04030201 in 4 at 32     \
+copy 4 from 32 to 34            \
+load 8 at 32                    \
+copy 4 from 34 to 33            \
+load 8 at 32                    \
+copy 0 from 34 to 33            \
+copy 4 from 39 to 33            \
+by 31                           \
+by 32                           \
+by -32                          \
+by -33                          \
+by 0                            \
+by 2^63-1                       \
+by -2^63                        \
+by 0                            \
+by 1                            \
+by -63                          \
+by -64                          \
+by 113                          \
+by 114                          \
+by -142                         \
+by -143                         \
+by 2^31-1                       \
+by 2^31                         \
+flag 1, tag 63                  \
+flag 1, tag 64                  \
+flag 0, tag 6                   \
+flag 0, tag 7                   \
+flag 0, tag 31                  \
+flag 0, tag 32                  \
+15 image bytes                  \
+1023 image bytes                \
+383 table entries               \
+at 33, not the base             \
+through a zero entry            \
+at 32                           \
+tally                           \
+at 32 again                     \
+0                               \
+993                             \
+2^32-1                          \
+31, from 1024 bytes             \
+32, from 1024 bytes             \
+16, from 64 bytes               \
+17, from 64 bytes               \
+32, from 64 bytes               \
+33, from 64 bytes               \
+allocate 32                     \
+load through entry 0            \
+allocate 10                     \
+tally                           ";

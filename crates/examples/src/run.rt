@@ -1,0 +1,124 @@
+// The calls of the store, each with its line and the answer that docs/FORMAT.md gives for it: the returned number, and the value.
+use crate::print::answer;
+use crate::print::label;
+use crate::print::text;
+use crate::print::usage;
+use std::num::wrapping_add_u64;
+use store::Answer;
+use store::Refusal;
+use store::Usage;
+
+// The calls but tally, each with its arguments.
+pub enum Call {
+    // Slot exponent.
+    SetUp(u32),
+    // Size; the type is 1.
+    Allocate(u32),
+    // Pointer.
+    Free(u64),
+    // Pointer, distance.
+    Move(u64, i64),
+    // Pointer, width.
+    Load(u64, u64),
+    // Pointer, width, value.
+    Store(u64, u64, u64),
+    // Pointer, length, byte.
+    Fill(u64, u32, u8),
+    // Target, source, length.
+    Copy(u64, u64, u32),
+}
+
+// Makes a call.
+fn called(call: Call, image: &mut [u8], table: &mut [u64]) -> Answer {
+    match call {
+        Call::SetUp(s) => store::set_up(image, table, s),
+        Call::Allocate(size) => store::allocate(image, table, size, 1),
+        Call::Free(p) => store::free(image, table, p),
+        Call::Move(p, distance) => store::offset(image, table, p, distance),
+        Call::Load(p, width) => store::load(image, table, p, width),
+        Call::Store(p, width, value) => store::store(image, table, p, width, value),
+        Call::Fill(p, length, byte) => store::fill(image, table, p, length, byte),
+        Call::Copy(target, source, length) => store::copy(image, table, target, source, length),
+    }
+}
+
+// Makes a call on the first `bytes` and `entries`; refused where there are not as many.
+fn lent(call: Call, image: &mut [u8], table: &mut [u64], bytes: usize, entries: usize) -> Answer {
+    if image.len() < bytes {
+        return Answer::Refused(Refusal::BadLength);
+    }
+    if table.len() < entries {
+        return Answer::Refused(Refusal::ShortTable);
+    }
+    called(call, &mut image[..bytes], &mut table[..entries])
+}
+
+// Whether a tally returned this number and these counts.
+fn has(u: Usage, number: u32, objects: u64, live: u64, free: u64) -> bool {
+    match u {
+        Usage::Counts(o, l, f) => number == 0 && o == objects && l == live && f == free,
+        Usage::Refused(r) => r.number() == number,
+    }
+}
+
+// Image and table, of which the first `bytes` and `entries` are lent; the last answer; how many calls were made, and how many answered as
+// expected.
+pub struct Run {
+    pub image: [u8; 1024],
+    pub table: [u64; 384],
+    pub bytes: usize,
+    pub entries: usize,
+    pub answer: Answer,
+    pub made: u64,
+    pub met: u64,
+}
+
+impl Run {
+    // Ends the line of a call, and counts it.
+    fn count(mut self, met: bool) -> Run {
+        self.made = wrapping_add_u64(self.made, 1);
+        if met {
+            text(b"\n");
+            self.met = wrapping_add_u64(self.met, 1);
+        } else {
+            text(b" -- NOT AS EXPECTED\n");
+        }
+        self
+    }
+
+    // Makes a call, with no line.
+    pub fn quietly(self, call: Call) -> Run {
+        let mut image = self.image;
+        let mut table = self.table;
+        let a = lent(call, &mut image, &mut table, self.bytes, self.entries);
+        Run {
+            image: image,
+            table: table,
+            bytes: self.bytes,
+            entries: self.entries,
+            answer: a,
+            made: self.made,
+            met: self.met,
+        }
+    }
+
+    // Makes a call, writes its line, and counts it.
+    pub fn make(self, call: Call, form: u32, number: u32, value: u64) -> Run {
+        let run = self.quietly(call);
+        let a = run.answer;
+        let table = run.table;
+        label(run.made);
+        answer(a, form, &table);
+        run.count(a.returned() == number && a.value() == value)
+    }
+
+    // Tally: the returned number and the counts.
+    pub fn tally(self, number: u32, objects: u64, live: u64, free: u64) -> Run {
+        let image = self.image;
+        let table = self.table;
+        let u = store::tally(&image, &table);
+        label(self.made);
+        usage(u);
+        self.count(has(u, number, objects, live, free))
+    }
+}
