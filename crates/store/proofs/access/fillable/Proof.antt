@@ -1,5 +1,5 @@
 -- `store::fillable` meets its contract: 4 and 5 (`opening`), 6, then 10, 11 and 13 (`access`). Assumes nothing.
-use mathlib.Core.Path.{_≡_}
+use mathlib.Core.Path.{_≡_, sym, _∙_}
 use native.Mathlib.Omega.{arith}
 use Rattle.store.specs.State.{state}
 use Rattle.store.specs.Calls.{opening}
@@ -18,7 +18,7 @@ abbrev at-open : tie.Else1 → tie.After-s
 at-open c = c .before .before
 
 is-open : (c : tie.After-s) → opening (state (start c .args .image .now) (start c .args .table .now)) ≡ Accepted (c .s .given .0 .0)
-is-open c = cc
+is-open c = sym (c .before .before .opening .ensures) ∙ c .s .given .1
 
 -- row 6
 returns : tie.Need-returns
@@ -26,13 +26,13 @@ returns c = fill-empty (state _ _) _ (is-open (c .before .before)) _ _ (c .if1 .
 
 -- row 4 or 5
 returns-2 : tie.Need-returns-2
-returns-2 c = fill-shut (state _ _) _ (cc) _ _
+returns-2 c = fill-shut (state _ _) _ (sym (c .before .before .before .opening .ensures) ∙ c .before .r .given .1) _ _
 
 -- row 10, 11 or 13, or the address
 returns-3 : tie.Need-returns-3
 returns-3 c =
     let o = at-open (c .before) in
-    cc (fill-access (state _ _) _ (is-open o) _ (start o .args .length) (omega (arith, c .before .if1 .left)))
+    c .access .ensures ∙ fill-access (state _ _) _ (is-open o) _ (start o .args .length) (omega (arith, c .before .if1 .left))
 
 pub fillable-spec : {M : Type 1} → statement M
 fillable-spec =

@@ -1,5 +1,5 @@
 -- `store::load` meets its contract: 4 and 5 (`opening`), 14, then 10, 11 and 13 (`access`); or the field is read. Assumes nothing.
-use mathlib.Core.Path.{_≡_, sym, _∙_}
+use mathlib.Core.Path.{_≡_, sym, _∙_, ap}
 use mathlib.Core.Bool.{true}
 use native.Mathlib.Omega.{arith}
 use borrow.Author.Tests.{not-true, not-false}
@@ -28,7 +28,7 @@ abbrev given : tie.Start → State
 given c = state (c .args .image .now) (c .args .table .now)
 
 is-open : (c : tie.After-s) → opening (given (start c)) ≡ Accepted (c .s .given .0 .0)
-is-open c = cc
+is-open c = sym (c .before .before .opening .ensures) ∙ c .s .given .1
 
 is-good : (c : tie.Else1) → goodWidth (start (at-open (c .before)) .args .width) ≡ true
 is-good c = sym (c .before .good-width .ensures) ∙ not-false _ (c .if1 .left)
@@ -39,7 +39,7 @@ found : (c : tie.After-at) →
     let o = at-open (w .before) in
     let b = start o in
     accessed (o .s .given .0 .0) (unpack (b .args .pointer)) (b .args .width) (given b) ≡ Accepted (c .at .given .0 .0)
-found c = cc
+found c = sym (c .before .before .access .ensures) ∙ c .at .given .1
 
 -- row 14
 returns : tie.Need-returns
@@ -47,20 +47,20 @@ returns c = load-width (state _ _) _ (is-open (at-open (c .before))) _ _ (sym (c
 
 -- row 4 or 5
 returns-2 : tie.Need-returns-2
-returns-2 c = load-shut (state _ _) _ (cc) _ _
+returns-2 c = load-shut (state _ _) _ (sym (c .before .before .before .opening .ensures) ∙ c .before .r .given .1) _ _
 
 -- row 10, 11 or 13
 returns-3 : tie.Need-returns-3
 returns-3 c =
     let w = at-wide (c .before .before .before) in
-    load-refused (state _ _) _ (is-open (at-open (w .before))) _ _ (is-good w) _ cc
+    load-refused (state _ _) _ (is-open (at-open (w .before))) _ _ (is-good w) _ (sym (c .before .before .before .access .ensures) ∙ c .before .r2 .given .1)
 
 -- the field
 returns-4 : tie.Need-returns-4
 returns-4 c =
     let a = c .before .before in
     let w = at-wide (a .before .before) in
-    cc (load-given (state _ _) _ (is-open (at-open (w .before))) _ _ (is-good w) _ (found a))
+    ap Accepted (c .read-field .ensures) ∙ load-given (state _ _) _ (is-open (at-open (w .before))) _ _ (is-good w) _ (found a)
 
 pub load-spec : {M : Type 1} → statement M
 load-spec =

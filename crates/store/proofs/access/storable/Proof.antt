@@ -23,7 +23,7 @@ abbrev at-wide : tie.After-fits2 → tie.Else1
 at-wide c = c .before
 
 is-open : (c : tie.After-s) → opening (state (start c .args .image .now) (start c .args .table .now)) ≡ Accepted (c .s .given .0 .0)
-is-open c = cc
+is-open c = sym (c .before .before .opening .ensures) ∙ c .s .given .1
 
 is-good : (c : tie.Else1) → goodWidth (start (at-open (c .before)) .args .width) ≡ true
 is-good c = sym (c .before .good-width .ensures) ∙ not-false _ (c .if1 .left)
@@ -40,14 +40,14 @@ returns-2 c =
 
 -- row 4 or 5
 returns-3 : tie.Need-returns-3
-returns-3 c = store-shut (state _ _) _ (cc) _ _ _
+returns-3 c = store-shut (state _ _) _ (sym (c .before .before .before .opening .ensures) ∙ c .before .r .given .1) _ _ _
 
 -- row 10, 11 or 13, or the address
 returns-4 : tie.Need-returns-4
 returns-4 c =
     let f = c .before .before in
     let w = at-wide f in
-    cc (store-access (state _ _) _ (is-open (at-open (w .before))) _ _ _ (is-good w) (sym (f .fits2 .ensures) ∙ not-false _ (c .before .if2 .left)))
+    c .access .ensures ∙ store-access (state _ _) _ (is-open (at-open (w .before))) _ _ _ (is-good w) (sym (f .fits2 .ensures) ∙ not-false _ (c .before .if2 .left))
 
 pub storable-spec : {M : Type 1} → statement M
 storable-spec =

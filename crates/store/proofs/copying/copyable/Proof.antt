@@ -1,5 +1,5 @@
 -- `store::copyable` meets its contract: 4 and 5 (`opening`), 6, then 10, 11 and 13 (`access`) of the target, and of the source. Assumes nothing.
-use mathlib.Core.Path.{_≡_, _∙_}
+use mathlib.Core.Path.{_≡_, _∙_, sym}
 use Prim.Native.Nat.{_<_}
 use native.Mathlib.Omega.{arith}
 use Rattle.store.specs.State.{state}
@@ -22,7 +22,7 @@ abbrev at-some : tie.After-access → tie.Else1
 at-some c = c .before
 
 is-open : (c : tie.After-s) → opening (state (start c .args .image .now) (start c .args .table .now)) ≡ Accepted (c .s .given .0 .0)
-is-open c = cc
+is-open c = sym (c .before .before .opening .ensures) ∙ c .s .given .1
 
 some : (c : tie.Else1) → 0 < start (at-open c) .args .length
 some c = omega (arith, c .if1 .left)
@@ -33,19 +33,19 @@ returns c = copy-empty (state _ _) _ (is-open (c .before .before)) _ _ _ (c .if1
 
 -- row 4 or 5
 returns-2 : tie.Need-returns-2
-returns-2 c = copy-shut (state _ _) _ (cc) _ _ _
+returns-2 c = copy-shut (state _ _) _ (sym (c .before .before .before .opening .ensures) ∙ c .before .r .given .1) _ _ _
 
 -- the target's row 10, 11 or 13
 returns-3 : tie.Need-returns-3
 returns-3 c =
     let l = at-some (c .before .before .before) in
-    copy-refused (state _ _) _ (is-open (at-open l)) _ _ _ (some l) _ cc
+    copy-refused (state _ _) _ (is-open (at-open l)) _ _ _ (some l) _ (sym (c .before .before .before .access .ensures) ∙ c .before .r2 .given .1)
 
 -- the source's, or its address
 returns-4 : tie.Need-returns-4
 returns-4 c =
     let l = at-some (c .before .before .before) in
-    c .access2 .ensures ∙ copy-access (state _ _) _ (is-open (at-open l)) _ _ _ (some l) (c .before .enum-told .given .0 .0) cc
+    c .access2 .ensures ∙ copy-access (state _ _) _ (is-open (at-open l)) _ _ _ (some l) _ (sym (c .before .before .before .access .ensures) ∙ c .before .enum-told .given .1)
 
 pub copyable-spec : {M : Type 1} → statement M
 copyable-spec =

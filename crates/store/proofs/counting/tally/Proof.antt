@@ -1,5 +1,5 @@
 -- `store::tally` meets its contract: 4 and 5 (`opening`), then 7 (`count_blocks`); or the counts. Assumes nothing.
-use mathlib.Core.Path.{_≡_}
+use mathlib.Core.Path.{_≡_, sym, _∙_}
 use native.Mathlib.Omega.{arith}
 use Rattle.block.specs.Walk.{countBlocks}
 use Rattle.block.specs.laws.Counting.{count-bound}
@@ -23,19 +23,19 @@ abbrev at-counted : tie.After-objects → tie.After-count-blocks
 at-counted c = c .before .before
 
 is-open : (c : tie.After-enum-told) → opening (state (start c .args .image .now) (start c .args .table .now)) ≡ Accepted (c .enum-told .given .0 .0)
-is-open c = cc
+is-open c = sym (c .before .before .opening .ensures) ∙ c .enum-told .given .1
 
 counts : (c : tie.After-objects) → let g = c .objects .given .0 in
     countBlocks (start (at-open (at-counted c)) .args .image .now) ≡ counted.Counts (g .0) (g .1 .0)
-counts c = cc
+counts c = sym (c .before .before .count-blocks .ensures) ∙ c .objects .given .1
 
 -- row 4 or 5
 returns : tie.Need-returns
-returns c = tally-shut (state _ _) _ cc
+returns c = tally-shut (state _ _) _ (sym (c .before .before .before .opening .ensures) ∙ c .before .r .given .1)
 
 -- row 7
 returns-2 : tie.Need-returns-2
-returns-2 c = tally-unsound (state _ _) _ (is-open (at-open (c .before .before))) cc
+returns-2 c = tally-unsound (state _ _) _ (is-open (at-open (c .before .before))) (sym (c .before .before .count-blocks .ensures) ∙ c .enum-told2 .given .1)
 
 -- the counts
 returns-3 : tie.Need-returns-3

@@ -1,5 +1,7 @@
 -- `store::offset_in` meets its contract: 10 (`reach`), then 12 (`moved`); or the moved pointer is packed. Assumes nothing.
-use mathlib.Core.Path.{_≡_, sym, _∙_, subst}
+use Rattle.store.specs.declared.answer.Answer.the-variants.{Accepted}
+use Prim.Native.Nat.{ℕ}
+use mathlib.Core.Path.{_≡_, sym, _∙_, subst, ap}
 use native.Mathlib.Omega.{arith}
 use mir.Facts.{toZ-ofZ}
 use Rattle.frame.specs.Pointers.{InRange, moved, reach}
@@ -27,12 +29,16 @@ in-range c = subst InRange (sym (c .unpack .ensures)) (unpack-range _)
 
 -- the slot or frame
 reaches : (c : tie.After-n) → let u = at-parts c in Reaches (start u .args .s) (u .unpack .result) (c .n .given .0 .0)
-reaches c = reach-within _ _ _ cc
+reaches c = reach-within _ _ _ (sym (c .before .before .reach .ensures) ∙ c .n .given .1)
 
 -- the move, as it was made
 moves : (c : tie.After-moved) → let u = at-parts (at-good c) in let a = start u .args in
     moved (u .unpack .result) (reach (a .s) (u .unpack .result)) (a .distance) ≡ c .moved .result
-moves c = cc (reaches (at-good c) .exponent, toZ-ofZ (start (at-parts (at-good c)) .fits .distance))
+moves c =
+    let u = at-parts (at-good c) in
+    let b = start u in
+    sym (ap (λ (n : ℕ). moved (u .unpack .result) n (b .args .distance)) (reaches (at-good c) .exponent))
+    ∙ sym (ap (moved (u .unpack .result) _) (toZ-ofZ (b .fits .distance))) ∙ sym (c .moved .ensures)
 
 pack-requires : tie.Need-pack-requires
 pack-requires c κs =
@@ -44,7 +50,7 @@ returns : tie.Need-returns
 returns c =
     let u = c .before .before .before in
     let a = start u .args in
-    cc (moved-bad (a .s) (u .unpack .result) (a .distance) (reach-bad _ _ cc))
+    rw (← u .unpack .ensures) (moved-bad (a .s) (u .unpack .result) (a .distance) (reach-bad _ _ (sym (c .before .before .reach .ensures) ∙ c .enum-told .given .1)))
 
 -- row 12
 returns-2 : tie.Need-returns-2
@@ -52,7 +58,7 @@ returns-2 c =
     let m = c .before .before in
     let u = at-parts (at-good m) in
     let a = start u .args in
-    cc (moved-out (a .s) (u .unpack .result) (a .distance) (reaches (at-good m) .good) (moves m ∙ c .enum-told2 .given .1))
+    rw (← u .unpack .ensures) (moved-out (a .s) (u .unpack .result) (a .distance) (reaches (at-good m) .good) (moves m ∙ c .enum-told2 .given .1))
 
 -- the moved pointer
 returns-3 : tie.Need-returns-3
@@ -61,7 +67,8 @@ returns-3 c =
     let m = at-moved q in
     let u = at-parts (at-good m) in
     let a = start u .args in
-    cc (moved-in (a .s) (u .unpack .result) (a .distance) (q .q .given .0 .0) (reaches (at-good m) .good) (moves m ∙ q .q .given .1))
+    rw (← u .unpack .ensures)
+    (ap Accepted (c .pack .ensures) ∙ moved-in (a .s) (u .unpack .result) (a .distance) _ (reaches (at-good m) .good) (moves m ∙ q .q .given .1))
 
 pub offset-in-spec : {M : Type 1} → statement M
 offset-in-spec =

@@ -21,10 +21,10 @@ abbrev at-good : tie.After-used-entries → tie.After-s
 at-good c = c .before .before
 
 good : (c : tie.After-s) → let i = start c .args .image .now in (superblockGood i ≡ true) × (c .s .given .0 .0 ≡ slotExponent i)
-good c = opened-is-good _ _ cc
+good c = opened-is-good _ _ (sym (c .before .before .«open» .ensures) ∙ c .s .given .1)
 
 used-is : (c : tie.After-used-entries) → let i = start (at-good c) .args .image .now in c .used-entries .result ≡ usedEntries (slotExponent i) (length i)
-used-is c = cc (good (at-good c) .1)
+used-is c = rw (good (at-good c) .1) at (c .used-entries .ensures)
 
 used-entries-requires : tie.Need-used-entries-requires
 used-entries-requires c κs =
@@ -34,7 +34,7 @@ used-entries-requires c κs =
 
 -- row 4
 returns : tie.Need-returns
-returns c = not-open (state _ _) (opened-is-bad _ cc)
+returns c = not-open (state _ _) (opened-is-bad _ (sym (c .before .before .«open» .ensures) ∙ c .enum-told .given .1))
 
 -- row 5
 returns-2 : tie.Need-returns-2

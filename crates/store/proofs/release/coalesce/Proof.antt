@@ -39,7 +39,7 @@ next c = start (at-met c) .args .h + c .extent-at .result
 meets : (c : tie.After-extent-at) → let a = start (at-met c) .args in Meets (image c) (a .h) (at-met c .before .before2 .given .0 .0) (next c)
 meets c =
     record {
-      met = cc;
+      met = sym (at-met c .before .before .before .walk-to .ensures) ∙ at-met c .before .before2 .given .1;
       follows = ap (λ (n : ℕ). start (at-met c) .args .h + n) (c .extent-at .ensures);
       is-sound = start (at-met c) .pre;
     }

@@ -1,5 +1,5 @@
 -- `store::setup::set_up` meets its contract: refused by `settable`, or the image is laid out and the used entries are cleared. Assumes nothing.
-use mathlib.Core.Path.{_≡_, sym}
+use mathlib.Core.Path.{_≡_, sym, _∙_}
 use native.Mathlib.Omega.{arith}
 use Rattle.store.specs.State.{State, state}
 use Rattle.store.specs.Calls.{setUpChecks}
@@ -23,14 +23,14 @@ abbrev given : tie.Start → State
 given c = state (c .args .image .now) (c .args .table .now)
 
 accepted : (c : tie.After-enum-told) → setUpChecks (start c .args .s) (given (start c)) ≡ Accepted (c .enum-told .given .0 .0)
-accepted c = cc
+accepted c = sym (c .before .before .settable .ensures) ∙ c .enum-told .given .1
 
 settled : (c : tie.After-enum-told) → Settable (start c .args .s) (given (start c))
 settled c = settable-parts _ _ _ (accepted c)
 
 -- row 1, 2 or 3
 returns : tie.Need-returns
-returns c = sym (set-up-declined _ (state _ _) _ cc)
+returns c = sym (set-up-declined _ (state _ _) _ (sym (c .before .before .before .settable .ensures) ∙ c .before .r .given .1))
 
 -- a fresh store
 returns-2 : tie.Need-returns-2
