@@ -9,6 +9,7 @@ use lib.ListN.{length}
 use Rattle.block.specs.Layout.{headerAt, sound}
 use Rattle.block.specs.laws.Soundness.{sound-in, sound-end, examined-is-sound, examined-is-unsound}
 use Rattle.block.specs.declared.header.Header.{Header}
+use Rattle.store.specs.Calls.{released}
 use Rattle.store.specs.laws.Free.{released-lost}
 use Rattle.store.proofs.Merging.{Meets, before-in, released-last, released-bad, released-next}
 use borrow.Author.Needs.{needs}
@@ -49,7 +50,7 @@ add-next c = omega (arith, meets c .follows, sound-end _ _ (meets c .is-sound))
 
 -- nothing follows
 returns : tie.Need-returns
-returns c = cc (released-last (meets (c .before .before)) (omega arith))
+returns c = rw (c .before .merge-start .ensures) (sym (released-last (meets (c .before .before)) (omega arith)))
 
 -- `next` is before the end
 inside : (c : tie.Else1) → next (at-next c) < length (image (at-next c))
@@ -64,20 +65,22 @@ merge-end-requires c κs = omega (arith, sound-end _ _ (seen (c .before) .0), ap
 
 -- row 7: h is not met
 returns-2 : tie.Need-returns-2
-returns-2 c = cc (c .before .before .walk-to .ensures, c .enum-told .given .1, released-lost (c .before .before .before .before .args .image .now) (c .before .before .before .before .args .h))
+returns-2 c =
+    let a = c .before .before .before .before .args in
+    sym (ap (released (a .image .now) (a .h)) (sym (c .before .before .walk-to .ensures) ∙ c .enum-told .given .1) ∙ released-lost (a .image .now) (a .h))
 
 -- row 7: the next header is unsound
 returns-3 : tie.Need-returns-3
 returns-3 c =
     let b = c .before .before .before in
-    cc (released-bad (meets (at-next b)) (inside b) (examined-is-unsound _ _ (sym (c .before .before .examine .ensures) ∙ c .enum-told2 .given .1)))
+    sym (released-bad (meets (at-next b)) (inside b) (examined-is-unsound _ _ (sym (c .before .before .examine .ensures) ∙ c .enum-told2 .given .1)))
 
 -- it is sound
 returns-4 : tie.Need-returns-4
 returns-4 c =
     let d = c .before .before in
     let b = at-inside d in
-    cc (released-next (meets (at-next b)) (inside b) _ (seen d .1) (seen d .0))
+    rw (b .before .merge-start .ensures, c .merge-end .ensures) (sym (released-next (meets (at-next b)) (inside b) _ (seen d .1) (seen d .0)))
 
 pub coalesce-spec : {M : Type 1} → statement M
 coalesce-spec =
