@@ -35,9 +35,9 @@ extern "C" {
 #endif
 
 #define CUE_VERSION_MAJOR 0
-#define CUE_VERSION_MINOR 1
+#define CUE_VERSION_MINOR 2
 #define CUE_VERSION_PATCH 0
-#define CUE_VERSION "0.1.0"
+#define CUE_VERSION "0.2.0"
 
 enum cue_refusal {
     CUE_ACCEPTED = 0,
@@ -54,7 +54,7 @@ enum cue_refusal {
     CUE_DANGLING = 11,       /* the tag leads to no live header that has this tag */
     CUE_LEAVES = 12,         /* the move leaves slot, frame or 48 bits */
     CUE_OUT_OF_BOUNDS = 13,  /* bytes not all inside the body */
-    CUE_BAD_WIDTH = 14,      /* width not 1, 2, 4, 8 */
+    CUE_BAD_WIDTH = 14,      /* width outside 1..8 */
     CUE_NOT_BASE = 15,       /* free: the address is not the object's start */
     CUE_TOO_LARGE = 16       /* store: value too large for the width */
 };
@@ -77,7 +77,7 @@ static inline const char *cue_reason(uint32_t number)
     case CUE_DANGLING: return "tag leads to no live object";
     case CUE_LEAVES: return "move leaves slot, frame or 48 bits";
     case CUE_OUT_OF_BOUNDS: return "bytes not all inside the body";
-    case CUE_BAD_WIDTH: return "width not 1, 2, 4 or 8";
+    case CUE_BAD_WIDTH: return "width outside 1 to 8";
     case CUE_NOT_BASE: return "address is not the base";
     case CUE_TOO_LARGE: return "value too large for the width";
     default: return "no refusal has this number";
@@ -114,11 +114,11 @@ uint32_t cue_allocate(uint8_t *image, size_t image_len, uint64_t *table, size_t 
  * Refusals, in order: 4, 5, 10, 12. */
 uint32_t cue_move(const uint8_t *image, size_t image_len, const uint64_t *table, size_t table_len, uint64_t pointer, int64_t distance, uint64_t *moved);
 
-/* Loads 1, 2, 4 or 8 bytes, little-endian.
+/* Loads 1 to 8 bytes, little-endian.
  * Refusals, in order: 4, 5, 14, 10, 11, 13. */
 uint32_t cue_load(const uint8_t *image, size_t image_len, const uint64_t *table, size_t table_len, uint64_t pointer, uint64_t width, uint64_t *value);
 
-/* Stores a value below 256^width in 1, 2, 4 or 8 bytes, little-endian.
+/* Stores a value below 256^width in 1 to 8 bytes, little-endian: a 24-bit sample takes 3.
  * Refusals, in order: 4, 5, 14, 16, 10, 11, 13. */
 uint32_t cue_store(uint8_t *image, size_t image_len, const uint64_t *table, size_t table_len, uint64_t pointer, uint64_t width, uint64_t value);
 

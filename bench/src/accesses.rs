@@ -23,45 +23,41 @@ pub fn each(pointers: &[u64], mut work: impl FnMut(u64)) -> f64 {
     time(|| (0..PASSES).for_each(|_| pointers.iter().for_each(|&pointer| work(pointer))))
 }
 
+/// The number in `W` bytes, without a test.
+///
+/// # Safety
+/// The bytes can be read.
+unsafe fn read<const W: usize>(at: *const u8) -> u64 {
+    let mut bytes = [0; 8];
+    bytes[..W].copy_from_slice(&*at.cast::<[u8; W]>());
+    u64::from_le_bytes(bytes)
+}
+
 /// Each pointer has 8 bytes of its object at its address.
-pub fn load(bench: &mut Bench, name: &str, lent: &mut Lent, pointers: &[u64], width: u64) {
+pub fn load<const W: usize>(bench: &mut Bench, what: &str, lent: &mut Lent, pointers: &[u64]) {
     bench.line(
-        name,
+        &format!("load {W}, {what}"),
         PASSES * pointers.len(),
         lent,
-        both!(|C, lent: Lent| each(pointers, |p| sink(C::load(lent, p, black_box(width)).unwrap()))),
+        both!(|C, lent: Lent| each(pointers, |p| sink(C::load(lent, p, black_box(W as u64)).unwrap()))),
         // SAFETY: the 8 bytes are in the image.
-        Other::Shown(&mut |lent| {
-            each(pointers, |p| unsafe {
-                let at = lent.image.as_ptr().add(address(p));
-                sink(match width {
-                    1 => u64::from(at.read()),
-                    2 => u64::from(at.cast::<u16>().read_unaligned()),
-                    4 => u64::from(at.cast::<u32>().read_unaligned()),
-                    _ => at.cast::<u64>().read_unaligned(),
-                })
-            })
-        }),
+        Other::Shown(&mut |lent| each(pointers, |p| sink(unsafe { read::<W>(lent.image.as_ptr().add(address(p))) }))),
     );
 }
 
 /// As `load`.
-pub fn store(bench: &mut Bench, name: &str, lent: &mut Lent, pointers: &[u64], width: u64) {
+pub fn store<const W: usize>(bench: &mut Bench, what: &str, lent: &mut Lent, pointers: &[u64]) {
+    let bytes: [u8; W] = std::array::from_fn(|i| if i == 0 { 0x5a } else { 0 });
     bench.line(
-        name,
+        &format!("store {W}, {what}"),
         PASSES * pointers.len(),
         lent,
-        both!(|C, lent: Lent| each(pointers, |p| sink(C::store(lent, p, black_box(width), 0x5a).unwrap()))),
+        both!(|C, lent: Lent| each(pointers, |p| sink(C::store(lent, p, black_box(W as u64), 0x5a).unwrap()))),
         // SAFETY: the 8 bytes are in the image.
         Other::Shown(&mut |lent| {
             each(pointers, |p| unsafe {
                 let at = lent.image.as_mut_ptr().add(address(p));
-                match width {
-                    1 => at.write(0x5a),
-                    2 => at.cast::<u16>().write_unaligned(0x5a),
-                    4 => at.cast::<u32>().write_unaligned(0x5a),
-                    _ => at.cast::<u64>().write_unaligned(0x5a),
-                }
+                at.cast::<[u8; W]>().write(bytes);
                 sink(at);
             })
         }),
@@ -76,11 +72,11 @@ pub fn measure(bench: &mut Bench) {
         let mut random = Random::new(1);
         let objects: Vec<u64> = (0..900).map(|_| lent.allocate(256)).filter(|&pointer| is_small(pointer) == small).collect();
         let pointers: Vec<u64> = (0..1024).map(|_| random.pick(&objects) + 8 * random.below(32)).collect();
-        for width in [1, 2, 4, 8] {
-            load(bench, &format!("load {width}, {frame}"), &mut lent, &pointers, width);
+        for load in [load::<1>, load::<2>, load::<3>, load::<4>, load::<7>, load::<8>] {
+            load(bench, frame, &mut lent, &pointers);
         }
-        for width in [1, 2, 4, 8] {
-            store(bench, &format!("store {width}, {frame}"), &mut lent, &pointers, width);
+        for store in [store::<1>, store::<2>, store::<3>, store::<4>, store::<7>, store::<8>] {
+            store(bench, frame, &mut lent, &pointers);
         }
         let moves = both!(|C, lent: Lent| each(&pointers, |p| sink(C::offset(lent, p, black_box(8)).unwrap())));
         bench.line(&format!("move by 8, {frame}"), PASSES * pointers.len(), &mut lent, moves, Other::None);

@@ -105,6 +105,6 @@ pub fn measure(bench: &mut Bench) {
     bench.line("allocate or free, random heap", STEPS_TIMED, &mut heap.lent, replay, Other::Shown(&mut |_| by_malloc(&before, &timed, &sizes)));
     heading("random heap, a call", "unchecked");
     let mut lent = start.clone();
-    load(bench, "load 8, random heap", &mut lent, &pointers, 8);
-    store(bench, "store 8, random heap", &mut lent, &pointers, 8);
+    load::<8>(bench, "random heap", &mut lent, &pointers);
+    store::<8>(bench, "random heap", &mut lent, &pointers);
 }

@@ -45,7 +45,7 @@ pub fn measure(bench: &mut Bench) {
     refused!(bench, lent, "load, past the end, large-framed", 13, |C, lent| C::load(lent, large + 293, 8));
     refused!(bench, lent, "store, past the end, small-framed", 13, |C, lent| C::store(lent, small + 33, 8, 1));
     refused!(bench, lent, "copy, source past the end", 13, |C, lent| C::copy(lent, large, small, 41));
-    refused!(bench, lent, "load, bad width", 14, |C, lent| C::load(lent, small, 3));
+    refused!(bench, lent, "load, bad width", 14, |C, lent| C::load(lent, small, 9));
     refused!(bench, lent, "free, not the base", 15, |C, lent| C::free(lent, small + 8));
     refused!(bench, lent, "store, value too large", 16, |C, lent| C::store(lent, small, 1, 256));
     lent.image[16] ^= 1;

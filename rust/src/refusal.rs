@@ -41,7 +41,7 @@ pub enum Refusal {
     Leaves = 12,
     /// 13: the bytes are not all inside the body.
     OutOfBounds = 13,
-    /// 14: the width is not 1, 2, 4 or 8.
+    /// 14: the width is outside 1 to 8.
     BadWidth = 14,
     /// 15, free: the address is not the object's base.
     NotBase = 15,
@@ -116,7 +116,7 @@ impl Refusal {
             Refusal::Dangling => "tag leads to no live object",
             Refusal::Leaves => "move leaves slot, frame or 48 bits",
             Refusal::OutOfBounds => "bytes not all inside the body",
-            Refusal::BadWidth => "width not 1, 2, 4 or 8",
+            Refusal::BadWidth => "width outside 1 to 8",
             Refusal::NotBase => "address is not the base",
             Refusal::TooLarge => "value too large for the width",
         }

@@ -211,9 +211,9 @@ impl<'a> Store<'a> {
     /// # let (mut image, mut table) = ([0u8; 1024], [0u64; Store::table_entries(1024, 9)]);
     /// let mut store = Store::set_up(&mut image, &mut table, 9)?;
     /// let record = store.allocate(10, 7)?;
-    /// store.store(record, Width::Two, 1250)?;
-    /// assert_eq!(store.load(record, Width::Two), Ok(1250));
-    /// assert_eq!(store.store(record, Width::One, 256), Err(Refusal::TooLarge));
+    /// store.store(record, Width::Three, 0xff_ffff)?;
+    /// assert_eq!(store.load(record, Width::Three), Ok(0xff_ffff));
+    /// assert_eq!(store.store(record, Width::Three, 0x100_0000), Err(Refusal::TooLarge));
     /// # Ok::<(), Refusal>(())
     /// ```
     #[inline]

@@ -5,8 +5,8 @@ use crate::Refusal;
 /// ```
 /// use cueledger::{Refusal, Width};
 ///
-/// assert_eq!(Width::try_from(4), Ok(Width::Four));
-/// assert_eq!(Width::try_from(3), Err(Refusal::BadWidth));
+/// assert_eq!(Width::try_from(3), Ok(Width::Three));
+/// assert_eq!(Width::try_from(9), Err(Refusal::BadWidth));
 /// ```
 #[derive(Clone, Copy, Debug, PartialEq, Eq, Hash)]
 #[repr(u8)]
@@ -15,8 +15,16 @@ pub enum Width {
     One = 1,
     /// 2 bytes.
     Two = 2,
+    /// 3 bytes.
+    Three = 3,
     /// 4 bytes.
     Four = 4,
+    /// 5 bytes.
+    Five = 5,
+    /// 6 bytes.
+    Six = 6,
+    /// 7 bytes.
+    Seven = 7,
     /// 8 bytes.
     Eight = 8,
 }
@@ -33,7 +41,7 @@ impl Width {
     }
 }
 
-/// Refused with [`Refusal::BadWidth`] where the number is not 1, 2, 4 or 8.
+/// Refused with [`Refusal::BadWidth`] where the number is outside 1 to 8.
 impl TryFrom<u64> for Width {
     type Error = Refusal;
 
@@ -41,7 +49,11 @@ impl TryFrom<u64> for Width {
         match bytes {
             1 => Ok(Width::One),
             2 => Ok(Width::Two),
+            3 => Ok(Width::Three),
             4 => Ok(Width::Four),
+            5 => Ok(Width::Five),
+            6 => Ok(Width::Six),
+            7 => Ok(Width::Seven),
             8 => Ok(Width::Eight),
             _ => Err(Refusal::BadWidth),
         }

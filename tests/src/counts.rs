@@ -17,6 +17,8 @@ pub struct Counts {
     pub slot_exponents: [u64; 16],
     /// Accepted accesses and frees by small- and large-framed pointers.
     pub framed: [u64; 2],
+    /// Accepted loads and stores by width.
+    pub widths: [[u64; 9]; 2],
 }
 
 impl Counts {
@@ -28,6 +30,11 @@ impl Counts {
             Call::Load { pointer, .. } | Call::Store { pointer, .. } | Call::Free { pointer } | Call::Fill { pointer, .. } if refusal == 0 => {
                 self.framed[usize::from(pointer >> 63 == 0)] += 1;
             }
+            _ => {}
+        }
+        match *call {
+            Call::Load { width, .. } if refusal == 0 => self.widths[0][width as usize] += 1,
+            Call::Store { width, .. } if refusal == 0 => self.widths[1][width as usize] += 1,
             _ => {}
         }
     }
@@ -55,6 +62,7 @@ impl fmt::Display for Counts {
         write!(f, "{} calls in {} cases, ", self.calls, self.cases)?;
         writeln!(f, "{} of them with images of 64 KiB up to {} bytes", self.large_images, self.largest_image)?;
         writeln!(f, "cases by slot exponent 6..15: {:?}", &self.slot_exponents[6..])?;
-        write!(f, "accepted through small- and large-framed pointers (load, store, free, fill): {:?}", self.framed)
+        writeln!(f, "accepted through small- and large-framed pointers (load, store, free, fill): {:?}", self.framed)?;
+        write!(f, "accepted by width 1..8: load {:?}, store {:?}", &self.widths[0][1..], &self.widths[1][1..])
     }
 }

@@ -286,7 +286,7 @@ pub fn offset(image: &[u8], table: &[u64], pointer: u64, distance: i64) -> Answe
 
 pub fn load(image: &[u8], table: &[u64], pointer: u64, width: u64) -> Answer {
     let s = open(image, table)?;
-    if !matches!(width, 1 | 2 | 4 | 8) {
+    if !(1..=8).contains(&width) {
         return Err(14);
     }
     let at = access(image, table, s, pointer, width)?;
@@ -294,13 +294,14 @@ pub fn load(image: &[u8], table: &[u64], pointer: u64, width: u64) -> Answer {
         1 => u64::from(image[at]),
         2 => u64::from(le16(image, at)),
         4 => u64::from(le32(image, at)),
-        _ => u64::from_le_bytes(image[at..at + 8].try_into().unwrap()),
+        8 => u64::from_le_bytes(image[at..at + 8].try_into().unwrap()),
+        _ => image[at..at + width as usize].iter().rev().fold(0, |value, &byte| value << 8 | u64::from(byte)),
     })
 }
 
 pub fn store(image: &mut [u8], table: &[u64], pointer: u64, width: u64, value: u64) -> Answer {
     let s = open(image, table)?;
-    if !matches!(width, 1 | 2 | 4 | 8) {
+    if !(1..=8).contains(&width) {
         return Err(14);
     }
     if width < 8 && value >> (8 * width) != 0 {
@@ -311,7 +312,8 @@ pub fn store(image: &mut [u8], table: &[u64], pointer: u64, width: u64, value: u
         1 => image[at] = value as u8,
         2 => image[at..at + 2].copy_from_slice(&(value as u16).to_le_bytes()),
         4 => image[at..at + 4].copy_from_slice(&(value as u32).to_le_bytes()),
-        _ => image[at..at + 8].copy_from_slice(&value.to_le_bytes()),
+        8 => image[at..at + 8].copy_from_slice(&value.to_le_bytes()),
+        _ => image[at..at + width as usize].copy_from_slice(&value.to_le_bytes()[..width as usize]),
     }
     Ok(0)
 }

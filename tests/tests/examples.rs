@@ -1,4 +1,4 @@
-//! Document 01, "Arithmetic by example", on the model and on the library.
+//! Document 01, "Arithmetic by example", and examples of the change requests, on the model and on the library.
 
 use cueledger_tests::library::{Exports, Library};
 use cueledger_tests::model::{self, Header};
@@ -112,6 +112,35 @@ fn bounds<S: Store>(store: S) {
     }
 }
 
+/// Each width at an object's end, and one byte further; its largest value, and the next; numbers that are no width.
+fn widths<S: Store>(store: S) {
+    let mut lent = Lent::fresh(store, 1024);
+    let start = lent.allocate(10);
+    for width in 1..=8 {
+        let largest = u64::MAX >> (64 - 8 * width);
+        let last = lent.moved(start, 10 - width as i64).unwrap();
+        let past = lent.moved(last, 1).unwrap();
+        assert_eq!(lent.refusal(Call::Fill { pointer: start, length: 10, value: 0x5a }), 0);
+        assert_eq!(lent.refusal(Call::Store { pointer: last, width, value: largest }), 0);
+        assert_eq!(lent.call(Call::Load { pointer: last, width }), Answer::new(0, [largest]));
+        assert!(lent.image[32..42 - width as usize].iter().all(|&byte| byte == 0x5a), "width {width}");
+        assert_eq!(lent.refusal(Call::Load { pointer: past, width }), 13);
+        assert_eq!(lent.refusal(Call::Store { pointer: past, width, value: largest }), 13);
+        if width < 8 {
+            assert_eq!(lent.refusal(Call::Store { pointer: last, width, value: largest + 1 }), 16);
+        }
+    }
+    let before = lent.image.clone();
+    for width in [0, 9, 1 << 32, u64::MAX] {
+        // the second pointer's tag is out of range: it is not looked at
+        for pointer in [start, 6 << 48] {
+            assert_eq!(lent.call(Call::Load { pointer, width }), Answer::new(14, [0]));
+            assert_eq!(lent.refusal(Call::Store { pointer, width, value: u64::MAX }), 14);
+        }
+    }
+    assert_eq!(lent.image, before);
+}
+
 fn smallest_image<S: Store + Copy>(store: S) {
     let mut lent = Lent::fresh(store, 64);
     lent.allocate(16);
@@ -197,4 +226,4 @@ macro_rules! on_each_store {
     )*};
 }
 
-on_each_store!(set_up in_succession largest_small moves bounds smallest_image largest_image past_the_largest_image past_32_bits);
+on_each_store!(set_up in_succession largest_small moves bounds widths smallest_image largest_image past_the_largest_image past_32_bits);

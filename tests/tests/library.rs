@@ -26,6 +26,7 @@ fn exports() {
     let counts = agrees("exports", &Exports, 1_000_000, SEED);
     print(&counts.to_string());
     assert!(counts.slot_exponents[6..].iter().all(|&cases| cases > 0));
+    assert!(counts.widths.iter().all(|by_width| by_width[1..].iter().all(|&accepted| accepted > 0)));
     assert!(counts.largest_image > 1 << 20);
 }
 

@@ -37,6 +37,45 @@ pub fn read8(image: &[u8], at: usize) -> u64
     read4(image, at) + 4294967296 * read4(image, at + 4)
 }
 
+// The number in the 3 bytes at `at`.
+fn read3(image: &[u8], at: usize) -> u64
+    requires { ⌜ at + 3 ≤ length (now image) ⌝ }
+    ensures { λ r. ⌜ r ≡ field (now (image .entry)) at 3 ⌝ }
+{
+    read2(image, at) + 65536 * read1(image, at + 2)
+}
+
+// The number in the 1 to 4 bytes at `at`.
+fn read_short(image: &[u8], at: usize, width: u64) -> u64
+    requires { ⌜ (1 ≤ width) × (width ≤ 4) × (at + width ≤ length (now image)) ⌝ }
+    ensures { λ r. ⌜ r ≡ field (now (image .entry)) at width ⌝ }
+{
+    if width == 1 {
+        return read1(image, at);
+    }
+    if width == 2 {
+        return read2(image, at);
+    }
+    if width == 4 {
+        return read4(image, at);
+    }
+    read3(image, at)
+}
+
+// The number in the 1 to 8 bytes at `at`: 5 to 7 are read as 4 and the rest.
+pub fn read_field(image: &[u8], at: usize, width: u64) -> u64
+    requires { ⌜ (1 ≤ width) × (width ≤ 8) × (at + width ≤ length (now image)) ⌝ }
+    ensures { λ r. ⌜ r ≡ field (now (image .entry)) at width ⌝ }
+{
+    if width <= 4 {
+        return read_short(image, at, width);
+    }
+    if width == 8 {
+        return read8(image, at);
+    }
+    read4(image, at) + 4294967296 * read_short(image, at + 4, width - 4)
+}
+
 // Puts the low byte of v at `at`.
 pub fn write1(image: &mut [u8], at: usize, v: u64)
     requires { ⌜ at + 1 ≤ length (now image) ⌝ }
@@ -70,6 +109,46 @@ pub fn write8(image: &mut [u8], at: usize, v: u64)
 {
     write4(image, at, v);
     write4(image, at + 4, v / 4294967296);
+}
+
+// Puts the low 3 bytes of v at `at`.
+fn write3(image: &mut [u8], at: usize, v: u64)
+    requires { ⌜ at + 3 ≤ length (now image) ⌝ }
+    ensures { λ _. ⌜ now (image .exit) ≡ put (now (image .entry)) at (encode 3 v) ⌝ }
+{
+    write2(image, at, v);
+    write1(image, at + 2, v / 65536);
+}
+
+// Puts the low 1 to 4 bytes of v at `at`.
+fn write_short(image: &mut [u8], at: usize, width: u64, v: u64)
+    requires { ⌜ (1 ≤ width) × (width ≤ 4) × (at + width ≤ length (now image)) ⌝ }
+    ensures { λ _. ⌜ now (image .exit) ≡ put (now (image .entry)) at (encode width v) ⌝ }
+{
+    if width == 1 {
+        write1(image, at, v);
+    } else if width == 2 {
+        write2(image, at, v);
+    } else if width == 4 {
+        write4(image, at, v);
+    } else {
+        write3(image, at, v);
+    }
+}
+
+// Puts the low 1 to 8 bytes of v at `at`: 5 to 7 are written as 4 and the rest.
+pub fn write_field(image: &mut [u8], at: usize, width: u64, v: u64)
+    requires { ⌜ (1 ≤ width) × (width ≤ 8) × (at + width ≤ length (now image)) ⌝ }
+    ensures { λ _. ⌜ now (image .exit) ≡ put (now (image .entry)) at (encode width v) ⌝ }
+{
+    if width <= 4 {
+        write_short(image, at, width, v);
+    } else if width == 8 {
+        write8(image, at, v);
+    } else {
+        write4(image, at, v);
+        write_short(image, at + 4, width - 4, v / 4294967296);
+    }
 }
 
 // Sets the n bytes from `at` on to `byte`.

@@ -44,13 +44,12 @@ pub fn openings(run: Run) -> Run {
     run.tally(0, 1, 10, 998)
 }
 
-// Refusals 13, 14 and 16.
+// Refusals 13 and 16.
 pub fn access(run: Run) -> Run {
     heading(b"Cases: load, store and fill in it");
     let run = run.make(Call::Load(TEN | 34, 8), BYTES, 0, 0);
     let run = run.make(Call::Load(TEN | 35, 8), BYTES, 13, 0);
     let run = run.make(Call::Load(TEN | 31, 1), BYTES, 13, 0);
-    let run = run.make(Call::Load(TEN | 32, 3), BYTES, 14, 0);
     let run = run.make(Call::Store(TEN | 41, 1, 256), DONE, 16, 0);
     let run = run.make(Call::Store(TEN | 41, 1, 255), DONE, 0, 0);
     let run = run.make(Call::Store(TEN | 42, 1, 1), DONE, 13, 0);
@@ -68,6 +67,26 @@ pub fn copies(run: Run) -> Run {
     let run = run.make(Call::Load(TEN | 32, 8), BYTES, 0, 0x0000_0404_0302_0101);
     let run = run.make(Call::Copy(TEN | 33, TEN | 34, 0), DONE, 6, 0);
     run.make(Call::Copy(TEN | 33, TEN | 39, 4), DONE, 13, 0)
+}
+
+// Numbers of 3 and of 5 to 7 bytes, and the object's last three; widths that are none: refusals 13, 14 and 16.
+pub fn widths(run: Run) -> Run {
+    heading(b"Cases: the widths 1 to 8 in it");
+    let run = run.make(Call::Store(TEN | 39, 3, 0xFF_FFFF), DONE, 0, 0);
+    let run = run.make(Call::Load(TEN | 39, 3), BYTES, 0, 0xFF_FFFF);
+    let run = run.make(Call::Load(TEN | 40, 3), BYTES, 13, 0);
+    let run = run.make(Call::Store(TEN | 40, 3, 0xFF_FFFF), DONE, 13, 0);
+    let run = run.make(Call::Store(TEN | 39, 3, 0x100_0000), DONE, 16, 0);
+    let run = run.make(Call::Store(TEN | 32, 7, 0x07_0605_0403_0201), DONE, 0, 0);
+    let run = run.make(Call::Load(TEN | 32, 5), BYTES, 0, 0x05_0403_0201);
+    let run = run.make(Call::Load(TEN | 32, 6), BYTES, 0, 0x0605_0403_0201);
+    let run = run.make(Call::Load(TEN | 32, 7), BYTES, 0, 0x07_0605_0403_0201);
+    let run = run.make(Call::Load(TEN | 32, 8), BYTES, 0, 0xFF07_0605_0403_0201);
+    let run = run.make(Call::Load(TEN | 32, 0), BYTES, 14, 0);
+    let run = run.make(Call::Load(TEN | 32, 9), BYTES, 14, 0);
+    let run = run.make(Call::Load(TEN | 32, 4294967296), BYTES, 14, 0);
+    let run = run.make(Call::Load(TEN | 32, 18446744073709551615), BYTES, 14, 0);
+    run.make(Call::Store(6 << 48, 9, 0), DONE, 14, 0)
 }
 
 // Moves of small-framed pointers: refusal 12.

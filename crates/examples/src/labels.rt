@@ -1,5 +1,5 @@
 // The first column of each call's line: 32 places, in the order of the calls.
-pub const LABELS: [u8; 2528] = *b"set up                          \
+pub const LABELS: [u8; 2976] = *b"set up                          \
 10 bytes                        \
 20 bytes                        \
 32 bytes                        \
@@ -21,7 +21,6 @@ tally                           \
 load 8 at 34                    \
 load 8 at 35                    \
 load 1 at 31                    \
-load 3 at 32                    \
 store 256 in 1 at 41            \
 store 255 in 1 at 41            \
 store 1 in 1 at 42              \
@@ -34,6 +33,21 @@ copy 4 from 34 to 33            \
 load 8 at 32                    \
 copy 0 from 34 to 33            \
 copy 4 from 39 to 33            \
+store 0xffffff in 3 at 39       \
+load 3 at 39                    \
+load 3 at 40                    \
+store 0xffffff in 3 at 40       \
+store 0x1000000 in 3 at 39      \
+store bytes 1 to 7 in 7 at 32   \
+load 5 at 32                    \
+load 6 at 32                    \
+load 7 at 32                    \
+load 8 at 32                    \
+load 0 at 32                    \
+load 9 at 32                    \
+load 2^32 at 32                 \
+load 2^64-1 at 32               \
+store in 9, tag out of range    \
 by 31                           \
 by 32                           \
 by -32                          \

@@ -30,7 +30,7 @@ pub fn heading(t: &[u8]) {
 // The label of the call with this number, 0 the first.
 pub fn label(call: u64) {
     text(b"  ");
-    if call < 79 {
+    if call < 93 {
         let at = 32 * call as usize;
         let end = at + 32;
         text(&LABELS[at..end]);
@@ -52,7 +52,7 @@ tag number out of range             \
 tag leads to no live object         \
 move leaves slot, frame or 48 bits  \
 bytes not all inside the body       \
-width not 1, 2, 4 or 8              \
+width outside 1 to 8                \
 address is not the base             \
 value too large for the width       ";
 

@@ -20,7 +20,7 @@ use Rattle.history.specs.History.{Configuration, begun, after, allAdmitt
 abbrev fresh6 : Configuration
 fresh6 = begun 6 (state (replicate 128 7) (replicate 60 9))
 
--- two objects; one is written through a moved pointer, copied to the other, and freed; some calls are refused
+-- two objects; one is written through a moved pointer, copied to the other, and freed; the other takes a number of 3 bytes; some calls are refused
 abbrev pub calls : List Call
 calls =
     allocates 10 1
@@ -31,7 +31,8 @@ calls =
     ∷ stores 0x8010000000000026 8 0
     ∷ fills 0x8010000000000020 3 5
     ∷ copies 0x802A00000000003A 0x8010000000000026 4
-    ∷ loads 0x802A00000000003A 4
+    ∷ stores 0x802A00000000003A 3 0x070605
+    ∷ loads 0x802A00000000003A 3
     ∷ loads 0x123456789 4
     ∷ allocates 1000 1
     ∷ frees 0x8010000000000026
@@ -39,8 +40,8 @@ calls =
     ∷ frees 0x8010000000000020
     ∷ []
 
--- each of them is admitted; the abstract heap is left with the second object, which holds what was copied to it
+-- each of them is admitted; the abstract heap is left with the second object, which holds the number and the last byte that was copied to it
 pub admitted-calls : (allAdmitted calls fresh6 ≡ true)
-    × (after calls fresh6 .heap ≡ record { answer = 0x802A00000000003A; size = 4; pointers = 0x802A00000000003A ∷ []; bytes = 1 ∷ 2 ∷ 3 ∷ 4 ∷ [] } ∷ [])
+    × (after calls fresh6 .heap ≡ record { answer = 0x802A00000000003A; size = 4; pointers = 0x802A00000000003A ∷ []; bytes = 5 ∷ 6 ∷ 7 ∷ 4 ∷ [] } ∷ [])
 unfolding frameNumber frameNumberIn unpack pack goodTag reach landed moved wrapper tagNumber pointerTo tagMatches usedEntries entryAt encode decode field put superblock superblockGood header headerAt wellFormed sound walkIn walkFrom walk fitOf firstFit metOf walkTo setUpChecks fresh setUp opening entryFree fitAnswer allocateChecks carved noted allocate headerPlace verified leadsBack located inBody accessed movedAnswer moveAnswer move loadAnswer load storeChecks store fillChecks fill copyChecks copy mergeEnd mergeStart released freeChecks releasedAt freeRelease merged freed free member ownerOf inside change without write copied hear after allAdmitted known
 admitted-calls = (refl, refl)

@@ -14,7 +14,7 @@ use Rattle.frame.specs.laws.Wrappers.{object-entry-used}
 use Rattle.frame.specs.laws.Objects.{own-pointer}
 use Rattle.block.specs.Bytes.{encode, put}
 use Rattle.block.specs.laws.Fields.{length-encode}
-use Rattle.block.specs.laws.Writes.{length-put}
+use Rattle.block.specs.laws.Writes.{length-put, field-put}
 use Rattle.block.specs.Layout.{slotExponent, sizeAt, extentAt}
 use Rattle.block.specs.laws.Soundness.{sound-low, sound-end, sound-live-at}
 use Rattle.block.specs.declared.header.Header.{Header}
@@ -22,16 +22,17 @@ use Rattle.store.specs.State.{State, state, Outcome, IsAccepted, returne
 use Rattle.store.specs.Calls.{setUpChecks, setUp, fresh, cleared, allocateChecks, allocate, carved, noted, freeRelease, free, move, moveAnswer, load, loadAnswer, storeChecks, store, fillChecks, fill, copyChecks, copy, tally}
 use Rattle.store.specs.laws.Refusals.{refused-some}
 use Rattle.store.specs.laws.SetUp.{Settable, settable-parts, set-up-declined, set-up-done, length-fresh}
-use Rattle.store.specs.laws.Opening.{Open}
+use Rattle.store.specs.laws.Opening.{Open, opening-kept}
 use Rattle.store.specs.laws.TagReading.{Stands, Located, located-object, located-leads, located-at}
+use Rattle.store.specs.laws.Access.{accessed-again}
 use Rattle.store.specs.laws.Allocate.{Allocates, allocate-parts, allocate-declined, allocate-done, length-carved, carved-exponent, CarvedHeader, carved-header}
 use Rattle.store.specs.laws.Free.{Frees, free-parts, free-declined, free-done, length-merged}
-use Rattle.store.specs.laws.Store.{store-parts, store-declined, store-done}
+use Rattle.store.specs.laws.Store.{Stores, store-parts, store-declined, store-done}
 use Rattle.store.specs.laws.Fill.{fill-parts, fill-declined, fill-done}
 use Rattle.store.specs.laws.Copy.{Copies, copy-parts, copy-declined, copy-done}
 use Rattle.store.specs.Step.{Call, allocates, frees, moves, loads, stores, fills, copies, step}
-use Rattle.store.specs.Claims.{RefusalsKeep, KeepsShape, ShapesKept, PointsBack, LeadsBack}
-use Rattle.store.specs.laws.Load.{load-leaves}
+use Rattle.store.specs.Claims.{RefusalsKeep, KeepsShape, ShapesKept, PointsBack, LeadsBack, ReadsBack}
+use Rattle.store.specs.laws.Load.{load-given, load-leaves}
 use Rattle.store.specs.laws.Move.{move-leaves}
 use Rattle.store.specs.laws.Entries.{length-noted, noted-beyond, noted-entry}
 use Rattle.store.specs.declared.answer.Answer.{Answer}
@@ -269,3 +270,35 @@ leads-back size type x fits e = go (allocateChecks size x) refl
     go (Accepted h) q =
         subst (λ (o : Outcome). PointsBack size x (o .after) (value (o .answer)))
         (allocate-done size x type h (slotExponent (x .image)) _ _ _ _ q refl refl refl refl refl) (carved-leads size type x h fits (allocate-parts size x h q))
+
+-- on what a store leaves, the load gives its value
+stored-read : (p width v : ℕ) (x : State) (a : ℕ) → Stores p width v x a
+    → loadAnswer p width (state (put (x .image) a (encode width v)) (x .table)) ≡ Accepted v
+stored-read p width v x a t =
+    let k = t .bytes in
+    let n : length (encode width v) ≡ width = length-encode width v in
+    let behind : 16 ≤ a = omega (arith, k .low) in
+    let fits : a + length (encode width v) ≤ length (x .image) = omega (arith, k .inside, n) in
+    sym
+    (load-given (state _ _) (t .exponent) (opening-kept x (t .exponent) a (encode width v) (t .opens) behind fits) p width (t .good-width) a
+    (accessed-again (t .exponent) (unpack p) width x a (encode width v) k n))
+    ∙ ap Accepted (field-put (x .image) a width v (k .inside) (t .fits))
+
+-- a load of that width gives that value
+abbrev Gives : (p width v : ℕ) → State → Type 0
+Gives p width v y = IsAccepted (load p width y) × (value (load p width y .answer) ≡ v)
+
+-- read-back
+pub reads-back : ReadsBack
+unfolding ReadsBack
+reads-back p width v x e = go (storeChecks p width v x) refl
+  where
+    go : (a : Answer) → storeChecks p width v x ≡ a → Gives p width v (store p width v x .after)
+    go (Refused r) q = absurd (refused-some r (ap (λ (o : Outcome). returned (o .answer)) (store-declined p width v x r q) ∙ e))
+    go (Accepted a) q =
+        let y : State = state (put (x .image) a (encode width v)) (x .table) in
+        let read : load p width y ≡ record { answer = Accepted v; after = y } =
+        load-leaves p width y ∙ ap (λ (b : Answer). record { answer = b; after = y }) (stored-read p width v x a (store-parts p width v x a q))
+        in
+        subst (λ (o : Outcome). Gives p width v (o .after)) (store-done p width v x a q)
+        (subst (λ (o : Outcome). IsAccepted o × (value (o .answer) ≡ v)) (sym read) (refl, refl))

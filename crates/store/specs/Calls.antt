@@ -13,7 +13,7 @@ use Rattle.frame.specs.declared.parts.Pointer.{Pointer}
 use Rattle.frame.specs.declared.parts.Moved.{Moved}
 use Rattle.frame.specs.declared.parts.Moved.the-variants.{To, Outside}
 use Rattle.block.specs.Bytes.{encode, field, put}
-use Rattle.block.specs.Layout.{superblock, superblockGood, slotExponent, goodExponent, goodLength, freeHeader, liveHeader, sound, isFree, isLive, extentAt, sizeAt}
+use Rattle.block.specs.Layout.{within, superblock, superblockGood, slotExponent, goodExponent, goodLength, freeHeader, liveHeader, sound, isFree, isLive, extentAt, sizeAt}
 use Rattle.block.specs.Walk.{firstFit, walkTo, countBlocks}
 use Rattle.block.specs.declared.walk.Fit.{Fit}
 use Rattle.block.specs.declared.walk.Fit.the-variants as fit
@@ -149,9 +149,9 @@ move word d x = record { answer = moveAnswer word d x; after = x }
 
 -- Load: 14, 10, 11, 13.
 
--- 14: the widths that a load or store may have
+-- 14: the widths that a load or store may have, 1 to 8 bytes
 abbrev pub goodWidth : ℕ → Bool
-goodWidth w = eqb w 1 || (eqb w 2 || (eqb w 4 || eqb w 8))
+goodWidth w = within 1 8 w
 
 -- its answer: the number in the bytes, little-endian
 unfoldable pub loadAnswer : ℕ → ℕ → State → Answer

@@ -1,4 +1,4 @@
--- What holds of single calls on every image and table, damaged ones too: demand 1, and of demand 2 the pointer that allocate gives.
+-- What holds of single calls on every image and table, damaged ones too: demand 1, of demand 2 the pointer that allocate gives, and read-back.
 -- Assumes nothing.
 use Prim.Native.Nat.{ℕ, _+_, _^_, _<_}
 use mathlib.Core.Path.{_≡_}
@@ -10,7 +10,7 @@ use Rattle.block.specs.Layout.{slotExponent, sizeAt}
 use Rattle.block.specs.Walk.{firstFit}
 use Rattle.block.specs.declared.walk.Fit.the-variants as fit
 use Rattle.store.specs.State.{State, IsAccepted, value, usageNumber, liveObjects, liveBytes, freeBytes}
-use Rattle.store.specs.Calls.{setUp, allocate, tally, leadsBack, headerPlace, located}
+use Rattle.store.specs.Calls.{setUp, allocate, load, store, tally, leadsBack, headerPlace, located}
 use Rattle.store.specs.Step.{Call, step}
 use Rattle.store.specs.declared.answer.Answer.the-variants.{Accepted}
 
@@ -50,3 +50,9 @@ unfoldable pub LeadsBack : Type 0
 LeadsBack =
     (size type : ℕ) (x : State) → type < 2 ^ 16 → IsAccepted (allocate size type x)
     → PointsBack size x (allocate size type x .after) (value (allocate size type x .answer))
+
+-- Read-back: after an accepted store, a load of the same width through the same pointer is accepted and gives the value.
+unfoldable pub ReadsBack : Type 0
+ReadsBack =
+    (p width v : ℕ) (x : State) → IsAccepted (store p width v x)
+    → IsAccepted (load p width (store p width v x .after)) × (value (load p width (store p width v x .after) .answer) ≡ v)

@@ -1,89 +1,36 @@
 // Load, store and fill.
 ghost use mathlib.Core.Path.{_≡_};
 ghost use mathlib.Core.Bool.{true};
-ghost use Prim.Native.Nat.{_+_, _≤_, _^_};
+ghost use Prim.Native.Nat.{_^_};
 ghost use lib.Dec.{ltb};
-ghost use lib.ListN.{length};
-ghost use Rattle.block.specs.Bytes.{encode, field, put};
 ghost use Rattle.store.specs.State.{state, outcome};
 ghost use Rattle.store.specs.Calls.{goodWidth, loadAnswer, storeChecks, fillChecks, store, fill};
 use crate::answer::Answer;
 use crate::answer::Refusal;
 use crate::locate::access;
 use crate::opening::opening;
-use block::bytes::read1;
-use block::bytes::read2;
-use block::bytes::read4;
-use block::bytes::read8;
-use block::bytes::write1;
-use block::bytes::write2;
-use block::bytes::write4;
-use block::bytes::write8;
+use block::bytes::read_field;
+use block::bytes::write_field;
 
 // The widths that a load or store may have.
 fn good_width(width: u64) -> bool
     ensures { λ r. ⌜ r ≡ goodWidth width ⌝ }
 {
-    if width == 1 {
-        return true;
+    if width < 1 {
+        return false;
     }
-    if width == 2 {
-        return true;
-    }
-    if width == 4 {
-        return true;
-    }
-    width == 8
+    width <= 8
 }
 
-// Whether the value fits that many bytes.
+// Whether the value fits that many bytes: nothing is left of it behind them.
 fn fits(width: u64, value: u64) -> bool
     requires { ⌜ goodWidth width ≡ true ⌝ }
     ensures { λ r. ⌜ r ≡ ltb value (256 ^ width) ⌝ }
 {
-    if width == 1 {
-        return value < 256;
+    if width == 8 {
+        return true;
     }
-    if width == 2 {
-        return value < 65536;
-    }
-    if width == 4 {
-        return value < 4294967296;
-    }
-    true
-}
-
-// The number in `width` bytes.
-fn read_field(image: &[u8], at: usize, width: u64) -> u64
-    requires { ⌜ (goodWidth width ≡ true) × (at + width ≤ length (now image)) ⌝ }
-    ensures { λ r. ⌜ r ≡ field (now (image .entry)) at width ⌝ }
-{
-    if width == 1 {
-        return read1(image, at);
-    }
-    if width == 2 {
-        return read2(image, at);
-    }
-    if width == 4 {
-        return read4(image, at);
-    }
-    read8(image, at)
-}
-
-// Puts the value into `width` bytes.
-fn write_field(image: &mut [u8], at: usize, width: u64, value: u64)
-    requires { ⌜ (goodWidth width ≡ true) × (at + width ≤ length (now image)) ⌝ }
-    ensures { λ _. ⌜ now (image .exit) ≡ put (now (image .entry)) at (encode width value) ⌝ }
-{
-    if width == 1 {
-        write1(image, at, value);
-    } else if width == 2 {
-        write2(image, at, value);
-    } else if width == 4 {
-        write4(image, at, value);
-    } else {
-        write8(image, at, value);
-    }
+    value >> (8 * width) == 0
 }
 
 // The number in `width` bytes through a pointer.

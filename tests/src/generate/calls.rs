@@ -91,8 +91,8 @@ impl Generator {
     pub(super) fn width(&mut self) -> u64 {
         match self.random.below(30) {
             0 => self.random.below(17),
-            1 => self.random.pick(&[0, 3, 9, 16, 1 << 32 | 4, 1 << 63 | 8, 256 + 1, 65536 + 2, u64::MAX]),
-            n => 1 << (n % 4),
+            1 => self.random.pick(&[0, 9, 16, 1 << 32, 1 << 32 | 4, 1 << 63 | 8, 256 + 1, 65536 + 2, u64::MAX]),
+            _ => self.random.within(1, 8),
         }
     }
 

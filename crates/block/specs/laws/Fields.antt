@@ -2,11 +2,15 @@
 use mathlib.Core.Path.{_≡_, refl, sym, ap, _∙_}
 use mathlib.Core.List.{List, [], _∷_, _++_}
 use Prim.Native.Nat.{_%_, ℕ, zero, suc, _+_, _*_, _/_, _^_, _≤_, _<_}
-use native.Mathlib.Nat.{zero-add, suc-add, div-one, div-div-eq-div-mul, pow-succ', one-mul, mul-assoc, pow-suc, add-suc, add-zero}
+use native.Mathlib.Nat.{zero-add, suc-add, div-one, div-div-eq-div-mul, le-div-iff-mul-le, pow-succ', one-mul, mul-assoc, mul-suc, pow-suc, add-suc, add-zero}
 use native.Mathlib.Omega.{arith}
+use lib.Dec.{eqb, ltb}
 use lib.ListN.{length, getD, take, drop}
+use lib.Pow.{pow-pos, pow-add, shr-lt}
 use lib.Seq.{take-at, drop-drop, take-nil}
+use borrow.Author.Tests.{ltb-true, ltb-false, eq-eqb, ne-eqb}
 use Rattle.block.specs.Bytes.{encode, decode, field, Bytes}
+use Rattle.block.specs.laws.Booleans.{byBool}
 
 -- encoding
 
@@ -30,6 +34,25 @@ decode-encode zero v h = omega arith
 decode-encode (suc w) v h =
     let p : v / 256 < 256 ^ w = omega (arith, rw pow-suc at h) in
     rw (decode-encode w (v / 256) p) (omega arith)
+
+-- numbers that fit
+
+-- so many bytes, in bits
+bytes-bits : (w : ℕ) → 256 ^ w ≡ 2 ^ (8 * w)
+bytes-bits zero = refl
+bytes-bits (suc w) = pow-suc 256 w ∙ ap (λ (n : ℕ). n * 256) (bytes-bits w) ∙ sym (pow-add 2 (8 * w) 8) ∙ ap (λ (k : ℕ). 2 ^ k) (sym (mul-suc 8 w))
+
+-- a number fits that many bytes exactly where nothing is left of it behind them
+pub fits-shifted : (w v : ℕ) → eqb (v / 2 ^ (8 * w)) 0 ≡ ltb v (256 ^ w)
+fits-shifted w v =
+    let n : ℕ = 2 ^ (8 * w) in
+    rw (bytes-bits w)
+    (byBool (ltb v n)
+    (λ e. eq-eqb (v / n) 0 (omega (arith, shr-lt {n = v} 0 (8 * w) (rw zero-add (ltb-true v n e)))) ∙ sym e)
+    (λ e.
+    let l : 1 * n ≤ v = rw one-mul (ltb-false v n e) in
+    let some : 1 ≤ v / n = le-div-iff-mul-le (pow-pos (8 * w)) .1 l in
+    ne-eqb (v / n) 0 (λ z. omega (arith, z, some)) ∙ sym e))
 
 -- fields
 

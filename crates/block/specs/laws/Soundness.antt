@@ -127,6 +127,11 @@ module _ (image : List ℕ) (h : ℕ) where
   unfolding sound
   sound-by p q = simp (le-leb _ _ p, le-leb _ _ q)
 
+  -- the length and the header decide
+  pub sound-same : (other : List ℕ) → length other ≡ length image → headerAt other h ≡ headerAt image h → sound other h ≡ sound image h
+  unfolding sound
+  sound-same other l e = rw (l, e) refl
+
   -- a free block with room for its extent
   pub sound-free-at : (e : ℕ) → headerAt image h ≡ fields e 1 0 0 → 16 ≤ h → 16 ≤ e → h + e ≤ length image → sound image h ≡ true
   sound-free-at e d p a b =

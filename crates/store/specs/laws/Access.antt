@@ -1,22 +1,24 @@
 -- Bytes through a pointer: rows 10, 11 and 13. Assumes nothing.
 use Prim.Native.Nat.{ℕ, _+_, _≤_, _<_}
-use mathlib.Core.Path.{_≡_, refl}
+use mathlib.Core.Path.{_≡_, refl, sym, ap, _∙_}
 use mathlib.Core.Bool.{Bool, true, false, _&&_, cond}
 use mathlib.Core.List.{List}
-use mathlib.Core.Logic.{_↔_}
+use mathlib.Core.Logic.{_↔_, inl}
 use native.Mathlib.Omega.{arith}
 use lib.Dec.{leb}
 use lib.ListN.{length}
-use borrow.Author.Tests.{leb-true, eqb-true, le-leb, lt-leb, ne-eqb}
+use borrow.Author.Tests.{leb-true, le-leb, lt-leb}
 use Rattle.frame.specs.declared.parts.Pointer.{Pointer}
 use Rattle.block.specs.laws.Booleans.{true-false, and-left, and-right}
 use Rattle.block.specs.Layout.{sizeAt}
 use Rattle.block.specs.laws.Soundness.{sound-live, sound-end}
 use Rattle.block.specs.Bytes.{put}
-use Rattle.store.specs.State.{State, demand, Outcome, outcome, IsAccepted, refuse}
+use Rattle.block.specs.laws.Headers.{headerAt-put-other}
+use Rattle.block.specs.declared.header.Header.{Header}
+use Rattle.store.specs.State.{State, state, demand, Outcome, outcome, IsAccepted, refuse}
 use Rattle.store.specs.Calls.{located, inBody, accessed, goodWidth}
 use Rattle.store.specs.laws.Refusals.{demand-met, and-then-met}
-use Rattle.store.specs.laws.TagReading.{Located, located-parts}
+use Rattle.store.specs.laws.TagReading.{Located, located-parts, located-at, located-kept}
 use Rattle.store.specs.declared.answer.Refusal.{Refusal}
 use Rattle.store.specs.declared.answer.Refusal.the-variants.{OutOfBounds}
 use Rattle.store.specs.declared.answer.Answer.the-variants.{Accepted, Refused}
@@ -68,6 +70,20 @@ module _ (s : ℕ) (p : Pointer) (n : ℕ) (x : State) where
     pub within-body : h + 16 ≤ p .address → p .address + n ≤ h + 16 + sizeAt (x .image) h → Accepted (p .address) ≡ accessed s p n x
     within-body b e = rw (accessed-at s p n x h l, le-leb _ _ b, le-leb _ _ e) refl
 
+-- the same bytes, once others are put there
+pub accessed-again : (s : ℕ) (p : Pointer) (n : ℕ) (x : State) (a : ℕ) (bs : List ℕ) → Accessed s p n x a → length bs ≡ n
+    → accessed s p n (state (put (x .image) a bs) (x .table)) ≡ Accepted a
+accessed-again s p n x a bs k e =
+    let fits : a + length bs ≤ length (x .image) = omega (arith, e, k .inside) in
+    let y : State = state (put (x .image) a bs) (x .table) in
+    let size : sizeAt (y .image) (k .header) ≡ sizeAt (x .image) (k .header) =
+    ap (λ (d : Header). d .size) (headerAt-put-other (x .image) a bs (k .header) fits (inl (k .low)))
+    in
+    sym
+    (within-body s p n y (k .header) (located-at s p y (k .header) (located-kept s p x (k .header) a bs (k .object) (k .low) fits))
+    (omega (arith, k .low, k .address)) (omega (arith, k .high, k .address, size)))
+    ∙ ap Accepted (sym (k .address))
+
 -- bytes put at an address, where the test holds
 abbrev pub through : State → Bool → ℕ → List ℕ → Outcome
 through x b a bytes = cond b (outcome (Accepted 0) (put (x .image) a bytes) (x .table)) (refuse OutOfBounds x)
@@ -77,6 +93,6 @@ pub through-iff : (x : State) (b : Bool) (a : ℕ) (bytes : List ℕ) → IsAcce
 through-iff x true a bytes = ((λ e. refl), λ e. refl)
 through-iff x false a bytes = ((λ e. absurd (omega arith)), λ (e : false ≡ true). absurd (true-false e refl))
 
--- the widths
-pub width-last : (w : ℕ) → goodWidth w ≡ true → (w ≡ 1 → ⊥) → (w ≡ 2 → ⊥) → (w ≡ 4 → ⊥) → w ≡ 8
-width-last w g a b c = eqb-true w 8 (rw (ne-eqb w 1 a, ne-eqb w 2 b, ne-eqb w 4 c) at g)
+-- a good width is 1 to 8
+pub width-range : (w : ℕ) → goodWidth w ≡ true → (1 ≤ w) × (w ≤ 8)
+width-range w g = (leb-true 1 w (and-left _ _ g), leb-true w 8 (and-right (leb 1 w) _ g))

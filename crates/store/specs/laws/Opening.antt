@@ -1,7 +1,8 @@
 -- Rows 4 and 5, with which every call but set-up begins. Assumes nothing.
 use Prim.Native.Nat.{ℕ, _+_, _^_, _≤_, _<_}
-use mathlib.Core.Path.{_≡_}
+use mathlib.Core.Path.{_≡_, sym, ap, _∙_}
 use mathlib.Core.Bool.{true, false}
+use mathlib.Core.List.{List}
 use native.Mathlib.Nat.{lt-of-lt-of-le}
 use lib.Dec.{leb}
 use lib.ListN.{length}
@@ -9,8 +10,10 @@ use borrow.Author.Tests.{leb-true, le-leb, lt-leb}
 use Rattle.frame.specs.Tags.{usedEntries, entryOf}
 use Rattle.frame.specs.laws.Wrappers.{object-entry-used}
 use Rattle.block.specs.Layout.{superblockGood, slotExponent}
-use Rattle.block.specs.laws.Superblock.{superblock-parts}
-use Rattle.store.specs.State.{State}
+use Rattle.block.specs.laws.Superblock.{superblock-parts, superblock-kept}
+use Rattle.block.specs.Bytes.{put}
+use Rattle.block.specs.laws.Writes.{length-put}
+use Rattle.store.specs.State.{State, state}
 use Rattle.store.specs.Calls.{opening}
 use Rattle.store.specs.laws.Refusals.{demand-met}
 use Rattle.store.specs.declared.answer.Refusal.the-variants.{BadSuperblock, ShortTable}
@@ -48,6 +51,14 @@ pub opening-passes : (x : State) → superblockGood (x .image) ≡ true → used
     → opening x ≡ Accepted (slotExponent (x .image))
 unfolding opening
 opening-passes x g l = rw (g, le-leb _ _ l)
+
+-- bytes replaced behind the superblock
+pub opening-kept : (x : State) (s at : ℕ) (bs : List ℕ) → Open x s → 16 ≤ at → at + length bs ≤ length (x .image)
+    → opening (state (put (x .image) at bs) (x .table)) ≡ Accepted s
+opening-kept x s at bs o low fits =
+    let (good, same) = superblock-kept (x .image) at bs fits low in
+    let e : slotExponent (put (x .image) at bs) ≡ s = same ∙ sym (o .exponent) in
+    opening-passes (state (put (x .image) at bs) (x .table)) (good ∙ o .good) (rw (e, length-put (x .image) at bs fits) (o .entries)) ∙ ap Accepted e
 
 -- The ways out.
 

@@ -1,12 +1,13 @@
 -- Reading a tag: rows 10 and 11.
--- In order: what is known where they are passed, how they are passed, that an object's pointers lead to it, each way out. Assumes nothing.
+-- In order: what is known where they are passed, how they are passed, what a write keeps, that an object's pointers lead to it, each way out. Assumes nothing.
 use Prim.Native.Nat.{ℕ, _+_, _*_, _/_, _^_, _≤_, _<_}
 use mathlib.Core.Path.{_≡_, refl, sym, ap, _∙_}
 use mathlib.Core.Bool.{Bool, true, false, _&&_}
 use mathlib.Core.List.{List}
+use mathlib.Core.Logic.{inl}
 use native.Mathlib.Nat.{div-mul-le-self}
 use native.Mathlib.Omega.{arith}
-use lib.Dec.{ltb}
+use lib.Dec.{ltb, eqb}
 use lib.ListN.{length, getD}
 use borrow.Author.Tests.{ltb-true, eqb-true, lt-ltb, eq-eqb, ne-eqb, le-ltb}
 use Rattle.frame.specs.Frame.{frameStart, sameFrame}
@@ -17,8 +18,13 @@ use Rattle.frame.specs.laws.Tags.{pointer-small, pointer-large, reach-slot, rea
 use Rattle.frame.specs.laws.Objects.{PointerOf, same-reach, object-tag, object-matches}
 use Rattle.frame.specs.declared.parts.Pointer.{Pointer}
 use Rattle.block.specs.laws.Booleans.{and-left, and-right}
-use Rattle.block.specs.Layout.{sound, isLive, sizeAt, kindAt}
-use Rattle.store.specs.State.{State, demand}
+use Rattle.block.specs.Bytes.{put}
+use Rattle.block.specs.Layout.{headerAt, sound, isLive, sizeAt, kindAt}
+use Rattle.block.specs.laws.Writes.{length-put}
+use Rattle.block.specs.laws.Headers.{headerAt-put-other}
+use Rattle.block.specs.laws.Soundness.{sound-same}
+use Rattle.block.specs.declared.header.Header.{Header}
+use Rattle.store.specs.State.{State, state, demand}
 use Rattle.store.specs.Calls.{headerPlace, verified, leadsBack, located}
 use Rattle.store.specs.laws.Refusals.{demand-met}
 use Rattle.store.specs.declared.answer.Refusal.{Refusal}
@@ -79,6 +85,25 @@ located-leads s p x h l =
 pub located-at : (s : ℕ) (p : Pointer) (x : State) (h : ℕ) → Located s p x h → located s p x ≡ Accepted h
 unfolding located
 located-at s p x h l = let k = l .place in rw (l .good, located-leads s p x h l, ← k)
+
+-- bytes replaced behind the header
+pub located-kept : (s : ℕ) (p : Pointer) (x : State) (h at : ℕ) (bs : List ℕ) → Located s p x h → h + 16 ≤ at → at + length bs ≤ length (x .image)
+    → Located s p (state (put (x .image) at bs) (x .table)) h
+located-kept s p x h at bs l behind fits =
+    let v = l .header in
+    let long : length (put (x .image) at bs) ≡ length (x .image) = length-put (x .image) at bs fits in
+    let same : headerAt (put (x .image) at bs) h ≡ headerAt (x .image) h = headerAt-put-other (x .image) at bs h fits (inl behind) in
+    record {
+      good = l .good;
+      starts = rw long (l .starts);
+      place = l .place;
+      header = record {
+        is-sound = sound-same (x .image) h (put (x .image) at bs) long same ∙ v .is-sound;
+        is-live = ap (λ (d : Header). eqb (d .kind) 2) same ∙ v .is-live;
+        matches = ap (λ (d : Header). tagMatches s h (d .size) p) same ∙ v .matches;
+        near = v .near;
+      };
+    }
 
 -- an object's pointer leads to its header from every address of its slot or wrapper frame
 place-at : (s h size a : ℕ) (table : List ℕ) → a / 2 ^ reach s (pointerTo s h size) ≡ h / 2 ^ reach s (pointerTo s h size)

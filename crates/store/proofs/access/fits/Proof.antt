@@ -1,32 +1,23 @@
--- `store::fits`: one way out for each good width. Assumes nothing.
-use mathlib.Core.Path.{_≡_, sym}
+-- `store::fits`: in 8 bytes every value; in less, where nothing is left of it behind them. Assumes nothing.
+use Prim.Native.Nat.{_≤_}
+use mathlib.Core.Path.{sym}
+use native.Mathlib.Omega.{arith}
 use borrow.Author.Tests.{lt-ltb}
-use Rattle.store.specs.laws.Access.{width-last}
+use Rattle.block.specs.laws.Fields.{fits-shifted}
+use Rattle.store.specs.laws.Access.{width-range}
 use Rattle.store.proofs.access.fits.Statement.{statement}
 use Rattle.store.proofs.access.fits.Tie as tie
 
-abbrev start : tie.Else3 → tie.Start
-start c = c .before .before .before
-
--- no other width is left
-is-8 : (c : tie.Else3) → start c .args .width ≡ 8
-is-8 c = width-last _ (start c .pre) (c .before .before .if1 .left) (c .before .if2 .left) (c .if3 .left)
-
--- 1
+-- 8
 returns : tie.Need-returns
-returns c = rw (c .if1 .taken)
+returns c = rw (c .if1 .taken) (sym (lt-ltb _ _ (c .before .fits .value .fits)))
 
--- 2
+at-most-8 : (c : tie.Else1) → c .before .args .width ≤ 8
+at-most-8 c = width-range _ (c .before .pre) .1
+
+-- 1 to 7
 returns-2 : tie.Need-returns-2
-returns-2 c = rw (c .if2 .taken)
-
--- 4
-returns-3 : tie.Need-returns-3
-returns-3 c = rw (c .if3 .taken)
-
--- 8: every value fits
-returns-4 : tie.Need-returns-4
-returns-4 c = rw (is-8 c) (sym (lt-ltb _ _ (start c .fits .value .fits)))
+returns-2 c = fits-shifted (c .before .args .width) (c .before .args .value)
 
 pub fits-spec : {M : Type 1} → statement M
-fits-spec = tie.close (tie.spec returns returns-2 returns-3 returns-4)
+fits-spec = tie.close (tie.spec returns (λ c. omega (arith, at-most-8 c)) (λ c. omega (arith, at-most-8 c, c .if1 .left)) returns-2)

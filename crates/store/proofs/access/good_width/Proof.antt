@@ -1,23 +1,15 @@
--- `store::good_width`: 1, 2, 4, or whether it is 8. Assumes nothing.
-use borrow.Author.Tests.{eq-eqb, ne-eqb}
+-- `store::good_width`: 0, or whether it is at most 8. Assumes nothing.
+use borrow.Author.Tests.{lt-leb, le-leb}
 use Rattle.store.proofs.access.good_width.Statement.{statement}
 use Rattle.store.proofs.access.good_width.Tie as tie
 
--- 1
+-- 0
 returns : tie.Need-returns
-returns c = rw (eq-eqb _ 1 (c .if1 .taken))
+returns c = rw (lt-leb 1 _ (c .if1 .taken))
 
--- 2
+-- whether it is at most 8
 returns-2 : tie.Need-returns-2
-returns-2 c = rw (ne-eqb _ 1 (c .before .if1 .left), eq-eqb _ 2 (c .if2 .taken))
-
--- 4
-returns-3 : tie.Need-returns-3
-returns-3 c = rw (ne-eqb _ 1 (c .before .before .if1 .left), ne-eqb _ 2 (c .before .if2 .left), eq-eqb _ 4 (c .if3 .taken))
-
--- whether it is 8
-returns-4 : tie.Need-returns-4
-returns-4 c = rw (ne-eqb _ 1 (c .before .before .if1 .left), ne-eqb _ 2 (c .before .if2 .left), ne-eqb _ 4 (c .if3 .left))
+returns-2 c = rw (le-leb 1 _ (c .if1 .left))
 
 pub good-width-spec : {M : Type 1} → statement M
-good-width-spec = tie.close (tie.spec returns returns-2 returns-3 returns-4)
+good-width-spec = tie.close (tie.spec returns returns-2)

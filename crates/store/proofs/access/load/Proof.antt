@@ -7,7 +7,7 @@ use Rattle.frame.specs.Pointers.{unpack}
 use Rattle.store.specs.State.{State, state}
 use Rattle.store.specs.Calls.{opening, goodWidth, accessed}
 use Rattle.store.specs.laws.Opening.{opening-parts}
-use Rattle.store.specs.laws.Access.{accessed-parts}
+use Rattle.store.specs.laws.Access.{accessed-parts, width-range}
 use Rattle.store.specs.declared.answer.Answer.the-variants.{Accepted}
 use Rattle.store.specs.laws.Load.{load-shut, load-width, load-refused, load-given}
 use borrow.Author.Needs.{needs}
@@ -40,6 +40,11 @@ found : (c : tie.After-at) →
     let b = start o in
     accessed (o .s .given .0 .0) (unpack (b .args .pointer)) (b .args .width) (given b) ≡ Accepted (c .at .given .0 .0)
 found c = sym (c .before .before .access .ensures) ∙ c .at .given .1
+
+read-field-requires : tie.Need-read-field-requires
+read-field-requires c κs =
+    let (low, high) = width-range _ (is-good (at-wide (c .before .before .before))) in
+    (low, high, accessed-parts _ _ _ (state _ _) _ (found (c .before)) .inside)
 
 -- row 14
 returns : tie.Need-returns
@@ -75,7 +80,7 @@ load-spec =
     (λ c κs. is-open (at-open (c .before)))
     (λ c. search needs)
     (λ c. search needs)
-    (λ c κs. (is-good (at-wide (c .before .before .before)), accessed-parts _ _ _ (state _ _) _ (found (c .before)) .inside))
+    read-field-requires
     returns-2
     returns-3
     returns-4)

@@ -4,6 +4,7 @@ use mathlib.Core.List.{List}
 use mathlib.Core.Path.{_≡_, sym, ap, _∙_}
 use Rattle.store.specs.State.{state, outcome}
 use Rattle.store.specs.Calls.{storeChecks}
+use Rattle.store.specs.laws.Access.{width-range}
 use Rattle.store.specs.laws.Store.{store-parts, store-declined, store-done}
 use Rattle.store.specs.declared.answer.Answer.the-variants.{Accepted}
 use borrow.Author.Needs.{needs}
@@ -21,7 +22,8 @@ passed c = sym (c .before .before .storable .ensures) ∙ c .at .given .1
 write-field-requires : tie.Need-write-field-requires
 write-field-requires c κs =
     let p = store-parts _ _ _ (state _ _) _ (passed (c .before .before)) in
-    (p .good-width, p .bytes .inside)
+    let (low, high) = width-range _ (p .good-width) in
+    (low, high, p .bytes .inside)
 
 -- row 4, 5, 14, 16, 10, 11 or 13
 returns : tie.Need-returns
