@@ -31,6 +31,10 @@ int main(void)
     report("store", cue_store(STORE, record, 4, 1250));
     report("load", cue_load(STORE, record, 4, &value));
     printf("value %" PRIu64 "\n", value);
+    report("store a sample of 24 bits", cue_store(STORE, record, 3, 0xFFFFFF));
+    report("load 3", cue_load(STORE, record, 3, &value));
+    printf("value 0x%06" PRIX64 "\n", value);
+    report("store one of 25 bits in 3", cue_store(STORE, record, 3, 0x1000000));
 
     report("move by 2", cue_move(STORE, record, 2, &moved));
     report("fill 8 there", cue_fill(STORE, moved, 8, 255));
