@@ -1,5 +1,6 @@
--- The marked cases of document 01, "Arithmetic by example", at the slot exponent 6: one theorem over one list, by computation. Assumes nothing.
-use Prim.Native.Nat.{ℕ, _-_}
+-- The marked cases of document 01, "Arithmetic by example", and those of document 02's requests, at the slot exponent 6: one theorem over one list, by
+-- computation. Assumes nothing.
+use Prim.Native.Nat.{ℕ, _-_, _^_}
 use mathlib.Core.Bool.{Bool, true, false, cond, not, _&&_}
 use mathlib.Core.List.{List, [], _∷_}
 use lib.Dec.{T, eqb}
@@ -7,12 +8,13 @@ use lib.ListN.{replicate, getD}
 use lib.IntN.{ℤ, pos, negsuc}
 use Rattle.frame.specs.Frame.{frameNumber, frameNumberIn}
 use Rattle.frame.specs.Pointers.{unpack, pack, goodTag, reach, landed, moved}
-use Rattle.frame.specs.Tags.{lastHeld, wrapper, isSmall, tagNumber, pointerTo, usedEntries, entryAt, entryOf}
+use Rattle.frame.specs.Tags.{lastHeld, wrapper, isSmall, tagNumber, pointerTo, tagMatches, usedEntries, entryAt, entryOf}
 use Rattle.block.specs.Bytes.{encode, decode, field, put}
 use Rattle.block.specs.Layout.{superblock, superblockGood, header, headerAt, wellFormed, sound, isFree, extentAt}
 use Rattle.block.specs.Walk.{walkIn, walkFrom, walk, fitOf, firstFit}
 use Rattle.store.specs.State.{State, state, Outcome, returned, value}
-use Rattle.store.specs.Calls.{setUpChecks, fresh, setUp, opening, entryFree, fitAnswer, allocateChecks, carved, noted, allocate, movedAnswer, moveAnswer, move}
+use Rattle.store.specs.Calls.{setUpChecks, fresh, setUp, opening, entryFree, fitAnswer, allocateChecks, carved, noted, allocate, headerPlace, verified, leadsBack, located, inBody, accessed, movedAnswer, moveAnswer, move, loadAnswer, load, storeChecks, store}
+use Rattle.store.specs.declared.answer.Answer.{Answer}
 
 -- A case: what it starts from, and what document 01 says of it. An image of L bytes is set up, and the sizes `before` are allocated.
 pub data Case : Type 0 where
@@ -30,6 +32,8 @@ pub data Case : Type 0 where
   declined : (L : ℕ) (before : List ℕ) (size number : ℕ) → Case
   -- a pointer moved by a distance: the returned number, and the value
   moves : (L : ℕ) (before : List ℕ) (pointer : ℕ) (distance : ℤ) (number value : ℕ) → Case
+  -- W1: a store, then a load of that width through the same pointer: the returned number of each, and the loaded value
+  accesses : (L : ℕ) (before : List ℕ) (pointer width v stored loaded value : ℕ) → Case
 
 -- a store set up on an image and table that were full of other bytes
 abbrev begun : ℕ → State
@@ -68,6 +72,10 @@ holds (declined L before size number) = eqb (returned (further L before size .an
 holds (moves L before pointer d number v) =
     let o : Outcome = move pointer d (placed before (begun L)) in
     eqb (returned (o .answer)) number && eqb (value (o .answer)) v
+holds (accesses L before pointer width v stored loaded n) =
+    let o : Outcome = store pointer width v (placed before (begun L)) in
+    let a : Answer = load pointer width (o .after) .answer in
+    eqb (returned (o .answer)) stored && (eqb (returned a) loaded && eqb (value a) n)
 
 abbrev pub all : List Case → Bool
 all [] = true
@@ -93,8 +101,15 @@ cases =
     ∷ takes 64 [] 17 48
     ∷ object 64 [] 32 16 64 7 0x0007000000000020
     ∷ declined 64 [] 33 8
+    ∷ accesses 1024 (10 ∷ []) 0x8010000000000027 3 0x00FFFFFF 0 0 0x00FFFFFF
+    ∷ accesses 1024 (10 ∷ []) 0x8010000000000028 3 0x00FFFFFF 13 13 0
+    ∷ accesses 1024 (10 ∷ []) 0x8010000000000027 3 0x01000000 16 0 0
+    ∷ accesses 1024 (10 ∷ []) 0x8010000000000020 0 0 14 14 0
+    ∷ accesses 1024 (10 ∷ []) 0x8010000000000020 9 0 14 14 0
+    ∷ accesses 1024 (10 ∷ []) 0x8010000000000020 (2 ^ 32) 0 14 14 0
+    ∷ accesses 1024 (10 ∷ []) 0x8010000000000020 (2 ^ 64 - 1) 0 14 14 0
     ∷ []
 
 pub worked : T (all cases)
-unfolding frameNumber frameNumberIn unpack pack goodTag reach landed moved wrapper tagNumber pointerTo usedEntries entryAt encode decode field put superblock superblockGood header headerAt wellFormed sound walkIn walkFrom walk fitOf firstFit setUpChecks fresh setUp opening entryFree fitAnswer allocateChecks carved noted allocate movedAnswer moveAnswer move
+unfolding frameNumber frameNumberIn unpack pack goodTag reach landed moved wrapper tagNumber pointerTo usedEntries entryAt encode decode field put superblock superblockGood header headerAt wellFormed sound walkIn walkFrom walk fitOf firstFit setUpChecks fresh setUp opening entryFree fitAnswer allocateChecks carved noted allocate headerPlace verified leadsBack located inBody accessed movedAnswer moveAnswer move loadAnswer load storeChecks store tagMatches
 worked = tt
