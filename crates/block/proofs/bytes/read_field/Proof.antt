@@ -1,5 +1,5 @@
 -- `block::bytes::read_field`: a short field, 8 bytes, or 4 bytes and the rest, whose sum fits 8 bytes. Assumes nothing.
-use Prim.Native.Nat.{ℕ, _+_, _-_, _*_, _^_, _≤_, _<_}
+use Prim.Native.Nat.{_+_, _-_, _*_, _^_, _≤_, _<_}
 use mathlib.Core.Path.{_≡_, ap, _∙_}
 use native.Mathlib.Nat.{lt-of-lt-of-le, zero-lt-suc, pow-le-pow-right}
 use native.Mathlib.Omega.{arith}

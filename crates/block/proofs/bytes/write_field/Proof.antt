@@ -1,6 +1,5 @@
 -- `block::bytes::write_field`: a short field, 8 bytes, or 4 bytes and the rest behind them. Assumes nothing.
 use Prim.Native.Nat.{ℕ, _+_, _-_}
-use mathlib.Core.List.{List}
 use mathlib.Core.Path.{_≡_, ap, _∙_}
 use native.Mathlib.Omega.{arith}
 use Rattle.block.specs.Bytes.{encode, put}
