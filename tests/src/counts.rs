@@ -26,15 +26,15 @@ impl Counts {
     pub fn add(&mut self, call: &Call<u64>, refusal: u32) {
         self.calls += 1;
         self.by_call[call.place()][refusal as usize] += 1;
-        match *call {
-            Call::Load { pointer, .. } | Call::Store { pointer, .. } | Call::Free { pointer } | Call::Fill { pointer, .. } if refusal == 0 => {
-                self.framed[usize::from(pointer >> 63 == 0)] += 1;
-            }
-            _ => {}
+        if refusal != 0 {
+            return;
+        }
+        if let Call::Load { pointer, .. } | Call::Store { pointer, .. } | Call::Free { pointer } | Call::Fill { pointer, .. } = *call {
+            self.framed[usize::from(pointer >> 63 == 0)] += 1;
         }
         match *call {
-            Call::Load { width, .. } if refusal == 0 => self.widths[0][width as usize] += 1,
-            Call::Store { width, .. } if refusal == 0 => self.widths[1][width as usize] += 1,
+            Call::Load { width, .. } => self.widths[0][width as usize] += 1,
+            Call::Store { width, .. } => self.widths[1][width as usize] += 1,
             _ => {}
         }
     }

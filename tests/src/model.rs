@@ -1,5 +1,5 @@
-//! A model of document 01, written from its text alone. It works in place; every check comes before the first
-//! write, so that a refusal changes nothing.
+//! A model of document 01, as document 02 changes it, written from their text alone. It works in place; every check
+//! comes before the first write, so that a refusal changes nothing.
 //!
 //! Places and numbers are u64 throughout: fields have at most 4 bytes and addresses 48 bits, so that only a table
 //! entry, which may be any number, needs care.

@@ -16,7 +16,7 @@ use Rattle.store.specs.State.{State, state, Outcome, returned, value}
 use Rattle.store.specs.Calls.{setUpChecks, fresh, setUp, opening, entryFree, fitAnswer, allocateChecks, carved, noted, allocate, headerPlace, verified, leadsBack, located, inBody, accessed, movedAnswer, moveAnswer, move, loadAnswer, load, storeChecks, store}
 use Rattle.store.specs.declared.answer.Answer.{Answer}
 
--- A case: what it starts from, and what document 01 says of it. An image of L bytes is set up, and the sizes `before` are allocated.
+-- A case: what it starts from, and what the documents say of it. An image of L bytes is set up, and the sizes `before` are allocated.
 pub data Case : Type 0 where
   -- a further object of that size: its header place, its e, its wrapper frame's exponent N, its pointer
   object : (L : ℕ) (before : List ℕ) (size h e N pointer : ℕ) → Case
@@ -111,5 +111,5 @@ cases =
     ∷ []
 
 pub worked : T (all cases)
-unfolding frameNumber frameNumberIn unpack pack goodTag reach landed moved wrapper tagNumber pointerTo usedEntries entryAt encode decode field put superblock superblockGood header headerAt wellFormed sound walkIn walkFrom walk fitOf firstFit setUpChecks fresh setUp opening entryFree fitAnswer allocateChecks carved noted allocate headerPlace verified leadsBack located inBody accessed movedAnswer moveAnswer move loadAnswer load storeChecks store tagMatches
+unfolding frameNumber frameNumberIn unpack pack goodTag reach landed moved wrapper tagNumber pointerTo tagMatches usedEntries entryAt encode decode field put superblock superblockGood header headerAt wellFormed sound walkIn walkFrom walk fitOf firstFit setUpChecks fresh setUp opening entryFree fitAnswer allocateChecks carved noted allocate headerPlace verified leadsBack located inBody accessed movedAnswer moveAnswer move loadAnswer load storeChecks store
 worked = tt

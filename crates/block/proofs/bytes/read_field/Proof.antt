@@ -27,7 +27,7 @@ sum c =
 
 -- 8
 returns-2 : tie.Need-returns-2
-returns-2 c = cc
+returns-2 c = rw (c .before .if2 .taken) (c .read8 .ensures)
 
 -- 5 to 7
 returns-3 : tie.Need-returns-3

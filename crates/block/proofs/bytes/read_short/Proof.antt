@@ -1,7 +1,6 @@
 -- `block::bytes::read_short`: one way out for each width, by the read of that width. Assumes nothing.
-use mathlib.Core.Path.{_≡_, sym, ap, _∙_}
+use mathlib.Core.Path.{_≡_}
 use native.Mathlib.Omega.{arith}
-use Rattle.block.specs.Bytes.{field}
 use borrow.Author.Needs.{needs}
 use Rattle.block.proofs.bytes.read_short.Statement.{statement}
 use Rattle.block.proofs.bytes.read_short.Tie as tie
@@ -15,19 +14,19 @@ is-3 c = omega (arith, start c .pre, c .before .before .if1 .left, c .before .if
 
 -- 1
 returns : tie.Need-returns
-returns c = c .read1 .ensures ∙ ap (field _ _) (sym (c .before .if1 .taken))
+returns c = rw (c .before .if1 .taken) (c .read1 .ensures)
 
 -- 2
 returns-2 : tie.Need-returns-2
-returns-2 c = c .read2 .ensures ∙ ap (field _ _) (sym (c .before .if2 .taken))
+returns-2 c = rw (c .before .if2 .taken) (c .read2 .ensures)
 
 -- 4
 returns-3 : tie.Need-returns-3
-returns-3 c = c .read4 .ensures ∙ ap (field _ _) (sym (c .before .if3 .taken))
+returns-3 c = rw (c .before .if3 .taken) (c .read4 .ensures)
 
 -- 3
 returns-4 : tie.Need-returns-4
-returns-4 c = c .read3 .ensures ∙ ap (field _ _) (sym (is-3 (c .before)))
+returns-4 c = rw (is-3 (c .before)) (c .read3 .ensures)
 
 pub read-short-spec : {M : Type 1} → statement M
 read-short-spec =

@@ -17,7 +17,7 @@ rest c = omega (arith, c .before .if1 .left)
 
 -- 8
 returns-2 : tie.Need-returns-2
-returns-2 c = cc
+returns-2 c = rw (c .before .before .before .before .if2 .taken) (c .before .before .write8 .ensures)
 
 -- 5 to 7
 returns-3 : tie.Need-returns-3

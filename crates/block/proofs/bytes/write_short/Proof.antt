@@ -1,9 +1,6 @@
 -- `block::bytes::write_short`: one way out for each width, by the write of that width. Assumes nothing.
-use Prim.Native.Nat.{ℕ}
-use mathlib.Core.List.{List}
-use mathlib.Core.Path.{_≡_, sym, ap, _∙_}
+use mathlib.Core.Path.{_≡_}
 use native.Mathlib.Omega.{arith}
-use Rattle.block.specs.Bytes.{encode, put}
 use borrow.Author.Needs.{needs}
 use Rattle.block.proofs.bytes.write_short.Statement.{statement}
 use Rattle.block.proofs.bytes.write_short.Tie as tie
@@ -15,25 +12,21 @@ start c = c .before .before .before .before
 is-3 : (c : tie.Else3) → start c .args .width ≡ 3
 is-3 c = omega (arith, start c .pre, c .before .before .if1 .left, c .before .if2 .left, c .if3 .left)
 
--- bytes of a known width
-as-wide : (image : List ℕ) (at v w n : ℕ) → w ≡ n → put image at (encode n v) ≡ put image at (encode w v)
-as-wide image at v w n e = ap (λ (k : ℕ). put image at (encode k v)) (sym e)
-
 -- 1
 returns : tie.Need-returns
-returns c = c .before .before .write1 .ensures ∙ as-wide _ _ _ _ _ (c .before .before .before .before .if1 .taken)
+returns c = rw (c .before .before .before .before .if1 .taken) (c .before .before .write1 .ensures)
 
 -- 2
 returns-2 : tie.Need-returns-2
-returns-2 c = c .before .before .write2 .ensures ∙ as-wide _ _ _ _ _ (c .before .before .before .before .if2 .taken)
+returns-2 c = rw (c .before .before .before .before .if2 .taken) (c .before .before .write2 .ensures)
 
 -- 4
 returns-3 : tie.Need-returns-3
-returns-3 c = c .before .before .write4 .ensures ∙ as-wide _ _ _ _ _ (c .before .before .before .before .if3 .taken)
+returns-3 c = rw (c .before .before .before .before .if3 .taken) (c .before .before .write4 .ensures)
 
 -- 3
 returns-4 : tie.Need-returns-4
-returns-4 c = c .before .before .write3 .ensures ∙ as-wide _ _ _ _ _ (is-3 (c .before .before .before .before))
+returns-4 c = rw (is-3 (c .before .before .before .before)) (c .before .before .write3 .ensures)
 
 pub write-short-spec : {M : Type 1} → statement M
 write-short-spec =
