@@ -2,12 +2,13 @@
 SHELL = bash
 .SHELLFLAGS = -euo pipefail -c
 .DELETE_ON_ERROR:
-.PHONY: run test lib bench install clean help
+.PHONY: run replay log_is_named test lib bench install clean help
 
 PREFIX = /usr/local
 DESTDIR =
 
 archive = target/staticlib/libcapi.a
+program = target/bin/replay
 # with the folders, whose dates tell of removed files
 sources := crates.txt $(shell find crates)
 
@@ -19,6 +20,18 @@ run:
 	}
 	@target/bin/examples
 
+# proving is told on standard error: standard output has the answers alone
+replay: log_is_named $(program)
+	@$(program) <"$$LOG"
+
+log_is_named:
+	@[ -n "$${LOG:-}" ] || { echo 'usage: make replay LOG=file' >&2; exit 2; }
+
+$(program): $(sources)
+	@echo 'Proving the store and the program `replay`: a few minutes the first time, seconds afterwards.' >&2
+	@.ci/prove check replay >&2
+	@touch $(program)
+
 test:
 	@.ci/run
 
@@ -28,7 +41,7 @@ $(archive): $(sources)
 	@echo 'Proving the exports: a few minutes the first time, seconds afterwards.'
 	@.ci/prove staticlib capi
 
-bench: $(archive)
+bench: $(archive) $(program)
 	@cd bench && cargo run --offline --release --quiet
 
 install: $(archive)
@@ -48,8 +61,9 @@ clean:
 
 help:
 	@echo 'make run      prove the store, then run its main job, the program `examples`'
+	@echo 'make replay   make the calls of the log LOG=file again, and print their answers'
 	@echo 'make test     all tests: .ci/run, which ends in `N passed, 0 failed`'
 	@echo 'make lib      prove the exports and write $(archive), for C and Rust'
-	@echo 'make bench    measure the library against a model in Rust'
+	@echo 'make bench    measure the library and `replay` against models in Rust'
 	@echo 'make install  header, archive and pkg-config file, to PREFIX ($(PREFIX)) below DESTDIR'
 	@echo 'make clean    remove everything that was built and proved'

@@ -35,10 +35,11 @@ extern "C" {
 #endif
 
 #define CUE_VERSION_MAJOR 0
-#define CUE_VERSION_MINOR 2
+#define CUE_VERSION_MINOR 3
 #define CUE_VERSION_PATCH 0
-#define CUE_VERSION "0.2.0"
+#define CUE_VERSION "0.3.0"
 
+/* 17 to 19 are a call log's (docs/FORMAT.md): the program replay prints them, and no function returns them. */
 enum cue_refusal {
     CUE_ACCEPTED = 0,
     CUE_BAD_EXPONENT = 1,    /* setup: slot exponent outside 6..15 */

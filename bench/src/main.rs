@@ -1,5 +1,6 @@
 //! Each call of the library, through its exports, against the Rust model and, where there is one, against what does the
-//! same work unchecked: all built for release, on the same buffers in the same run. `cueledger-bench [MILLISECONDS]`.
+//! same work unchecked: all built for release, on the same buffers in the same run; and the program `replay` on long logs.
+//! `cueledger-bench [MILLISECONDS]`.
 
 mod accesses;
 mod blocks;
@@ -7,6 +8,7 @@ mod bulk;
 mod contestants;
 mod freeing;
 mod heap;
+mod logs;
 mod measure;
 mod memory;
 mod refused;
@@ -35,6 +37,7 @@ fn main() {
     freeing::measure(&mut bench);
     heap::measure(&mut bench);
     tree::measure(&mut bench);
+    logs::measure(&mut bench);
     memory::measure();
     bench.summary();
     println!("{:.1} s", begun.elapsed().as_secs_f64());

@@ -9,6 +9,8 @@ use std::time::{Duration, Instant};
 pub const LEAST_ROUNDS: usize = 21;
 const NOISE: f64 = 1.10;
 const TARGET: f64 = 1.20;
+/// For a log, in milliseconds.
+const LOG_TARGET: f64 = 100.0;
 
 /// Keeps the compiler from leaving out what gave the value.
 pub fn sink<T>(value: T) {
@@ -43,6 +45,7 @@ pub struct Bench {
     within_noise: Vec<String>,
     over_target: Vec<String>,
     slower_behind_many: Vec<String>,
+    slow_logs: Vec<String>,
 }
 
 fn number(ns: f64) -> String {
@@ -61,7 +64,14 @@ pub fn heading(title: &str, other: &str) {
 
 impl Bench {
     pub fn new(for_each_line: Duration) -> Bench {
-        Bench { for_each_line, slower_than_model: Vec::new(), within_noise: Vec::new(), over_target: Vec::new(), slower_behind_many: Vec::new() }
+        Bench {
+            for_each_line,
+            slower_than_model: Vec::new(),
+            within_noise: Vec::new(),
+            over_target: Vec::new(),
+            slower_behind_many: Vec::new(),
+            slow_logs: Vec::new(),
+        }
     }
 
     /// The best time of each round.
@@ -127,11 +137,20 @@ impl Bench {
         }
     }
 
+    /// Prints one line of a log's milliseconds.
+    pub fn log(&mut self, name: &str, [program, model]: [f64; 2]) {
+        println!("{name:<40}{program:>11.2}{model:>11.2}");
+        if program > LOG_TARGET {
+            self.slow_logs.push(format!("{name} ({program:.0})"));
+        }
+    }
+
     pub fn summary(&self) {
         let list = |names: &[String]| if names.is_empty() { "none".to_string() } else { names.join("; ") };
         println!("\nSlower than the model by more than 10 %: {}", list(&self.slower_than_model));
         println!("Slower by at most 10 %, the noise allowed: {}", list(&self.within_noise));
         println!("From 4 KiB on, over {TARGET} times the slice function: {}", list(&self.over_target));
         println!("Load and store slower behind 100,000 blocks than behind 10 by more than 10 %: {}", list(&self.slower_behind_many));
+        println!("A log over {LOG_TARGET} ms: {}", list(&self.slow_logs));
     }
 }

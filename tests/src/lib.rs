@@ -1,14 +1,16 @@
-//! The object store's library against a model of document 01, call by call.
+//! The object store's library against a model of document 01, call by call, and the program `replay` against one of
+//! document 02's call log.
 //!
 //! `model` is document 01; `store` the trait that model and library share; `case` a list of calls and damages, and
 //! how it is run on two stores at once; `generate` makes random lists; `counts` says what occurred in them; `shrink`
-//! shortens one that fails; `driver` puts them together.
+//! shortens one that fails; `driver` puts them together. `log` is the call log.
 
 pub mod case;
 pub mod counts;
 pub mod driver;
 pub mod generate;
 pub mod library;
+pub mod log;
 pub mod model;
 pub mod random;
 pub mod shrink;

@@ -98,7 +98,7 @@ impl Generator {
     }
 
     /// A header at h with one thing changed, often beyond what is sound.
-    fn damaged(&mut self, h: u64, header: Header) -> Header {
+    pub(super) fn damaged(&mut self, h: u64, header: Header) -> Header {
         let rest = (self.buffers.lent_image as u64 - h) as u32;
         let jitter = self.random.pick(&[0, 0, 1, u32::MAX]);
         match self.random.below(9) {

@@ -2,7 +2,7 @@
 
 use super::{Generator, Mode};
 use crate::case::{Action, Arg, Damage, View};
-use crate::model::{Header, Pointer};
+use crate::model::{self, Header, Pointer};
 use crate::store::Call;
 
 impl Generator {
@@ -18,18 +18,51 @@ impl Generator {
         // inside the body, or up to the image's end over the neighbours
         let room = if self.random.percent(60) { size - offset } else { (self.buffers.lent_image as u64).saturating_sub(h) };
         let forged = self.random.within(1, room.saturating_sub(16).max(1)) as u32;
-        let bytes = self.forged_header(forged).bytes();
-        for (place, word) in [(0, &bytes[..8]), (8, &bytes[8..])] {
-            let distance = (offset + place) as i64;
-            let moved = self.call(Call::Move { pointer: Arg::of(step), distance });
-            self.call(Call::Store { pointer: Arg::of(moved), width: 8, value: u64::from_le_bytes(word.try_into().unwrap()) });
-        }
+        let header = self.forged_header(forged);
+        self.write_header(Arg::of(step), offset, header);
         let pointer = Arg::Header { step, offset, size: forged };
         if self.mode == Mode::Damaged && self.random.percent(70) {
             self.push(Action::Damage(Damage::EntryOf { of: pointer, value: None }));
         }
         for _ in 0..self.random.within(1, 4) {
             self.use_forged(view, pointer, forged);
+        }
+    }
+
+    /// Sixteen bytes through a pointer, this far behind its address.
+    fn write_header(&mut self, pointer: Arg, offset: u64, header: Header) {
+        let bytes = header.bytes();
+        for (place, word) in [(0, &bytes[..8]), (8, &bytes[8..])] {
+            let distance = (offset + place) as i64;
+            let moved = self.call(Call::Move { pointer, distance });
+            self.call(Call::Store { pointer: Arg::of(moved), width: 8, value: u64::from_le_bytes(word.try_into().unwrap()) });
+        }
+    }
+
+    /// A forged header in the same slot as the next block's, which is changed through it: to a free one, whose table
+    /// entry stays, or beyond what is sound.
+    pub(super) fn reach_over(&mut self, view: &View<'_>) {
+        let Some(object) = self.object(true) else { return };
+        let (step, start) = self.objects[object].pointers[0];
+        let body = Pointer::unpack(start).address;
+        // as the image has it: headers of live objects may have been changed
+        let Some(own) = model::sound(view.image, body - 16).filter(|own| own.size >= 16) else { return };
+        let next = body - 16 + u64::from(own.extent);
+        let Some(header) = model::sound(view.image, next) else { return };
+        // the last place in the body; the forged body ends with the next header
+        let (offset, forged) = (u64::from(own.size) - 16, own.extent - own.size);
+        if !Pointer::to(self.slot_exponent, body + offset, u64::from(forged)).small {
+            return;
+        }
+        let (pointer, place) = (Arg::Header { step, offset, size: forged }, u64::from(forged) - 16);
+        self.write_header(Arg::of(step), offset, Header::live(u64::from(forged) + 16, 9, forged));
+        let changed = if self.random.percent(50) { Header::free(header.extent.into()) } else { self.damaged(next, header) };
+        self.write_header(pointer, place, changed);
+        self.call(Call::Allocate { size: header.size, type_number: 9 });
+        self.any_calls(view);
+        // mostly put back, or allocate refuses for the rest of the list
+        if self.random.percent(95) {
+            self.write_header(pointer, place, header);
         }
     }
 

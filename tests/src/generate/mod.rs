@@ -1,11 +1,13 @@
 //! Random cases. What is generated depends on the seed and on the expected store's answers, never on the tested store's.
 //!
 //! Here are the case, its buffers and its book of objects; `calls` makes one call, `pointers` the pointers for it, `forge`
-//! headers inside bodies, `misuse` wrong slices and set-ups, `damage` what is written behind the store's back.
+//! headers inside bodies, `misuse` wrong slices and set-ups, `damage` what is written behind the store's back; `log`
+//! makes a list of calls alone.
 
 mod calls;
 mod damage;
 mod forge;
+pub mod log;
 mod misuse;
 mod pointers;
 
@@ -24,6 +26,8 @@ enum Mode {
     Hostile,
     /// The same, with image and table damaged in between.
     Damaged,
+    /// Any pointer for any call, on one store that nobody else writes.
+    Log,
 }
 
 const MODES: [(u64, Mode); 3] = [(40, Mode::History), (30, Mode::Hostile), (30, Mode::Damaged)];
@@ -135,6 +139,7 @@ impl Generator {
         match self.mode {
             Mode::Hostile if self.random.percent(4) => self.misuse(view),
             Mode::Damaged if self.random.percent(15) => self.damage(view),
+            Mode::Log if self.random.percent(3) => self.reach_over(view),
             _ => self.random.weighted(&MIX.map(|(ordinary, _, make)| (ordinary, make)))(self, view),
         }
     }

@@ -39,6 +39,13 @@ module _ (image : List ℕ) (at : ℕ) (bs : List ℕ) (fits : at + length bs �
   unfolding put
   take-put = take-at (take at image) _ at (length-take-le at image (omega arith))
 
+  -- up to the run's end: what stood before it, and the run
+  pub take-put-end : take (at + length bs) (put image at bs) ≡ take at image ++ bs
+  unfolding put
+  take-put-end =
+      ap (take (at + length bs)) (sym (append-assoc (take at image) bs (drop (at + length bs) image)))
+      ∙ take-at (take at image ++ bs) _ (at + length bs) (simp (length-append, length-take) (omega arith))
+
   -- a byte below the run
   pub getD-put-below : (k : ℕ) → k < at → getD (put image at bs) k 0 ≡ getD image k 0
   getD-put-below k l = sym (getD-take at (put image at bs) k 0 l) ∙ rw take-put (getD-take at image k 0 l)

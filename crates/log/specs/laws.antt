@@ -1,0 +1,2 @@
+-- What other files and crates cite of the definitions.
+pub mod Records
