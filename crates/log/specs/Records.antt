@@ -111,7 +111,7 @@ unfoldable pub recordsIn : ℕ → List ℕ → ℕ → Records
 recordsIn zero log at = record { calls = []; fault = none }
 recordsIn (suc steps) log at = followed (nextAt log at) (recordsIn steps log)
 
--- what the log holds from `at` on; each record takes bytes, so that these steps are never used up
+-- what the log holds from `at` on; each record takes bytes, so that these steps are never used up (the law `records-next`)
 unfoldable pub recordsFrom : List ℕ → ℕ → Records
 recordsFrom log at = recordsIn (suc (length log)) log at
 

@@ -4,7 +4,7 @@ use Prim.Native.Nat.{ℕ}
 use mathlib.Core.List.{List, [], _∷_}
 use mathlib.Core.Option.{Option}
 use Rattle.store.specs.State.{State, Outcome}
-use Rattle.store.specs.Step as call
+use Rattle.store.specs.Step as store
 use Rattle.store.specs.declared.answer.Answer.{Answer}
 use Rattle.log.specs.Records.{Records, records}
 use Rattle.log.specs.declared.record.Call.{Call}
@@ -12,18 +12,18 @@ use Rattle.log.specs.declared.record.Call.the-variants.{Allocate, Free, 
 use Rattle.log.specs.declared.record.Fault.{Fault}
 
 -- the store's call that a record asks for
-abbrev pub asked : Call → call.Call
-asked (Allocate size type) = call.allocates size type
-asked (Free p) = call.frees p
-asked (Move p d) = call.moves p d
-asked (Load p width) = call.loads p width
-asked (Store p width v) = call.stores p width v
-asked (Fill p n byte) = call.fills p n byte
-asked (Copy t p n) = call.copies t p n
+abbrev pub asked : Call → store.Call
+asked (Allocate size type) = store.allocates size type
+asked (Free p) = store.frees p
+asked (Move p d) = store.moves p d
+asked (Load p width) = store.loads p width
+asked (Store p width v) = store.stores p width v
+asked (Fill p n byte) = store.fills p n byte
+asked (Copy t p n) = store.copies t p n
 
 -- what it answers and leaves
 abbrev pub made : Call → State → Outcome
-made c x = call.step (asked c) x
+made c x = store.step (asked c) x
 
 -- A call that was made, with its answer.
 pub record Answered : Type 0 where
