@@ -30,7 +30,7 @@ log_is_named:
 $(program): $(sources)
 	@echo 'Proving the store and the program `replay`: a few minutes the first time, seconds afterwards.' >&2
 	@.ci/prove check replay >&2
-	@touch $(program)
+	@touch $(program) # it keeps its date where nothing was to be proved
 
 test:
 	@.ci/run

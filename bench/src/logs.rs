@@ -7,9 +7,9 @@ use std::fs::{self, File};
 use std::process::{Command, Stdio};
 
 pub fn measure(bench: &mut Bench) {
-    println!("\n{:<40}{:>11}{:>11}", "a log of 65,536 bytes", "program ms", "model ms");
+    println!("\n{:<40}{:>11}{:>11}", "a log of 65,536 bytes, or none", "program ms", "model ms");
     let file = std::env::temp_dir().join(format!("cueledger-bench-{}.log", std::process::id()));
-    for (name, log) in [("no bytes at all", Vec::new())].into_iter().chain(slow()) {
+    for (name, log) in [("no input", Vec::new())].into_iter().chain(slow()) {
         fs::write(&file, &log).unwrap();
         let run = |_: &mut ()| {
             let mut command = Command::new(program());

@@ -15,3 +15,9 @@ pub mod model;
 pub mod random;
 pub mod shrink;
 pub mod store;
+
+/// What a test tells, not by println, which the test harness keeps back.
+pub fn print(text: &str) {
+    use std::io::Write;
+    writeln!(std::io::stdout(), "\n{text}").unwrap();
+}

@@ -11,6 +11,10 @@ pub const LENGTH: usize = 8192;
 pub const ENTRIES: usize = 768;
 pub const SLOT_EXPONENT: u32 = 8;
 
+/// Document 02's example, and what it prints.
+pub const SAMPLE: [u8; 24] = [0x0A, 0, 0x10, 0, 0x0A, 0, 0, 0, 7, 0, 0x0E, 0, 0x13, 0, 0x20, 0, 0, 0, 0, 0, 0x10, 0x80, 1, 0];
+pub const SAMPLE_LINES: &str = "16 0 8010000000000020\n19 0 0000000000000000\n";
+
 /// The bytes of length and kind.
 pub const HEAD: usize = 4;
 
@@ -190,15 +194,12 @@ pub fn program() -> PathBuf {
 mod tests {
     use super::*;
 
-    // document 02's example
-    const SAMPLE: [u8; 24] = [0x0A, 0, 0x10, 0, 0x0A, 0, 0, 0, 7, 0, 0x0E, 0, 0x13, 0, 0x20, 0, 0, 0, 0, 0, 0x10, 0x80, 1, 0];
-
     #[test]
     fn sample() {
         let calls = [Call::Allocate { size: 10, type_number: 7 }, Call::Load { pointer: 0x8010000000000020, width: 1 }];
         assert_eq!(records(&calls), SAMPLE);
         assert_eq!(read(&SAMPLE).calls, calls);
-        assert_eq!(replay(&SAMPLE), "16 0 8010000000000020\n19 0 0000000000000000\n");
+        assert_eq!(replay(&SAMPLE), SAMPLE_LINES);
         assert_eq!(replay(&[]), "");
     }
 

@@ -3,16 +3,11 @@
 use cueledger_tests::counts::Counts;
 use cueledger_tests::driver::compare;
 use cueledger_tests::library::{Exports, Library};
+use cueledger_tests::print;
 use cueledger_tests::random::fresh_seed;
 use cueledger_tests::store::{Model, Store};
-use std::io::Write;
 
 const SEED: u64 = 1;
-
-/// Not by println, which the test harness keeps back.
-fn print(text: &str) {
-    writeln!(std::io::stdout(), "\n{text}").unwrap();
-}
 
 fn agrees(name: &str, library: &impl Store, calls: u64, seed: u64) -> Counts {
     print(&format!("{name}: seed {seed}"));

@@ -2,7 +2,8 @@
 
 use cueledger_tests::counts::Counts;
 use cueledger_tests::generate;
-use cueledger_tests::log::{self, record, record_of, records, Reading, HEAD, LIMIT};
+use cueledger_tests::log::{self, record, record_of, records, Reading, HEAD, LIMIT, SAMPLE, SAMPLE_LINES};
+use cueledger_tests::print;
 use cueledger_tests::random::{fresh_seed, Random};
 use cueledger_tests::store::{Answer, Call, Model, Store, KINDS};
 use std::ffi::OsString;
@@ -15,11 +16,6 @@ use std::thread;
 use std::time::{Duration, Instant};
 
 const SEED: u64 = 1;
-
-/// Not by println, which the test harness keeps back.
-fn print(text: &str) {
-    writeln!(std::io::stdout(), "\n{text}").unwrap();
-}
 
 // ---- programs
 
@@ -200,9 +196,8 @@ fn every_kind() -> Vec<Call<u64>> {
 
 /// Document 02's, and none.
 fn sample() -> Vec<Input> {
-    let bytes = [0x0A, 0, 0x10, 0, 0x0A, 0, 0, 0, 7, 0, 0x0E, 0, 0x13, 0, 0x20, 0, 0, 0, 0, 0, 0x10, 0x80, 1, 0];
-    let (sample, none) = (Input::new("sample", bytes.to_vec()), Input::new("no input", Vec::new()));
-    assert_eq!(sample.expected, "16 0 8010000000000020\n19 0 0000000000000000\n");
+    let (sample, none) = (Input::new("sample", SAMPLE.to_vec()), Input::new("no input", Vec::new()));
+    assert_eq!(sample.expected, SAMPLE_LINES);
     assert_eq!(none.expected, "");
     vec![sample, none]
 }

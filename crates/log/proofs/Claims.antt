@@ -10,7 +10,7 @@ use lib.ListN.{length, take, drop, length-append, length-drop}
 use lib.Seq.{take-at, drop-at, drop-drop}
 use lib.Dec.{ltb}
 use lib.IntN.{pos, negsuc}
-use borrow.Author.Tests.{ltb-true, lt-ltb, le-ltb, le-leb}
+use borrow.Author.Tests.{ltb-true, le-leb}
 use Rattle.block.specs.Bytes.{encode, decode, field}
 use Rattle.block.specs.laws.Booleans.{and-left, and-right}
 use Rattle.block.specs.laws.Fields.{length-encode, decode-encode, field-bytes}
@@ -20,11 +20,13 @@ use Rattle.log.specs.Text.{answerLines, printed}
 use Rattle.log.specs.Written.{Field, encodeAll, allFit, unsigned, fieldsOf, recordOf, logOf, inRange, recordable, allRecordable}
 use Rattle.log.specs.Claims.{RecordsReadBack, LogsReadBack, PrintsAnswers}
 use Rattle.log.specs.laws.Records.{next-end, records-next}
+use Rattle.log.specs.laws.Written.{record-parts}
 use Rattle.log.specs.declared.record.Call.{Call}
 use Rattle.log.specs.declared.record.Call.the-variants.{Allocate, Free, Move, Load, Store, Fill, Copy}
 use Rattle.log.specs.declared.record.Fault.{Fault}
 use Rattle.log.specs.declared.record.Next.the-variants.{End, Record, Malformed}
-use Rattle.log.proofs.Reading.{not-cut, well-formed}
+use Rattle.log.proofs.Exact.{log-exact}
+use Rattle.log.proofs.Reading.{signed-low, signed-high, not-cut, well-formed}
 
 -- Fields.
 
@@ -67,22 +69,17 @@ fields-read log at (f ∷ fs) behind a e =
 
 -- One record.
 
--- two's complement there and back
-signed-low-back : (n : ℕ) → n < 2 ^ 63 → signed n ≡ pos n
-unfolding signed
-signed-low-back n l = rw (lt-ltb n (2 ^ 63) l) refl
-
-signed-high-back : (n : ℕ) → n < 2 ^ 63 → signed (2 ^ 64 - 1 - n) ≡ negsuc n
-unfolding signed
-signed-high-back n l = rw (le-ltb (2 ^ 64 - 1 - n) (2 ^ 63) (omega arith)) (ap negsuc (omega arith))
+-- two's complement there and back, below zero
+signed-back : (n : ℕ) → n < 2 ^ 63 → signed (2 ^ 64 - 1 - n) ≡ negsuc n
+signed-back n l = signed-high (2 ^ 64 - 1 - n) (omega arith) ∙ ap negsuc (omega arith)
 
 -- the call of the fields that are read
 call-read : (log : List ℕ) (f : ℕ) (c : Call) → inRange c ≡ true → Read log f (fieldsOf c) → callAt log (kindOf c) f ≡ c
 unfolding callAt fieldsOf Read Behind unsigned
 call-read log f (Allocate size type) i (a, (b, _)) = rw (a, b) refl
 call-read log f (Free p) i (a, _) = rw a refl
-call-read log f (Move p (pos n)) i (a, (b, _)) = rw (a, b, signed-low-back n (ltb-true _ _ i)) refl
-call-read log f (Move p (negsuc n)) i (a, (b, _)) = rw (a, b, signed-high-back n (ltb-true _ _ i)) refl
+call-read log f (Move p (pos n)) i (a, (b, _)) = rw (a, b, signed-low n (ltb-true _ _ i)) refl
+call-read log f (Move p (negsuc n)) i (a, (b, _)) = rw (a, b) (ap (Move p) (signed-back n (ltb-true _ _ i)))
 call-read log f (Load p width) i (a, (b, _)) = rw (a, b) refl
 call-read log f (Store p width v) i (a, (b, (c, _))) = rw (a, b, c) refl
 call-read log f (Fill p n byte) i (a, (b, (c, _))) = rw (a, b, c) refl
@@ -129,8 +126,7 @@ records-read-back log at c behind ok e =
     let range : inRange c ≡ true = and-right (allFit (fieldsOf c)) _ ok in
     let m = measured c in
     let few = m .few in
-    let at-length : drop at log ≡ encode 2 len ++ (encode 2 kind ++ (fields ++ behind)) =
-    e ∙ append-assoc (encode 2 len) (encode 2 kind ++ fields) behind ∙ ap (λ (y : List ℕ). encode 2 len ++ y) (append-assoc (encode 2 kind) fields behind) in
+    let at-length : drop at log ≡ encode 2 len ++ (encode 2 kind ++ (fields ++ behind)) = e ∙ record-parts c behind in
     let at-kind : drop (at + 2) log ≡ encode 2 kind ++ (fields ++ behind) = next-stands log at 2 len _ at-length (at + 2) refl in
     let at-fields : drop (at + 4) log ≡ fields ++ behind = next-stands log (at + 2) 2 kind _ at-kind (at + 4) (omega arith) in
     let r = fields-read log (at + 4) (fieldsOf c) behind (and-left _ (inRange c) ok) at-fields in
@@ -189,11 +185,12 @@ broken-log cs behind f ok e =
     ∙ ap (λ (l : List Call). holding l (some f)) (append-nil cs)
 
 pub logs-read-back : LogsReadBack
-logs-read-back = record { whole = whole-log; followed = followed-log }
+logs-read-back = record { whole = whole-log; followed = followed-log; exact = log-exact }
 
 pub prints-answers : PrintsAnswers
 unfolding printed
 prints-answers = record {
+  every = λ log x. refl;
   whole = λ cs x ok. ap (λ (r : Records). printed (runOf r x)) (whole-log cs ok) ∙ append-nil (answerLines (answers cs x));
   malformed = λ cs behind f x ok e. ap (λ (r : Records). printed (runOf r x)) (broken-log cs behind f ok e);
 }

@@ -2,5 +2,6 @@
 mod Reading
 mod Texts
 mod Turns
+mod Exact
 -- The claims of logs.
 pub mod Claims

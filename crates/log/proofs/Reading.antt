@@ -14,39 +14,41 @@ use Rattle.block.specs.Bytes.{field}
 use Rattle.log.specs.Records.{fieldBytes, recordLength, signed, callAt, goodValue, formedAt, nextAt}
 use Rattle.log.specs.declared.record.Call.the-variants.{Allocate, Free, Move, Load, Store, Fill, Copy}
 use Rattle.log.specs.declared.record.Fault.the-variants.{CutShort, UnknownKind, BadFields}
-use Rattle.log.specs.declared.record.Next.the-variants.{End, Record, Malformed}
+use Rattle.log.specs.declared.record.Next.the-variants.{Record, Malformed}
 
 -- a signed number
+
+-- below 2^63 it is itself
+pub signed-low : (n : ℕ) → n < 2 ^ 63 → signed n ≡ pos n
+unfolding signed
+signed-low n l = rw (lt-ltb n (2 ^ 63) l) refl
+
+-- from there on it is as far below -1 as n is below 2^64 - 1
+pub signed-high : (n : ℕ) → 2 ^ 63 ≤ n → signed n ≡ negsuc (2 ^ 64 - 1 - n)
+unfolding signed
+signed-high n h = rw (le-ltb n (2 ^ 63) h) refl
 
 minus-one : (m : ℕ) → negsuc 0 -ℤ pos m ≡ negsuc m
 minus-one zero = refl
 minus-one (suc m) = ap negsuc (omega arith)
 
-module _ (n : ℕ) where
-  -- below 2^63 it is itself
-  pub signed-low : n < 2 ^ 63 → toZ w64 n ≡ signed n
-  unfolding signed
-  signed-low l = toZ-pos w64 l ∙ rw (lt-ltb n (2 ^ 63) l) refl
+-- in a machine word
+pub word-low : (n : ℕ) → n < 2 ^ 63 → toZ w64 n ≡ signed n
+word-low n l = toZ-pos w64 l ∙ sym (signed-low n l)
 
-  module _ (h : 2 ^ 63 ≤ n) where
-    -- above, it is as far below -1 as n is below 2^64 - 1
-    below : negsuc 0 -ℤ toZ w64 (18446744073709551615 - n) ≡ negsuc (18446744073709551615 - n)
-    below = ap (λ (z : ℤ). negsuc 0 -ℤ z) (toZ-pos w64 {n = 18446744073709551615 - n} (omega arith)) ∙ minus-one (18446744073709551615 - n)
+module _ (n : ℕ) (h : 2 ^ 63 ≤ n) where
+  below : negsuc 0 -ℤ toZ w64 (18446744073709551615 - n) ≡ negsuc (18446744073709551615 - n)
+  below = ap (λ (z : ℤ). negsuc 0 -ℤ z) (toZ-pos w64 {n = 18446744073709551615 - n} (omega arith)) ∙ minus-one (18446744073709551615 - n)
 
-    pub signed-fits : SFits w64 (negsuc 0 -ℤ toZ w64 (18446744073709551615 - n))
-    signed-fits = rw below (record { sfits = omega arith })
+  pub word-fits : SFits w64 (negsuc 0 -ℤ toZ w64 (18446744073709551615 - n))
+  word-fits = rw below (record { sfits = omega arith })
 
-    pub signed-high : toZ w64 (ofZ w64 (negsuc 0 -ℤ toZ w64 (18446744073709551615 - n))) ≡ signed n
-    unfolding signed
-    signed-high = toZ-ofZ signed-fits ∙ below ∙ rw (le-ltb n (2 ^ 63) h) refl
+  pub word-high : toZ w64 (ofZ w64 (negsuc 0 -ℤ toZ w64 (18446744073709551615 - n))) ≡ signed n
+  word-high = toZ-ofZ word-fits ∙ below ∙ sym (signed-high n h)
 
 -- 17
 
 module _ (log : List ℕ) (at : ℕ) where
-  pub at-end : length log ≤ at → End ≡ nextAt log at
-  unfolding nextAt
-  at-end l = rw (eq-eqb (length log - at) 0 (omega arith)) refl
-
   module _ (some : at < length log) where
     pub few-left : length log - at < 4 → Malformed CutShort ≡ nextAt log at
     unfolding nextAt

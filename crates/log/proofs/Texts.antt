@@ -11,7 +11,7 @@ use Rattle.block.specs.Bytes.{put}
 use Rattle.block.specs.laws.Booleans.{byBool}
 use Rattle.block.specs.laws.Writes.{put-nil, put-cons, put-append, set-put-front}
 use Rattle.store.specs.State.{returned}
-use Rattle.store.specs.declared.answer.Refusal.the-variants.{BadExponent, BadLength, TooFewEntries, BadSuperblock, ShortTable, Empty, Unsound, NoSpace, EntryTaken, BadTag, Dangling, Leaves, OutOfBounds, BadWidth, NotBase, TooLarge}
+use Rattle.store.specs.laws.Refusals.{refusal-range}
 use Rattle.store.specs.declared.answer.Answer.{Answer}
 use Rattle.store.specs.declared.answer.Answer.the-variants.{Accepted, Refused}
 use Rattle.log.specs.Records.{faultNumber, kindOf}
@@ -105,22 +105,7 @@ kind-small (Copy t p n) = omega arith
 
 pub returned-small : (a : Answer) → returned a < 100
 returned-small (Accepted v) = omega arith
-returned-small (Refused BadExponent) = omega arith
-returned-small (Refused BadLength) = omega arith
-returned-small (Refused TooFewEntries) = omega arith
-returned-small (Refused BadSuperblock) = omega arith
-returned-small (Refused ShortTable) = omega arith
-returned-small (Refused Empty) = omega arith
-returned-small (Refused Unsound) = omega arith
-returned-small (Refused NoSpace) = omega arith
-returned-small (Refused EntryTaken) = omega arith
-returned-small (Refused BadTag) = omega arith
-returned-small (Refused Dangling) = omega arith
-returned-small (Refused Leaves) = omega arith
-returned-small (Refused OutOfBounds) = omega arith
-returned-small (Refused BadWidth) = omega arith
-returned-small (Refused NotBase) = omega arith
-returned-small (Refused TooLarge) = omega arith
+returned-small (Refused r) = refusal-range r .1
 
 pub fault-small : (f : Fault) → faultNumber f < 100
 fault-small CutShort = omega arith

@@ -97,10 +97,14 @@ cases =
     ∷ case (3 ∷ 0 ∷ 17 ∷ 0 ∷ []) 17
     ∷ case (5 ∷ 0 ∷ 17 ∷ 0 ∷ []) 17
     ∷ case (12 ∷ 1 ∷ 17 ∷ 0 ∷ 1 ∷ 2 ∷ 3 ∷ 4 ∷ 5 ∷ 6 ∷ 7 ∷ 8 ∷ []) 17
+    -- and so for an unknown kind
+    ∷ case (3 ∷ 0 ∷ 23 ∷ 0 ∷ []) 17
+    ∷ case (5 ∷ 0 ∷ 23 ∷ 0 ∷ []) 17
     -- the kind is unknown, whatever the length
     ∷ case (4 ∷ 0 ∷ 15 ∷ 0 ∷ []) 18
     ∷ case (freeRecord (4 ∷ 0 ∷ 23 ∷ 0 ∷ [])) 18
     ∷ case (4 ∷ 0 ∷ 17 ∷ 1 ∷ []) 18
+    ∷ case (12 ∷ 0 ∷ 23 ∷ 0 ∷ 1 ∷ 2 ∷ 3 ∷ 4 ∷ 5 ∷ 6 ∷ 7 ∷ 8 ∷ []) 18
     -- the length does not suit the kind
     ∷ case (4 ∷ 0 ∷ 17 ∷ 0 ∷ []) 19
     ∷ case (11 ∷ 0 ∷ 17 ∷ 0 ∷ 1 ∷ 2 ∷ 3 ∷ 4 ∷ 5 ∷ 6 ∷ 7 ∷ 8 ∷ []) 19

@@ -36,7 +36,7 @@ kindOf (Move p d) = 18
 kindOf (Load p width) = 19
 kindOf (Store p width v) = 20
 kindOf (Fill p n byte) = 21
-kindOf (Copy t p n) = 22
+kindOf (Copy target source n) = 22
 
 -- the bytes of a known kind's fields
 unfoldable pub fieldBytes : ℕ → ℕ

@@ -19,7 +19,7 @@ asked (Move p d) = store.moves p d
 asked (Load p width) = store.loads p width
 asked (Store p width v) = store.stores p width v
 asked (Fill p n byte) = store.fills p n byte
-asked (Copy t p n) = store.copies t p n
+asked (Copy target source n) = store.copies target source n
 
 -- what it answers and leaves
 abbrev pub made : Call → State → Outcome

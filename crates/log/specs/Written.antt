@@ -36,7 +36,7 @@ fieldsOf (Move p d) = (8, p) ∷ (8, unsigned d) ∷ []
 fieldsOf (Load p width) = (8, p) ∷ (2, width) ∷ []
 fieldsOf (Store p width v) = (8, p) ∷ (2, width) ∷ (8, v) ∷ []
 fieldsOf (Fill p n byte) = (8, p) ∷ (4, n) ∷ (2, byte) ∷ []
-fieldsOf (Copy t p n) = (8, t) ∷ (8, p) ∷ (4, n) ∷ []
+fieldsOf (Copy target source n) = (8, target) ∷ (8, source) ∷ (4, n) ∷ []
 
 -- its record
 unfoldable pub recordOf : Call → List ℕ
@@ -56,7 +56,7 @@ inRange (Move p (negsuc n)) = ltb n (2 ^ 63)
 inRange (Load p width) = true
 inRange (Store p width v) = true
 inRange (Fill p n byte) = ltb byte 256
-inRange (Copy t p n) = true
+inRange (Copy target source n) = true
 
 -- a record can hold the call
 unfoldable pub recordable : Call → Bool

@@ -1,2 +1,3 @@
 -- What other files and crates cite of the definitions.
 pub mod Records
+pub mod Written

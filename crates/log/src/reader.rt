@@ -26,7 +26,7 @@ impl<'a> Reader<'a> {
     }
 }
 
-// What a log has at a position, by way of a reader. A loop cannot hold a reader from turn to turn: its proof would have to be done by hand.
+// What a log has at a position, by way of a reader: for callers without a reader in a local, whose proofs are not by hand.
 pub fn read(log: &[u8], at: usize) -> Next
     ensures { λ n. ⌜ n ≡ nextAt (now (log .entry)) at ⌝ }
 {

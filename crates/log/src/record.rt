@@ -9,7 +9,7 @@ use block::bytes::read2;
 use block::bytes::read4;
 use block::bytes::read8;
 
-// A call with its arguments, as a record has it. The byte of a fill has two bytes there, and a width is not tested.
+// A call with its arguments. A fill's value has two bytes in the record and one here; a width is handed on untested.
 pub enum Call {
     Allocate(u32, u16),
     Free(u64),

@@ -42,8 +42,8 @@ pub fn calls(seed: u64, count: usize) -> Vec<Call<u64>> {
     calls
 }
 
-/// Calls made again and again up to the limit, behind others: those that walk over as many blocks as there can be, and
-/// those that write as many bytes.
+/// Calls made again and again up to the limit, the last one cut there, behind others: those that walk over as many blocks
+/// as there can be, and those that write as many bytes.
 pub fn slow() -> Vec<(&'static str, Vec<u8>)> {
     let small = Call::Allocate { size: 1, type_number: 0 };
     let full = vec![small; (LENGTH - 16) / 17];
@@ -62,9 +62,10 @@ pub fn slow() -> Vec<(&'static str, Vec<u8>)> {
     ];
     let log = |before: &[Call<u64>], again: &[Call<u64>]| {
         let (mut log, round) = (records(before), records(again));
-        while log.len() + round.len() <= LIMIT {
+        while log.len() < LIMIT {
             log.extend(&round);
         }
+        log.truncate(LIMIT);
         log
     };
     logs.into_iter().map(|(name, before, again)| (name, log(before, again))).collect()

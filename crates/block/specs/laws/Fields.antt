@@ -7,7 +7,7 @@ use native.Mathlib.Omega.{arith}
 use lib.Dec.{eqb, ltb}
 use lib.ListN.{length, getD, take, drop}
 use lib.Pow.{pow-pos, pow-add, shr-lt}
-use lib.Seq.{take-at, drop-drop, take-nil}
+use lib.Seq.{take-at, drop-drop, drop-cons, take-nil}
 use borrow.Author.Tests.{ltb-true, ltb-false, eq-eqb, ne-eqb}
 use Rattle.block.specs.Bytes.{encode, decode, field, Bytes}
 use Rattle.block.specs.laws.Booleans.{byBool}
@@ -86,6 +86,21 @@ field-add image (suc v) w at =
 pub field-bound : (image : List ℕ) → Bytes image → (w at : ℕ) → field image at w < 256 ^ w
 field-bound image h zero at = rw (field-zero image at) (omega arith)
 field-bound image h (suc w) at = omega (arith, pow-suc 256 w, field-step image at w, field-bound image h w (suc at), h at)
+
+-- bytes are the number in them, encoded
+pub field-stands :
+    (image : List ℕ) → Bytes image → (w at : ℕ) → at + w ≤ length image → drop at image ≡ encode w (field image at w) ++ drop (at + w) image
+unfolding encode
+field-stands image h zero at l = ap (λ (n : ℕ). drop n image) (sym (add-zero at))
+field-stands image h (suc w) at l =
+    let b : ℕ = getD image at 0 in
+    let f : ℕ = field image (suc at) w in
+    let low : (b + 256 * f) % 256 ≡ b = omega (arith, h at) in
+    let high : (b + 256 * f) / 256 ≡ f = omega (arith, h at) in
+    let ends : suc at + w ≡ at + suc w = omega arith in
+    drop-cons image at 0 (omega arith)
+    ∙ ap (λ (r : List ℕ). b ∷ r) (field-stands image h w (suc at) (omega arith) ∙ ap (λ (n : ℕ). encode w f ++ drop n image) ends)
+    ∙ rw (field-step image at w, low, high) refl
 
 -- a field read in two parts: `low`, its v low bytes, and `high`, the w others
 module _ (image : List ℕ) (v w at low high : ℕ) (l : low ≡ field image at v) (h : high ≡ field image (at + v) w) where

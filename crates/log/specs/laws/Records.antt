@@ -9,7 +9,7 @@ use lib.Dec.{leb, eqb}
 use borrow.Author.Tests.{leb-true, eqb-true, eq-eqb}
 use Rattle.block.specs.Bytes.{field}
 use Rattle.block.specs.laws.Booleans.{byBool, and-left, and-right}
-use Rattle.log.specs.Records.{knownKind, fieldBytes, recordLength, goodValue, insist, formedAt, nextAt, Records, followed, recordsIn, recordsFrom}
+use Rattle.log.specs.Records.{knownKind, fieldBytes, recordLength, callAt, goodValue, insist, formedAt, nextAt, Records, followed, recordsIn, recordsFrom}
 use Rattle.log.specs.declared.record.Call.{Call}
 use Rattle.log.specs.declared.record.Fault.{Fault}
 use Rattle.log.specs.declared.record.Fault.the-variants.{CutShort, UnknownKind, BadFields}
@@ -37,10 +37,19 @@ fields-least kind =
     byBool (eqb kind 20) (λ t. rw (a, b, c, d, t) (omega arith)) (λ e.
     byBool (eqb kind 21) (λ t. rw (a, b, c, d, e, t) (omega arith)) (λ f. rw (a, b, c, d, e, f) (omega arith)))))))
 
--- a record that is read ends 10 bytes or more behind its start, in the log
-pub next-behind : (log : List ℕ) (at : ℕ) (c : Call) (n : ℕ) → nextAt log at ≡ Record c n → (at + 10 ≤ n) × (n ≤ length log)
+-- What is known of a record that is read: its kind, its length, where it ends, and its call.
+pub record Formed (log : List ℕ) (at : ℕ) (c : Call) (n : ℕ) : Type 0 where
+  pub kind : ℕ
+  pub is-kind : field log (at + 2) 2 ≡ kind
+  pub known : knownKind kind ≡ true
+  pub is-length : field log at 2 ≡ recordLength kind
+  pub ends : at + recordLength kind ≡ n
+  pub inside : n ≤ length log
+  pub is-call : callAt log kind (at + 4) ≡ c
+
+pub next-formed : (log : List ℕ) (at : ℕ) (c : Call) (n : ℕ) → nextAt log at ≡ Record c n → Formed log at c n
 unfolding nextAt formedAt
-next-behind log at c n e =
+next-formed log at c n e =
     let left : ℕ = length log - at in
     let len : ℕ = field log at 2 in
     let kind : ℕ = field log (at + 2) 2 in
@@ -49,14 +58,39 @@ next-behind log at c n e =
     let (suits, e3) = insisted (eqb len (recordLength kind) && goodValue log kind (at + 4)) BadFields _ c n e2 in
     let ends : at + len ≡ n = cc e3 in
     let long : len ≡ recordLength kind = eqb-true _ _ (and-left _ (goodValue log kind (at + 4)) suits) in
+    let four : 4 ≤ left = leb-true _ _ (and-left _ (leb 4 len && leb len left) whole) in
     let fits : len ≤ left = leb-true _ _ (and-right (leb 4 len) _ (and-right (leb 4 left) _ whole)) in
-    let least = fields-least kind in
-    (omega arith, omega arith)
+    record { kind = kind; is-kind = refl; known = known; is-length = long; ends = omega arith; inside = omega arith; is-call = cc e3 }
+
+-- it ends 10 bytes or more behind its start
+pub next-behind : (log : List ℕ) (at : ℕ) (c : Call) (n : ℕ) → nextAt log at ≡ Record c n → (at + 10 ≤ n) × (n ≤ length log)
+next-behind log at c n e =
+    let f = next-formed log at c n e in
+    (omega (arith, f .ends, fields-least (f .kind)), f .inside)
 
 -- past the end there is none
 pub next-end : (log : List ℕ) (at : ℕ) → length log ≤ at → nextAt log at ≡ End
 unfolding nextAt
 next-end log at l = rw (eq-eqb (length log - at) 0 (omega arith)) refl
+
+-- no test ends in the end
+never-end : (whole known suits : Bool) (next : Call) (n : ℕ) → insist whole CutShort (insist known UnknownKind (insist suits BadFields (Record next n))) ≡ End → ⊥
+never-end false known suits c n e = let z : _≡_ {A = ℕ} 0 1 = cc in omega arith
+never-end true false suits c n e = let z : _≡_ {A = ℕ} 0 1 = cc in omega arith
+never-end true true false c n e = let z : _≡_ {A = ℕ} 0 1 = cc in omega arith
+never-end true true true c n e = let z : _≡_ {A = ℕ} 0 1 = cc in omega arith
+
+-- there is none only past the end
+pub end-past : (log : List ℕ) (at : ℕ) → nextAt log at ≡ End → length log ≤ at
+unfolding nextAt formedAt
+end-past log at e =
+    let left : ℕ = length log - at in
+    let len : ℕ = field log at 2 in
+    let kind : ℕ = field log (at + 2) 2 in
+    byBool (eqb left 0) (λ t. omega (arith, eqb-true left 0 t)) (λ t.
+    absurd
+    (never-end (leb 4 left && (leb 4 len && leb len left)) (knownKind kind) (eqb len (recordLength kind) && goodValue log kind (at + 4))
+    (callAt log kind (at + 4)) (at + len) (rw t at e)))
 
 -- what follows is looked at only behind a record
 followed-same : (r : Next) (f g : ℕ → Records) → ((c : Call) (n : ℕ) → r ≡ Record c n → f n ≡ g n) → followed r f ≡ followed r g

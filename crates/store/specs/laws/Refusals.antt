@@ -1,5 +1,5 @@
 -- Tests in a row: refused, or gone on. Assumes nothing.
-use Prim.Native.Nat.{ℕ}
+use Prim.Native.Nat.{ℕ, _≤_, _<_}
 use mathlib.Core.Path.{_≡_, refl}
 use mathlib.Core.Bool.{Bool, true, false}
 use mathlib.Core.Logic.{_↔_}
@@ -11,24 +11,27 @@ use Rattle.store.specs.declared.answer.Refusal.the-variants.{BadExponent
 use Rattle.store.specs.declared.answer.Answer.{Answer}
 use Rattle.store.specs.declared.answer.Answer.the-variants.{Accepted, Refused}
 
--- no refusal has the number 0
+-- a refusal's number has one or two digits, and is not 0
+pub refusal-range : (r : Refusal) → (1 ≤ refusalNumber r) × (refusalNumber r < 100)
+refusal-range BadExponent = (omega arith, omega arith)
+refusal-range BadLength = (omega arith, omega arith)
+refusal-range TooFewEntries = (omega arith, omega arith)
+refusal-range BadSuperblock = (omega arith, omega arith)
+refusal-range ShortTable = (omega arith, omega arith)
+refusal-range Empty = (omega arith, omega arith)
+refusal-range Unsound = (omega arith, omega arith)
+refusal-range NoSpace = (omega arith, omega arith)
+refusal-range EntryTaken = (omega arith, omega arith)
+refusal-range BadTag = (omega arith, omega arith)
+refusal-range Dangling = (omega arith, omega arith)
+refusal-range Leaves = (omega arith, omega arith)
+refusal-range OutOfBounds = (omega arith, omega arith)
+refusal-range BadWidth = (omega arith, omega arith)
+refusal-range NotBase = (omega arith, omega arith)
+refusal-range TooLarge = (omega arith, omega arith)
+
 pub refused-some : (r : Refusal) → refusalNumber r ≡ 0 → ⊥
-refused-some BadExponent e = omega arith
-refused-some BadLength e = omega arith
-refused-some TooFewEntries e = omega arith
-refused-some BadSuperblock e = omega arith
-refused-some ShortTable e = omega arith
-refused-some Empty e = omega arith
-refused-some Unsound e = omega arith
-refused-some NoSpace e = omega arith
-refused-some EntryTaken e = omega arith
-refused-some BadTag e = omega arith
-refused-some Dangling e = omega arith
-refused-some Leaves e = omega arith
-refused-some OutOfBounds e = omega arith
-refused-some BadWidth e = omega arith
-refused-some NotBase e = omega arith
-refused-some TooLarge e = omega arith
+refused-some r e = omega (arith, refusal-range r .0)
 
 -- a test is accepted exactly where it holds
 pub demand-iff : (ok : Bool) (r : Refusal) (v : ℕ) → (returned (demand ok r (Accepted v)) ≡ 0) ↔ (ok ≡ true)

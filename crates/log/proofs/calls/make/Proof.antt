@@ -16,6 +16,7 @@ use Rattle.log.specs.declared.record.Call.{Call}
 use Rattle.log.proofs.calls.make.Statement.{statement}
 use Rattle.log.proofs.calls.make.Tie as tie
 
+-- what the call is made on
 abbrev given : tie.Start → State
 given c = state (now (c .args .image)) (now (c .args .table))
 

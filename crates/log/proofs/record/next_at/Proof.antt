@@ -1,13 +1,14 @@
--- `log::record::next_at`: each way out is a law of `Reading`. Assumes nothing.
-use mathlib.Core.Path.{_∙_}
+-- `log::record::next_at`: the end, or a way out that is a law of `Reading`. Assumes nothing.
+use mathlib.Core.Path.{sym, _∙_}
 use borrow.Author.Needs.{needs}
-use Rattle.log.proofs.Reading.{at-end, few-left, too-short, too-long, not-cut}
+use Rattle.log.specs.laws.Records.{next-end}
+use Rattle.log.proofs.Reading.{few-left, too-short, too-long, not-cut}
 use Rattle.log.proofs.record.next_at.Statement.{statement}
 use Rattle.log.proofs.record.next_at.Tie as tie
 
 -- the end
 returns : tie.Need-returns
-returns c = at-end _ _ (c .if1 .taken)
+returns c = sym (next-end _ _ (c .if1 .taken))
 
 -- 17: one to three bytes remain
 returns-2 : tie.Need-returns-2

@@ -1,6 +1,6 @@
 -- `log::record::signed`: below 2^63 the number itself, above it what is missing to 2^64, below zero. Assumes nothing.
 use borrow.Author.Needs.{needs}
-use Rattle.log.proofs.Reading.{signed-low, signed-fits, signed-high}
+use Rattle.log.proofs.Reading.{word-low, word-fits, word-high}
 use Rattle.log.proofs.record.signed.Statement.{statement}
 use Rattle.log.proofs.record.signed.Tie as tie
 
@@ -11,6 +11,6 @@ signed-spec =
     (λ c. search needs)
     (λ c. search needs)
     (λ c. search needs)
-    (λ c. signed-fits _ (c .if1 .left))
-    (λ c. signed-low _ (c .if1 .taken))
-    (λ c. signed-high _ (c .if1 .left)))
+    (λ c. word-fits _ (c .if1 .left))
+    (λ c. word-low _ (c .if1 .taken))
+    (λ c. word-high _ (c .if1 .left)))
