@@ -83,7 +83,7 @@ call-read log f (Move p (negsuc n)) i (a, (b, _)) = rw (a, b) (ap (Move p) (sign
 call-read log f (Load p width) i (a, (b, _)) = rw (a, b) refl
 call-read log f (Store p width v) i (a, (b, (c, _))) = rw (a, b, c) refl
 call-read log f (Fill p n byte) i (a, (b, (c, _))) = rw (a, b, c) refl
-call-read log f (Copy t p n) i (a, (b, (c, _))) = rw (a, b, c) refl
+call-read log f (Copy target source n) i (a, (b, (c, _))) = rw (a, b, c) refl
 
 -- its fill value is a byte
 value-read : (log : List ℕ) (f : ℕ) (c : Call) → inRange c ≡ true → Read log f (fieldsOf c) → goodValue log (kindOf c) f ≡ true
@@ -94,14 +94,14 @@ value-read log f (Move p d) i r = refl
 value-read log f (Load p width) i r = refl
 value-read log f (Store p width v) i r = refl
 value-read log f (Fill p n byte) i (a, (b, (c, _))) = let l : byte < 256 = ltb-true _ _ i in rw c (le-leb byte 255 (omega arith))
-value-read log f (Copy t p n) i r = refl
+value-read log f (Copy target source n) i r = refl
 
 -- kind and length of a record
-pub record Measured (c : Call) : Type 0 where
-  pub low : 16 ≤ kindOf c
-  pub high : kindOf c ≤ 22
-  pub few : fieldBytes (kindOf c) ≤ 20
-  pub long : length (encodeAll (fieldsOf c)) ≡ fieldBytes (kindOf c)
+record Measured (c : Call) : Type 0 where
+  low : 16 ≤ kindOf c
+  high : kindOf c ≤ 22
+  few : fieldBytes (kindOf c) ≤ 20
+  long : length (encodeAll (fieldsOf c)) ≡ fieldBytes (kindOf c)
 
 measured : (c : Call) → Measured c
 unfolding fieldsOf encodeAll fieldBytes
@@ -111,7 +111,7 @@ measured (Move p d) = record { low = omega arith; high = omega arith; few = omeg
 measured (Load p width) = record { low = omega arith; high = omega arith; few = omega arith; long = simp (length-append, length-encode) }
 measured (Store p width v) = record { low = omega arith; high = omega arith; few = omega arith; long = simp (length-append, length-encode) }
 measured (Fill p n byte) = record { low = omega arith; high = omega arith; few = omega arith; long = simp (length-append, length-encode) }
-measured (Copy t p n) = record { low = omega arith; high = omega arith; few = omega arith; long = simp (length-append, length-encode) }
+measured (Copy target source n) = record { low = omega arith; high = omega arith; few = omega arith; long = simp (length-append, length-encode) }
 
 length-record : (c : Call) → length (recordOf c) ≡ recordLength (kindOf c)
 unfolding recordOf encodeAll

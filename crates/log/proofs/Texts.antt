@@ -101,7 +101,7 @@ kind-small (Move p d) = omega arith
 kind-small (Load p width) = omega arith
 kind-small (Store p width v) = omega arith
 kind-small (Fill p n byte) = omega arith
-kind-small (Copy t p n) = omega arith
+kind-small (Copy target source n) = omega arith
 
 pub returned-small : (a : Answer) → returned a < 100
 returned-small (Accepted v) = omega arith

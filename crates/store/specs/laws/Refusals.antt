@@ -30,6 +30,7 @@ refusal-range BadWidth = (omega arith, omega arith)
 refusal-range NotBase = (omega arith, omega arith)
 refusal-range TooLarge = (omega arith, omega arith)
 
+-- no refusal has the number 0
 pub refused-some : (r : Refusal) → refusalNumber r ≡ 0 → ⊥
 refused-some r e = omega (arith, refusal-range r .0)
 
