@@ -1,5 +1,5 @@
 -- The claims of logs. A record is read back field by field, each behind the one before it; a log, record by record. Assumes nothing.
-use Prim.Native.Nat.{ℕ, _+_, _-_, _^_, _≤_, _<_}
+use Prim.Native.Nat.{ℕ, _+_, _-_, _^_, _<_}
 use mathlib.Core.Path.{_≡_, refl, sym, ap, _∙_}
 use mathlib.Core.Bool.{true}
 use mathlib.Core.List.{List, [], _∷_, _++_, append-assoc, append-nil}
@@ -14,13 +14,13 @@ use borrow.Author.Tests.{ltb-true, le-leb}
 use Rattle.block.specs.Bytes.{encode, decode, field}
 use Rattle.block.specs.laws.Booleans.{and-left, and-right}
 use Rattle.block.specs.laws.Fields.{length-encode, decode-encode, field-bytes}
-use Rattle.log.specs.Records.{kindOf, fieldBytes, recordLength, signed, callAt, goodValue, nextAt, Records, recordsFrom, records}
+use Rattle.log.specs.Records.{kindOf, recordLength, signed, callAt, goodValue, nextAt, Records, recordsFrom, records}
 use Rattle.log.specs.Run.{answers, runOf}
 use Rattle.log.specs.Text.{answerLines, printed}
 use Rattle.log.specs.Written.{Field, encodeAll, allFit, unsigned, fieldsOf, recordOf, logOf, inRange, recordable, allRecordable}
 use Rattle.log.specs.Claims.{RecordsReadBack, LogsReadBack, PrintsAnswers}
 use Rattle.log.specs.laws.Records.{next-end, records-next}
-use Rattle.log.specs.laws.Written.{record-parts}
+use Rattle.log.specs.laws.Written.{measured, length-record, record-parts}
 use Rattle.log.specs.declared.record.Call.{Call}
 use Rattle.log.specs.declared.record.Call.the-variants.{Allocate, Free, Move, Load, Store, Fill, Copy}
 use Rattle.log.specs.declared.record.Fault.{Fault}
@@ -95,27 +95,6 @@ value-read log f (Load p width) i r = refl
 value-read log f (Store p width v) i r = refl
 value-read log f (Fill p n byte) i (a, (b, (c, _))) = let l : byte < 256 = ltb-true _ _ i in rw c (le-leb byte 255 (omega arith))
 value-read log f (Copy target source n) i r = refl
-
--- kind and length of a record
-record Measured (c : Call) : Type 0 where
-  low : 16 ≤ kindOf c
-  high : kindOf c ≤ 22
-  few : fieldBytes (kindOf c) ≤ 20
-  long : length (encodeAll (fieldsOf c)) ≡ fieldBytes (kindOf c)
-
-measured : (c : Call) → Measured c
-unfolding fieldsOf encodeAll fieldBytes
-measured (Allocate size type) = record { low = omega arith; high = omega arith; few = omega arith; long = simp (length-append, length-encode) }
-measured (Free p) = record { low = omega arith; high = omega arith; few = omega arith; long = simp (length-append, length-encode) }
-measured (Move p d) = record { low = omega arith; high = omega arith; few = omega arith; long = simp (length-append, length-encode) }
-measured (Load p width) = record { low = omega arith; high = omega arith; few = omega arith; long = simp (length-append, length-encode) }
-measured (Store p width v) = record { low = omega arith; high = omega arith; few = omega arith; long = simp (length-append, length-encode) }
-measured (Fill p n byte) = record { low = omega arith; high = omega arith; few = omega arith; long = simp (length-append, length-encode) }
-measured (Copy target source n) = record { low = omega arith; high = omega arith; few = omega arith; long = simp (length-append, length-encode) }
-
-length-record : (c : Call) → length (recordOf c) ≡ recordLength (kindOf c)
-unfolding recordOf encodeAll
-length-record c = simp (length-append, length-encode, measured c .long) (omega arith)
 
 pub records-read-back : RecordsReadBack
 unfolding RecordsReadBack recordable recordOf encodeAll

@@ -1,10 +1,12 @@
--- Every log of bytes is the log of its calls, and what is malformed behind them: a record that is read is that of its call, byte for byte. Assumes nothing.
-use Prim.Native.Nat.{ℕ, zero, suc, _+_, _^_, _≤_, _<_}
+-- Every log of bytes is the log of its calls, with nothing behind it or a malformed record: a record that is read is that of its call, byte for byte.
+-- Assumes nothing.
+use Prim.Native.Nat.{ℕ, zero, suc, _+_, _-_, _^_, _≤_, _<_}
 use mathlib.Core.Path.{_≡_, refl, sym, ap, _∙_, subst}
 use mathlib.Core.List.{List, [], _∷_, _++_, append-assoc}
 use mathlib.Core.Option.{Option, none, some}
+use native.Mathlib.Nat.{add-zero}
 use native.Mathlib.Omega.{arith}
-use lib.ListN.{length, drop, drop-of-length-le}
+use lib.ListN.{length, drop, length-append, length-drop, drop-of-length-le}
 use lib.Dec.{eqb, ltb, leb}
 use borrow.Author.Tests.{ltb-true, ltb-false, leb-true, eqb-true, eqb-false}
 use Rattle.block.specs.Bytes.{encode, field, Bytes}
@@ -21,9 +23,12 @@ use Rattle.log.specs.declared.record.Next.{Next}
 use Rattle.log.specs.declared.record.Next.the-variants.{End, Record, Malformed}
 use Rattle.log.proofs.Reading.{signed-low, signed-high}
 
--- a fault is not none
+-- faults, or none
 some-none : (f : Fault) → _≡_ {A = Option Fault} (some f) none → ⊥
 some-none f e = let z : _≡_ {A = ℕ} 0 1 = cc in omega arith
+
+some-same : (f g : Fault) → _≡_ {A = Option Fault} (some f) (some g) → f ≡ g
+some-same f g e = cc e
 
 -- two's complement back and there
 unsigned-back : (n : ℕ) → n < 2 ^ 64 → unsigned (signed n) ≡ n
@@ -126,6 +131,7 @@ module _ (log : List ℕ) (bytes : Bytes log) where
     behind : List ℕ
     is : drop at log ≡ logOf (recordsFrom log at .calls) ++ behind
     whole : recordsFrom log at .fault ≡ none → behind ≡ []
+    malformed : (f : Fault) → recordsFrom log at .fault ≡ some f → nextAt log (at + length (logOf (recordsFrom log at .calls))) ≡ Malformed f
 
   exact-at : (at : ℕ) (next : Next) → nextAt log at ≡ next → ((n : ℕ) → at < n → n ≤ length log → ExactFrom n) → ExactFrom at
   unfolding logOf
@@ -133,22 +139,34 @@ module _ (log : List ℕ) (bytes : Bytes log) where
     behind = drop at log;
     is = rw (records-next log at End e) refl;
     whole = λ z. drop-of-length-le log (end-past log at e);
+    malformed = λ f z. absurd (some-none f (sym z ∙ ap (λ (r : Records). r .fault) (records-next log at End e)));
   }
-  exact-at at (Malformed f) e rest = record {
-    behind = drop at log;
-    is = rw (records-next log at (Malformed f) e) refl;
-    whole = λ z. absurd (some-none f (sym (ap (λ (r : Records). r .fault) (records-next log at (Malformed f) e)) ∙ z));
-  }
+  exact-at at (Malformed f) e rest =
+      let holds = records-next log at (Malformed f) e in
+      let fault : recordsFrom log at .fault ≡ some f = ap (λ (r : Records). r .fault) holds in record {
+        behind = drop at log;
+        is = rw holds refl;
+        whole = λ z. absurd (some-none f (sym fault ∙ z));
+        malformed = λ g z.
+            let same : f ≡ g = some-same f g (sym fault ∙ z) in
+            rw holds (rw (add-zero at) (e ∙ ap Malformed same));
+      }
   exact-at at (Record c n) e rest =
       let (later, inside) = next-behind log at c n e in
       let r = rest n (omega arith) inside in
       let holds = records-next log at (Record c n) e in
-      let calls : List Call = recordsFrom log n .calls in record {
+      let fault : recordsFrom log at .fault ≡ recordsFrom log n .fault = ap (λ (s : Records). s .fault) holds in
+      let calls : List Call = recordsFrom log n .calls in
+      let stands : drop at log ≡ recordOf c ++ drop n log = record-stands at c n (next-formed log at c n e) in
+      let long : length log - at ≡ length (recordOf c) + (length log - n) =
+      sym (length-drop at log) ∙ ap length stands ∙ length-append (recordOf c) (drop n log) ∙ ap (λ (m : ℕ). length (recordOf c) + m) (length-drop n log) in
+      let ends : at + length (recordOf c ++ logOf calls) ≡ n + length (logOf calls) = simp length-append (omega arith) in record {
         behind = r .behind;
         is =
-            record-stands at c n (next-formed log at c n e) ∙ ap (λ (t : List ℕ). recordOf c ++ t) (r .is)
+            stands ∙ ap (λ (t : List ℕ). recordOf c ++ t) (r .is)
             ∙ sym (append-assoc (recordOf c) (logOf calls) (r .behind)) ∙ ap (λ (s : Records). logOf (s .calls) ++ r .behind) (sym holds);
-        whole = λ z. r .whole (sym (ap (λ (s : Records). s .fault) holds) ∙ z);
+        whole = λ z. r .whole (sym fault ∙ z);
+        malformed = λ f z. ap (λ (s : Records). nextAt log (at + length (logOf (s .calls)))) holds ∙ ap (nextAt log) ends ∙ r .malformed f (sym fault ∙ z);
       }
 
   exact-from : (steps at : ℕ) → length log < at + steps → at ≤ length log → ExactFrom at
@@ -158,4 +176,5 @@ module _ (log : List ℕ) (bytes : Bytes log) where
 pub log-exact : (log : List ℕ) → Bytes log → Exact log
 log-exact log bytes =
     let r = exact-from log bytes (suc (length log)) 0 (omega arith) (omega arith) in
-    record { behind = r .behind; is = r .is; whole = r .whole }
+    let begins : 0 + length (logOf (recordsFrom log 0 .calls)) ≡ length (logOf (recordsFrom log 0 .calls)) = omega arith in
+    record { behind = r .behind; is = r .is; whole = r .whole; malformed = λ f z. ap (nextAt log) (sym begins) ∙ r .malformed f z }

@@ -14,10 +14,8 @@ use Rattle.store.specs.State.{returned}
 use Rattle.store.specs.laws.Refusals.{refusal-range}
 use Rattle.store.specs.declared.answer.Answer.{Answer}
 use Rattle.store.specs.declared.answer.Answer.the-variants.{Accepted, Refused}
-use Rattle.log.specs.Records.{faultNumber, kindOf}
+use Rattle.log.specs.Records.{faultNumber}
 use Rattle.log.specs.Text.{ascii, digit, hexadecimal, decimalIn, decimal, closedBy, lineOf, faultLine}
-use Rattle.log.specs.declared.record.Call.{Call}
-use Rattle.log.specs.declared.record.Call.the-variants.{Allocate, Free, Move, Load, Store, Fill, Copy}
 use Rattle.log.specs.declared.record.Fault.{Fault}
 use Rattle.log.specs.declared.record.Fault.the-variants.{CutShort, UnknownKind, BadFields}
 
@@ -92,16 +90,7 @@ length-decimal n l =
 pub length-closed : (b : ℕ) (xs : List ℕ) → length (closedBy b xs) ≡ length xs + 1
 length-closed b xs = simp length-append
 
--- kinds and the numbers of refusals and malformed records are below 100
-
-pub kind-small : (c : Call) → kindOf c < 100
-kind-small (Allocate size type) = omega arith
-kind-small (Free p) = omega arith
-kind-small (Move p d) = omega arith
-kind-small (Load p width) = omega arith
-kind-small (Store p width v) = omega arith
-kind-small (Fill p n byte) = omega arith
-kind-small (Copy target source n) = omega arith
+-- the numbers of refusals and of malformed records are below 100
 
 pub returned-small : (a : Answer) → returned a < 100
 returned-small (Accepted v) = omega arith

@@ -64,17 +64,20 @@ module _ (log : List ℕ) (at : ℕ) (x : State) where
   run-next c n e = rw (records-next log at (Record c n) e) (append-assoc (answerLine (answeredBy c x)) _ _, refl)
 
 module _ {log text : List ℕ} {start x : State} {at done : ℕ} (r : Running log start text at done x) where
+  -- the log is used up
   pub ended : nextAt log at ≡ End → (take done text ≡ printed (runOver log start)) × (x ≡ runOver log start .after)
   ended e =
       let (p, a) = run-ended log at x e in
       (sym (append-nil (take done text)) ∙ ap (λ (t : List ℕ). take done text ++ t) (sym p) ∙ r .prints, sym a ∙ r .leaves)
 
+  -- the line of a malformed record is put
   pub broken : (f : Fault) → nextAt log at ≡ Malformed f → (text′ : List ℕ) (n : ℕ) → text′ ≡ put text done (faultLine f) → n ≡ done + length (faultLine f)
       → n ≤ length text → (take n text′ ≡ printed (runOver log start)) × (x ≡ runOver log start .after)
   broken f e text′ n t i l =
       let (p, a) = run-broken log at x f e in
       (put-behind text done n (faultLine f) text′ t i l ∙ ap (λ (t : List ℕ). take done text ++ t) (sym p) ∙ r .prints, sym a ∙ r .leaves)
 
+  -- a call is made, and its line is put
   pub went-on : (c : Call) (n : ℕ) → nextAt log at ≡ Record c n → (text′ : List ℕ) (m : ℕ) (y : State)
       → text′ ≡ put text done (answerLine (answeredBy c x)) → m ≡ done + length (answerLine (answeredBy c x)) → m ≤ done + 23 → m ≤ length text
       → y ≡ made c x .after → Running log start text′ n m y

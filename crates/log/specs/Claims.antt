@@ -3,7 +3,7 @@ use Prim.Native.Nat.{ℕ, _+_}
 use mathlib.Core.Path.{_≡_}
 use mathlib.Core.Bool.{true}
 use mathlib.Core.List.{List, [], _++_}
-use mathlib.Core.Option.{none}
+use mathlib.Core.Option.{none, some}
 use lib.ListN.{length, drop}
 use Rattle.block.specs.Bytes.{Bytes}
 use Rattle.store.specs.State.{State}
@@ -21,11 +21,12 @@ RecordsReadBack =
     (log : List ℕ) (at : ℕ) (c : Call) (behind : List ℕ) → recordable c ≡ true
     → drop at log ≡ recordOf c ++ behind → nextAt log at ≡ Record c (at + length (recordOf c))
 
--- A log is the log of its calls, with nothing behind it where nothing is malformed.
+-- A log is the log of its calls, with nothing behind it, or with a malformed record.
 pub record Exact (log : List ℕ) : Type 0 where
   pub behind : List ℕ
   pub is : log ≡ logOf (records log .calls) ++ behind
   pub whole : records log .fault ≡ none → behind ≡ []
+  pub malformed : (f : Fault) → records log .fault ≡ some f → nextAt log (length (logOf (records log .calls))) ≡ Malformed f
 
 -- The log of calls holds exactly these, in order; what follows it is read as it stands. And every log of bytes is such a log.
 pub record LogsReadBack : Type 0 where

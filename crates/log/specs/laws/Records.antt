@@ -47,6 +47,7 @@ pub record Formed (log : List ℕ) (at : ℕ) (c : Call) (n : ℕ) : Type 0 wher
   pub inside : n ≤ length log
   pub is-call : callAt log kind (at + 4) ≡ c
 
+-- every record that is read is so
 pub next-formed : (log : List ℕ) (at : ℕ) (c : Call) (n : ℕ) → nextAt log at ≡ Record c n → Formed log at c n
 unfolding nextAt formedAt
 next-formed log at c n e =
@@ -73,8 +74,8 @@ pub next-end : (log : List ℕ) (at : ℕ) → length log ≤ at → nextAt log 
 unfolding nextAt
 next-end log at l = rw (eq-eqb (length log - at) 0 (omega arith)) refl
 
--- no test ends in the end
-never-end : (whole known suits : Bool) (next : Call) (n : ℕ) → insist whole CutShort (insist known UnknownKind (insist suits BadFields (Record next n))) ≡ End → ⊥
+-- what is tested is not the end
+never-end : (whole known suits : Bool) (c : Call) (n : ℕ) → insist whole CutShort (insist known UnknownKind (insist suits BadFields (Record c n))) ≡ End → ⊥
 never-end false known suits c n e = let z : _≡_ {A = ℕ} 0 1 = cc in omega arith
 never-end true false suits c n e = let z : _≡_ {A = ℕ} 0 1 = cc in omega arith
 never-end true true false c n e = let z : _≡_ {A = ℕ} 0 1 = cc in omega arith

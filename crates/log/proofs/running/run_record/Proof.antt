@@ -4,7 +4,7 @@ use native.Mathlib.Omega.{arith}
 use denote.Ref.{now}
 use borrow.Author.Needs.{needs}
 use Rattle.store.specs.State.{state, Outcome}
-use Rattle.log.proofs.Texts.{kind-small}
+use Rattle.log.specs.laws.Written.{measured}
 use Rattle.log.proofs.Turns.{call-line}
 use Rattle.log.proofs.running.run_record.Statement.{statement}
 use Rattle.log.proofs.running.run_record.Tie as tie
@@ -17,7 +17,7 @@ abbrev call : tie.After-kind-of → tie.After-make
 call c = c .before .before .before .before .before .before
 
 put-answer-requires : tie.Need-put-answer-requires
-put-answer-requires c κs = let k = kind-small (start (call c) .args .c) in (omega (arith, c .kind-of .ensures), search needs)
+put-answer-requires c κs = let high = measured (start (call c) .args .c) .high in (omega (arith, c .kind-of .ensures), search needs)
 
 returns : tie.Need-returns
 returns c =
