@@ -20,7 +20,7 @@
  * - Stack, in bytes at most: the return address and all below it, without memmove and memset.
  *     cue_setup     48    cue_load     168    cue_fill     168
  *     cue_allocate  64    cue_store    168    cue_copy     200
- *     cue_move       8    cue_free     216    cue_tally     72
+ *     cue_move       8    cue_free     216    cue_tally     64
  *
  * On CUE_UNSOUND something else has written into the image. Allocate and free nothing more there. Objects that their
  * pointers still reach can be loaded; save image and table for diagnosis, then set the store up afresh. */
@@ -34,10 +34,10 @@
 extern "C" {
 #endif
 
-#define CUE_VERSION_MAJOR 0
-#define CUE_VERSION_MINOR 3
+#define CUE_VERSION_MAJOR 1
+#define CUE_VERSION_MINOR 0
 #define CUE_VERSION_PATCH 0
-#define CUE_VERSION "0.3.0"
+#define CUE_VERSION "1.0.0"
 
 /* 17 to 19 are a call log's (docs/FORMAT.md): the program replay prints them, and no function returns them. */
 enum cue_refusal {
@@ -135,9 +135,11 @@ uint32_t cue_fill(uint8_t *image, size_t image_len, const uint64_t *table, size_
  * Refusals, in order: 4, 5, 6, the target's 10, 11, 13, the source's 10, 11, 13. */
 uint32_t cue_copy(uint8_t *image, size_t image_len, const uint64_t *table, size_t table_len, uint64_t target, uint64_t source, uint32_t length);
 
-/* Walks the image: live objects, the sum of their sizes, and image_len - 16 less that sum.
+/* Walks the image: live objects, and in bytes the sum of their sizes, the sum of the extents of free blocks, and the
+ * overhead: 16 for each live header, and the at most 15 spare bytes behind each object. Live, free and overhead bytes
+ * are image_len - 16 in all.
  * Refusals, in order: 4, 5, 7. */
-uint32_t cue_tally(const uint8_t *image, size_t image_len, const uint64_t *table, size_t table_len, uint64_t *objects, uint64_t *live_bytes, uint64_t *free_bytes);
+uint32_t cue_tally(const uint8_t *image, size_t image_len, const uint64_t *table, size_t table_len, uint64_t *objects, uint64_t *live_bytes, uint64_t *free_bytes, uint64_t *overhead_bytes);
 
 #ifdef __cplusplus
 }

@@ -5,6 +5,7 @@ use crate::both;
 use crate::contestants::{Calls, Lent, Library, Model};
 use crate::measure::{heading, sink, time, Bench, Other};
 use cueledger_tests::model::Header;
+use cueledger_tests::random::Random;
 
 /// An image of live blocks, then a free one.
 #[derive(Clone, Copy)]
@@ -24,6 +25,17 @@ impl Layout {
             block[..16].copy_from_slice(&Header::live(self.extent as u64, 1, self.extent as u32 - 16).bytes());
         }
         lent.image[end..end + 16].copy_from_slice(&Header::free(self.free as u64).bytes());
+        lent
+    }
+
+    /// The same with each live block made free with even odds, so that no kind follows from the one before.
+    fn mixed(self, random: &mut Random) -> Lent {
+        let mut lent = self.lent();
+        for block in lent.image[16..16 + self.extent * self.blocks].chunks_exact_mut(self.extent) {
+            if random.percent(50) {
+                block[..16].copy_from_slice(&Header::free(self.extent as u64).bytes());
+            }
+        }
         lent
     }
 }
@@ -70,8 +82,8 @@ fn allocate_and_free(bench: &mut Bench, name: &str, layout: Layout, images: usiz
     bench.line(&format!("free, {name}"), units, &mut lents, frees, Other::None);
 }
 
-fn tally(bench: &mut Bench, name: &str, layout: Layout, images: usize, units: usize) {
-    let mut lents: Vec<Lent> = (0..images).map(|_| layout.lent()).collect();
+fn tally(bench: &mut Bench, name: &str, mut lents: Vec<Lent>, units: usize) {
+    let images = lents.len();
     let tallies = both!(|C, lents: Vec<Lent>| time(|| lents.iter().for_each(|lent| sink(C::tally(lent).unwrap()))));
     bench.line(&format!("tally, {name}"), units * images, &mut lents, tallies, Other::None);
 }
@@ -82,7 +94,7 @@ pub fn few(bench: &mut Bench) {
         let layout = Layout { blocks, extent: 32, free: 64, slot_exponent: 15 };
         allocate_and_free(bench, &format!("{name}, small-framed"), layout, 256, 1);
         allocate_and_free(bench, &format!("{name}, large-framed"), Layout { slot_exponent: 6, ..layout }, 256, 1);
-        tally(bench, name, layout, 256, 1);
+        tally(bench, name, (0..256).map(|_| layout.lent()).collect(), 1);
     }
     // the object lies across 2^17
     let layout = Layout { blocks: 1, extent: (1 << 17) - 32, free: 64, slot_exponent: 15 };
@@ -94,6 +106,8 @@ pub fn many(bench: &mut Bench) {
     for (name, blocks, images) in [("1,000", 1_000, 16), ("100,000", 100_000, 1)] {
         let layout = Layout { blocks, extent: 32, free: 64, slot_exponent: 15 };
         allocate_and_free(bench, &format!("a block of {name}"), layout, images, blocks);
-        tally(bench, &format!("a block of {name}"), layout, images, blocks);
+        tally(bench, &format!("a block of {name}"), (0..images).map(|_| layout.lent()).collect(), blocks);
+        let mut random = Random::new(1);
+        tally(bench, &format!("a block of {name}, free or live"), (0..images).map(|_| layout.mixed(&mut random)).collect(), blocks);
     }
 }

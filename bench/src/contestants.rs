@@ -102,7 +102,7 @@ impl Calls for Library {
     }
 
     fn tally(lent: &Lent) -> TallyAnswer {
-        export!(cue_tally, lent, as_ptr, as_ptr; objects live_bytes free_bytes)
+        export!(cue_tally, lent, as_ptr, as_ptr; objects live_bytes free_bytes overhead_bytes)
     }
 }
 

@@ -22,5 +22,6 @@ extern "C" {
         objects: *mut u64,
         live_bytes: *mut u64,
         free_bytes: *mut u64,
+        overhead_bytes: *mut u64,
     ) -> u32;
 }

@@ -17,8 +17,12 @@ pub struct Tally {
     pub objects: u64,
     /// The sum of their sizes.
     pub live_bytes: u64,
-    /// The image's length less 16 and the live bytes; headers and spare bytes count as free.
+    /// The sum of the extents of free blocks. Allocate takes 16 bytes of one block for its header.
     pub free_bytes: u64,
+    /// The live blocks' other bytes: 16 for each header, and the spare ones behind the objects.
+    ///
+    /// Live, free and overhead bytes are the image's length less 16, on every image that is counted.
+    pub overhead_bytes: u64,
 }
 
 // A number outside 0..=16 means that the archive is not the one this crate was written for.
@@ -300,16 +304,18 @@ impl<'a> Store<'a> {
     /// # let (mut image, mut table) = ([0u8; 1024], [0u64; Store::table_entries(1024, 9)]);
     /// let mut store = Store::set_up(&mut image, &mut table, 9)?;
     /// store.allocate(10, 7)?;
-    /// assert_eq!(store.tally(), Ok(Tally { objects: 1, live_bytes: 10, free_bytes: 998 }));
+    /// assert_eq!(store.tally(), Ok(Tally { objects: 1, live_bytes: 10, free_bytes: 982, overhead_bytes: 16 }));
     /// # Ok::<(), Refusal>(())
     /// ```
     #[inline]
     pub fn tally(&self) -> Result<Tally, Refusal> {
-        let (mut objects, mut live_bytes, mut free_bytes) = (0, 0, 0);
+        let (mut objects, mut live_bytes, mut free_bytes, mut overhead_bytes) = (0, 0, 0, 0);
         let (image, table) = (self.image(), self.table());
-        // SAFETY: as in `offset`; the three values are locals of their own.
-        let number = unsafe { ffi::cue_tally(image.as_ptr(), image.len(), table.as_ptr(), table.len(), &mut objects, &mut live_bytes, &mut free_bytes) };
-        answer(number, Tally { objects, live_bytes, free_bytes })
+        // SAFETY: as in `offset`; the four values are locals of their own.
+        let number = unsafe {
+            ffi::cue_tally(image.as_ptr(), image.len(), table.as_ptr(), table.len(), &mut objects, &mut live_bytes, &mut free_bytes, &mut overhead_bytes)
+        };
+        answer(number, Tally { objects, live_bytes, free_bytes, overhead_bytes })
     }
 
     /// The blocks of the image, free and live, in the order of their places.

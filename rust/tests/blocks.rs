@@ -16,13 +16,18 @@ fn sample() -> ([u8; LEN], [u64; Store::table_entries(LEN, EXPONENT)]) {
 
 /// What tally answers, from the iterator's items.
 fn counted(image: &[u8]) -> Result<Tally, Refusal> {
-    let mut tally = Tally { objects: 0, live_bytes: 0, free_bytes: image.len() as u64 - 16 };
+    let mut tally = Tally { objects: 0, live_bytes: 0, free_bytes: 0, overhead_bytes: 0 };
     for block in Blocks::new(image) {
         let block = block?;
         assert!(block.extent >= 16 && block.place + block.extent as usize <= image.len(), "{block:?}");
-        tally.objects += u64::from(block.kind == Kind::Live);
-        tally.live_bytes += u64::from(block.size);
-        tally.free_bytes -= u64::from(block.size);
+        match block.kind {
+            Kind::Free => tally.free_bytes += u64::from(block.extent),
+            Kind::Live => {
+                tally.objects += 1;
+                tally.live_bytes += u64::from(block.size);
+                tally.overhead_bytes += u64::from(block.extent - block.size);
+            }
+        }
     }
     Ok(tally)
 }

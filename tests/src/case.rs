@@ -87,6 +87,8 @@ pub enum Mismatch {
     NotItsRow { store: &'static str, call: &'static str, refusal: u32 },
     ReadOrRefusalWrote,
     EntryTakenInHistory,
+    TallyRefusedInHistory,
+    Unbalanced,
 }
 
 impl fmt::Display for Mismatch {
@@ -98,6 +100,8 @@ impl fmt::Display for Mismatch {
             Mismatch::NotItsRow { store, call, refusal } => write!(f, "the {store} store answered {refusal}, which is no row of {call}"),
             Mismatch::ReadOrRefusalWrote => write!(f, "the expected store wrote something although it refused, or only reads"),
             Mismatch::EntryTakenInHistory => write!(f, "the expected store answered 9 on a history begun by set-up"),
+            Mismatch::TallyRefusedInHistory => write!(f, "the expected store refused a tally on a history begun by set-up"),
+            Mismatch::Unbalanced => write!(f, "the expected store's live, free and overhead bytes are not all bytes behind the superblock"),
         }
     }
 }
@@ -233,7 +237,7 @@ impl<'a, A: Store, B: Store> Run<'a, A, B> {
                 return Err(Mismatch::NotItsRow { store, call: kind.name, refusal });
             }
         }
-        counts.add(&call, expected.refusal);
+        counts.add(&call, &expected);
         if expected != got {
             return Err(Mismatch::Answer { expected, got });
         }
@@ -254,6 +258,15 @@ impl<'a, A: Store, B: Store> Run<'a, A, B> {
         }
         if self.history && expected.refusal == 9 {
             return Err(Mismatch::EntryTakenInHistory);
+        }
+        if call == Call::Tally {
+            if self.history && !expected.accepted() {
+                return Err(Mismatch::TallyRefusedInHistory);
+            }
+            let [_, live, free, overhead] = expected.values;
+            if expected.accepted() && live + free + overhead != n as u64 - 16 {
+                return Err(Mismatch::Unbalanced);
+            }
         }
         if expected.accepted() {
             if let Call::SetUp { slot_exponent } = call {

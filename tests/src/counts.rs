@@ -1,6 +1,6 @@
 //! What occurred in a comparison, and what did not.
 
-use crate::store::{Call, KINDS, ROWS};
+use crate::store::{Answer, Call, KINDS, ROWS};
 use std::fmt;
 
 /// How often each call, and each of its answers, occurred.
@@ -19,14 +19,16 @@ pub struct Counts {
     pub framed: [u64; 2],
     /// Accepted loads and stores by width.
     pub widths: [[u64; 9]; 2],
+    /// Accepted tallies that show spare bytes, and those that show no free block.
+    pub tallies: [u64; 2],
 }
 
 impl Counts {
-    /// `refusal` is 0 or a row of the call.
-    pub fn add(&mut self, call: &Call<u64>, refusal: u32) {
+    /// The answer's refusal is 0 or a row of the call.
+    pub fn add(&mut self, call: &Call<u64>, answer: &Answer) {
         self.calls += 1;
-        self.by_call[call.place()][refusal as usize] += 1;
-        if refusal != 0 {
+        self.by_call[call.place()][answer.refusal as usize] += 1;
+        if !answer.accepted() {
             return;
         }
         if let Call::Load { pointer, .. } | Call::Store { pointer, .. } | Call::Free { pointer } | Call::Fill { pointer, .. } = *call {
@@ -35,6 +37,11 @@ impl Counts {
         match *call {
             Call::Load { width, .. } => self.widths[0][width as usize] += 1,
             Call::Store { width, .. } => self.widths[1][width as usize] += 1,
+            Call::Tally => {
+                let [objects, _, free, overhead] = answer.values;
+                self.tallies[0] += u64::from(overhead > 16 * objects);
+                self.tallies[1] += u64::from(free == 0);
+            }
             _ => {}
         }
     }
@@ -63,6 +70,7 @@ impl fmt::Display for Counts {
         writeln!(f, "{} of them with images of 64 KiB up to {} bytes", self.large_images, self.largest_image)?;
         writeln!(f, "cases by slot exponent 6..15: {:?}", &self.slot_exponents[6..])?;
         writeln!(f, "accepted through small- and large-framed pointers (load, store, free, fill): {:?}", self.framed)?;
-        write!(f, "accepted by width 1..8: load {:?}, store {:?}", &self.widths[0][1..], &self.widths[1][1..])
+        writeln!(f, "accepted by width 1..8: load {:?}, store {:?}", &self.widths[0][1..], &self.widths[1][1..])?;
+        write!(f, "accepted tallies with spare bytes, and with no free block: {:?}", self.tallies)
     }
 }

@@ -1,6 +1,6 @@
 //! The library as a `Store`, through the Rust wrapper and through the exports themselves.
 
-use crate::store::{Answer, Call, Store};
+use crate::store::{Answer, Call, Store, VALUES};
 use cueledger::{ffi, Pointer, Refusal, Width};
 
 /// Through the crate `cueledger`.
@@ -13,9 +13,9 @@ impl Store for Library {
     }
 }
 
-fn answered(image: &mut [u8], table: &mut [u64], call: Call<Pointer>) -> Result<[u64; 3], Refusal> {
+fn answered(image: &mut [u8], table: &mut [u64], call: Call<Pointer>) -> Result<[u64; VALUES], Refusal> {
     if let Call::SetUp { slot_exponent } = call {
-        return cueledger::Store::set_up(image, table, slot_exponent).map(|_| [0; 3]);
+        return cueledger::Store::set_up(image, table, slot_exponent).map(|_| [0; VALUES]);
     }
     let mut store = cueledger::Store::open(image, table)?;
     let value = match call {
@@ -27,9 +27,9 @@ fn answered(image: &mut [u8], table: &mut [u64], call: Call<Pointer>) -> Result<
         Call::Free { pointer } => store.free(pointer).map(|()| 0)?,
         Call::Fill { pointer, length, value } => store.fill(pointer, length, value).map(|()| 0)?,
         Call::Copy { target, source, length } => store.copy(target, source, length).map(|()| 0)?,
-        Call::Tally => return store.tally().map(|t| [t.objects, t.live_bytes, t.free_bytes]),
+        Call::Tally => return store.tally().map(|t| [t.objects, t.live_bytes, t.free_bytes, t.overhead_bytes]),
     };
-    Ok([value, 0, 0])
+    Ok([value, 0, 0, 0])
 }
 
 /// Through the exports. Values are not zero beforehand, so that a refusal must give 0 for each of them.
@@ -41,7 +41,7 @@ const STALE: u64 = 0xdead_beef_dead_beef;
 impl Store for Exports {
     fn call(&self, image: &mut [u8], table: &mut [u64], call: Call<u64>) -> Answer {
         let (bytes, n, entries, m) = (image.as_mut_ptr(), image.len(), table.as_mut_ptr(), table.len());
-        let [mut v, mut w, mut x] = [STALE; 3];
+        let [mut v, mut w, mut x, mut y] = [STALE; VALUES];
         // SAFETY: both slices are valid and borrowed mutably for the call; the values are locals.
         unsafe {
             match call {
@@ -63,8 +63,8 @@ impl Store for Exports {
                 Call::Fill { pointer, length, value } => Answer::new(ffi::cue_fill(bytes, n, entries, m, pointer, length, value), []),
                 Call::Copy { target, source, length } => Answer::new(ffi::cue_copy(bytes, n, entries, m, target, source, length), []),
                 Call::Tally => {
-                    let refusal = ffi::cue_tally(bytes, n, entries, m, &mut v, &mut w, &mut x);
-                    Answer::new(refusal, [v, w, x])
+                    let refusal = ffi::cue_tally(bytes, n, entries, m, &mut v, &mut w, &mut x, &mut y);
+                    Answer::new(refusal, [v, w, x, y])
                 }
             }
         }

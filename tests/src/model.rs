@@ -7,8 +7,8 @@
 /// The value of an accepted call, 0 where it has none, or the refusal's number.
 pub type Answer = Result<u64, u32>;
 
-/// Objects, live bytes and free bytes, or the refusal's number.
-pub type TallyAnswer = Result<[u64; 3], u32>;
+/// Objects, live bytes, free bytes and overhead bytes, or the refusal's number.
+pub type TallyAnswer = Result<[u64; 4], u32>;
 
 pub const SUPERBLOCK: u64 = 16;
 pub const HEADER: u64 = 16;
@@ -376,17 +376,21 @@ pub fn copy(image: &mut [u8], table: &[u64], target: u64, source: u64, length: u
 pub fn tally(image: &[u8], table: &[u64]) -> TallyAnswer {
     open(image, table)?;
     let length = image.len() as u64;
-    let (mut objects, mut live_bytes) = (0, 0);
+    let (mut objects, mut live_bytes, mut free_bytes, mut overhead_bytes) = (0, 0, 0, 0);
     let mut at = SUPERBLOCK;
     while at != length {
         let header = sound(image, at).ok_or(7u32)?;
+        let (extent, size) = (u64::from(header.extent), u64::from(header.size));
         if header.is_live() {
             objects += 1;
-            live_bytes += u64::from(header.size);
+            live_bytes += size;
+            overhead_bytes += HEADER + (extent - HEADER - size);
+        } else {
+            free_bytes += extent;
         }
-        at += u64::from(header.extent);
+        at += extent;
     }
-    Ok([objects, live_bytes, length - SUPERBLOCK - live_bytes])
+    Ok([objects, live_bytes, free_bytes, overhead_bytes])
 }
 
 #[cfg(test)]

@@ -8,7 +8,7 @@ use std::fmt;
 pub const ROWS: usize = Refusal::ALL[Refusal::ALL.len() - 1] as usize;
 
 /// The most values that a call answers: tally's.
-pub const VALUES: usize = 3;
+pub const VALUES: usize = 4;
 
 #[derive(Clone, Copy, Debug, PartialEq, Eq)]
 pub enum Access {

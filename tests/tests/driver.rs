@@ -272,6 +272,46 @@ fn walk_that_trusts_headers() {
     });
 }
 
+/// As the tally was before document 02, W3.
+#[test]
+fn tally_that_counts_headers_and_tails_as_free() {
+    let failure = find(|image, table, call| match (call, right(image, table, call)) {
+        (Call::Tally, Answer { refusal: 0, values: [objects, live, ..] }) => Answer::new(0, [objects, live, image.len() as u64 - 16 - live, 0]),
+        (_, answer) => answer,
+    });
+    // set-up, an object, tally
+    assert_eq!(failure.case.steps.len(), 3, "{failure}");
+}
+
+#[test]
+fn tally_that_leaves_out_tails() {
+    // shows only where a live block has spare bytes
+    let failure = find(|image, table, call| match (call, right(image, table, call)) {
+        (Call::Tally, Answer { refusal: 0, values: [objects, live, free, _] }) => Answer::new(0, [objects, live, free, 16 * objects]),
+        (_, answer) => answer,
+    });
+    assert!(failure.case.steps.len() <= SHORT, "{failure}");
+}
+
+#[test]
+fn tally_with_free_and_overhead_swapped() {
+    let failure = find(|image, table, call| match (call, right(image, table, call)) {
+        (Call::Tally, Answer { refusal: 0, values: [objects, live, free, overhead] }) => Answer::new(0, [objects, live, overhead, free]),
+        (_, answer) => answer,
+    });
+    // set-up, tally
+    assert_eq!(failure.case.steps.len(), 2, "{failure}");
+}
+
+#[test]
+fn counts_beside_a_refusal() {
+    // shows only where a header was damaged
+    find(|image, table, call| match (call, right(image, table, call)) {
+        (Call::Tally, Answer { refusal: 7, .. }) => Answer::new(7, [0, 0, 0, 16]),
+        (_, answer) => answer,
+    });
+}
+
 #[test]
 fn allocate_that_overwrites_an_entry() {
     // shows only where an entry was damaged
@@ -311,6 +351,24 @@ fn row_that_never_occurs() {
     };
     let counts = compare(&Faulty(never_9), &Faulty(never_9), 200_000, 1).unwrap_or_else(|failure| panic!("{failure}"));
     assert_eq!(counts.missing(), [("allocate", 9)]);
+}
+
+#[test]
+fn expected_store_that_counts_a_byte_twice() {
+    let failure = both(|image, table, call| match (call, right(image, table, call)) {
+        (Call::Tally, Answer { refusal: 0, values: [objects, live, free, overhead] }) => Answer::new(0, [objects, live, free, overhead + objects]),
+        (_, answer) => answer,
+    });
+    assert!(failure.text.contains(&Mismatch::Unbalanced.to_string()), "{failure}");
+}
+
+#[test]
+fn expected_store_that_refuses_a_tally() {
+    let failure = both(|image, table, call| match (call, right(image, table, call)) {
+        (Call::Tally, Answer { refusal: 0, values: [3, ..] }) => Answer::new(7, []),
+        (_, answer) => answer,
+    });
+    assert!(failure.text.contains(&Mismatch::TallyRefusedInHistory.to_string()), "{failure}");
 }
 
 #[test]

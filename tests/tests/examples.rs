@@ -49,7 +49,7 @@ fn set_up<S: Store>(store: S) {
     assert!(lent.image[32..].iter().all(|&byte| byte == 0));
     assert!(lent.table[..384].iter().all(|&entry| entry == 0));
     assert_eq!(lent.table[384], 9);
-    assert_eq!(lent.call(Call::Tally), Answer::new(0, [0, 0, 1008]));
+    assert_eq!(lent.call(Call::Tally), Answer::new(0, [0, 0, 1008, 0]));
 
     for (length, entries, slot_exponent, refusal) in [(1024, 384, 5, 1), (1024, 384, 16, 1), (63, 384, 6, 2), (63, 0, 16, 1), (63, 0, 6, 2), (1024, 383, 6, 3)]
     {
@@ -76,7 +76,7 @@ fn in_succession<S: Store>(store: S) {
         }
     }
     assert_eq!(lent.table.iter().filter(|&&entry| entry != 0).count(), 3, "two entries, and one beyond the used ones");
-    assert_eq!(lent.call(Call::Tally), Answer::new(0, [4, 63, 945]));
+    assert_eq!(lent.call(Call::Tally), Answer::new(0, [4, 63, 881, 64]));
 }
 
 fn largest_small<S: Store + Copy>(store: S) {
@@ -159,6 +159,32 @@ fn smallest_image<S: Store + Copy>(store: S) {
     assert_eq!(lent.call(Call::Allocate { size: 33, type_number: 0 }), Answer::new(8, []));
 }
 
+/// What allocate and free move between live, free and overhead bytes; and an unsound header.
+fn tallies<S: Store + Copy>(store: S) {
+    for (size, live, free, overhead) in [(16, 16, 16, 16), (17, 17, 0, 31), (32, 32, 0, 16)] {
+        let mut lent = Lent::fresh(store, 64);
+        assert_eq!(lent.call(Call::Tally), Answer::new(0, [0, 0, 48, 0]));
+        let pointer = lent.allocate(size);
+        assert_eq!(lent.call(Call::Tally), Answer::new(0, [1, live, free, overhead]));
+        assert_eq!(lent.refusal(Call::Free { pointer }), 0);
+        assert_eq!(lent.call(Call::Tally), Answer::new(0, [0, 0, 48, 0]));
+    }
+
+    // two gaps: the freed block's 36 bytes, and 881 at the end
+    let mut lent = Lent::fresh(store, 1024);
+    let [_, freed, ..] = [10, 20, 32, 1].map(|size| lent.allocate(size));
+    assert_eq!(lent.refusal(Call::Free { pointer: freed }), 0);
+    assert_eq!(lent.call(Call::Tally), Answer::new(0, [3, 43, 36 + 881, 3 * 16]));
+
+    // the last header unsound: an extent that does not reach the image's end, no kind, a size
+    for (at, byte) in [(143, 0x70), (147, 0), (147, 3), (151, 1)] {
+        let before = std::mem::replace(&mut lent.image[at], byte);
+        assert_eq!(lent.call(Call::Tally), Answer::new(7, []), "byte {at} set to {byte}");
+        lent.image[at] = before;
+    }
+    assert!(lent.call(Call::Tally).accepted());
+}
+
 /// 2^30 bytes, where N reaches 31.
 fn largest_image<S: Store>(store: S) {
     let mut lent = Lent { store, image: vec![0; 1 << 30], table: vec![9; 48 << 14] };
@@ -172,10 +198,10 @@ fn largest_image<S: Store>(store: S) {
     // e may be pointed to, but not read
     let end = lent.moved(pointer, (1 << 30) - 32).unwrap();
     assert_eq!(lent.refusal(Call::Load { pointer: end, width: 1 }), 13);
-    assert_eq!(lent.call(Call::Tally).values, [1, (1 << 30) - 32, 16]);
+    assert_eq!(lent.call(Call::Tally).values, [1, (1 << 30) - 32, 0, 16]);
     assert_eq!(lent.refusal(Call::Free { pointer }), 0);
     assert_eq!(lent.table[31 - 15 - 1], 0);
-    assert_eq!(lent.call(Call::Tally).values, [0, 0, (1 << 30) - 16]);
+    assert_eq!(lent.call(Call::Tally).values, [0, 0, (1 << 30) - 16, 0]);
     assert_eq!(lent.refusal(Call::Load { pointer, width: 1 }), 11);
 }
 
@@ -226,4 +252,4 @@ macro_rules! on_each_store {
     )*};
 }
 
-on_each_store!(set_up in_succession largest_small moves bounds widths smallest_image largest_image past_the_largest_image past_32_bits);
+on_each_store!(set_up in_succession largest_small moves bounds widths smallest_image tallies largest_image past_the_largest_image past_32_bits);

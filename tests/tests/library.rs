@@ -22,6 +22,7 @@ fn exports() {
     print(&counts.to_string());
     assert!(counts.slot_exponents[6..].iter().all(|&cases| cases > 0));
     assert!(counts.widths.iter().all(|by_width| by_width[1..].iter().all(|&accepted| accepted > 0)));
+    assert!(counts.tallies.iter().all(|&accepted| accepted > 0));
     assert!(counts.largest_image > 1 << 20);
 }
 

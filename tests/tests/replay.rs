@@ -447,7 +447,7 @@ fn every_answer_occurs() {
         counts.largest_image = log::LENGTH;
         counts.slot_exponents[log::SLOT_EXPONENT as usize] += 1;
         let Reading { calls, .. } = log::read(log::cut(&input.bytes));
-        calls.iter().zip(log::answers(&calls)).for_each(|(call, answer)| counts.add(call, answer.refusal));
+        calls.iter().zip(log::answers(&calls)).for_each(|(call, answer)| counts.add(call, &answer));
     }
     print(&counts.to_string());
     let of_a_log = |name: &str| !["set-up", "tally"].contains(&name);

@@ -2,16 +2,22 @@
 use mathlib.Core.Path.{_≡_, refl, sym, ap, _∙_, subst}
 use mathlib.Core.List.{List}
 use mathlib.Core.Bool.{true, false}
-use Prim.Native.Nat.{ℕ, _+_, _≤_}
+use mathlib.Core.Logic.{_⊎_, ⊎-elim}
+use Prim.Native.Nat.{ℕ, _+_, _*_, _-_, _≤_}
+use native.Mathlib.Omega.{arith}
 use lib.ListN.{length}
-use borrow.Author.Tests.{eq-eqb}
+use lib.Dec.{eqb}
+use borrow.Author.Tests.{eq-eqb, eqb-true, eqb-false}
+use Rattle.block.specs.laws.Booleans.{byBool}
 use Rattle.block.specs.Layout.{headerAt, sound}
-use Rattle.block.specs.laws.Soundness.{examined, Live, sound-live, sound-extent, sound-end, examined-is-sound, examined-is-unsound}
-use Rattle.block.specs.Walk.{stopped, unsound, ended, Search, walkFrom, walk, Gathered, counting}
+use Rattle.block.specs.laws.Soundness.{examined, Free, Live, sound-kinds, sound-live, sound-extent, sound-end, examined-is-sound, examined-is-unsound}
+use Rattle.block.specs.Walk.{stopped, unsound, ended, Search, walkFrom, walk, nothing, overheadOf, counting, countBlocks}
 use Rattle.block.specs.laws.Walks.{walk-ended, walk-unsound, walk-stopped, walk-next}
-use Rattle.block.specs.laws.Counting.{used-live, used-other}
+use Rattle.block.specs.laws.Counting.{passes-live, passes-free, count-is}
 use Rattle.block.specs.declared.header.Header.{Header}
 use Rattle.block.specs.declared.header.Examined.the-variants as examining
+use Rattle.block.specs.declared.walk.Counts.{Counts}
+use Rattle.block.specs.declared.walk.Counted.the-variants as counted
 
 -- the loops' invariant: the walk from h on, with `a` gathered, is what is left of the whole walk
 pub record Walking {A : Type 0} (s : Search A) (image : List ℕ) (first a : A) (h : ℕ) : Type 0 where
@@ -40,6 +46,19 @@ live-holds {image} {h} {d} e k =
     let l : Live d = subst Live (sym (e .is-header)) (sound-live image h (e .is-sound) (eq-eqb _ _ (ap (λ (x : Header). x .kind) (sym (e .is-header)) ∙ k))) in
     l .holds
 
+-- another block has no size
+pub free-empty : {image : List ℕ} {h : ℕ} {d : Header} → Seen image h d → (d .kind ≡ 2 → ⊥) → d .size ≡ 0
+free-empty {image} {h} {d} e k =
+    ⊎-elim (λ (f : Free d). f .no-size) (λ (l : Live d). absurd (k (l .is-kind)))
+    (subst (λ (x : Header). Free x ⊎ Live x) (sym (e .is-header)) (sound-kinds image h (e .is-sound)))
+
+-- no size is beyond its block
+pub size-inside : {image : List ℕ} {h : ℕ} {d : Header} → Seen image h d → d .size ≤ d .extent
+size-inside {image} {h} {d} e =
+    byBool (eqb (d .kind) 2)
+    (λ t. omega (arith, live-holds e (eqb-true _ _ t)))
+    (λ t. omega (arith, free-empty e (eqb-false _ _ t)))
+
 pub begins : {A : Type 0} (s : Search A) (image : List ℕ) (first : A) → Walking s image first first 16
 unfolding walk
 begins s image first = record { rest = refl }
@@ -62,14 +81,52 @@ module _ {A : Type 0} {s : Search A} {image : List ℕ} {first a : A} {h : ℕ} 
         let step = walk-next s image a h (e .is-sound) (ap (s .stops h) (sym (e .is-header)) ∙ t) in
         record { rest = ap (λ (x : Header). walkFrom s image (s .passes a h x) (h + x .extent)) (e .is-header) ∙ sym step ∙ w .rest }
 
--- what is counted so far: o objects with n bytes
-abbrev pub gathered : ℕ → ℕ → Gathered
-gathered o n = record { objects = o; bytes = n }
+-- the counts up to h: what is neither live nor free is overhead
+abbrev upTo : ℕ → ℕ → ℕ → ℕ → Counts
+upTo h objects live free = record { objects = objects; live = live; free = free; overhead = h - (16 + live + free) }
 
--- a live block is counted, another passed
-module _ {image : List ℕ} {first : Gathered} {o n h : ℕ} {d : Header} (w : Walking counting image first (gathered o n) h) (e : Seen image h d) where
-  pub counts-live : d .kind ≡ 2 → Walking counting image first (gathered (o + 1) (n + d .size)) (h + d .extent)
-  counts-live k = subst (λ (x : Gathered). Walking counting image first x (h + d .extent)) (used-live (gathered o n) d k) (goes-on w e refl)
+-- the invariant of the count: the blocks up to h are counted, and live headers, live bytes and free bytes fit below h
+pub record Counting (image : List ℕ) (h objects live free : ℕ) : Type 0 where
+  pub rest : Walking counting image nothing (upTo h objects live free) h
+  pub below : 16 + 16 * objects + live + free ≤ h
 
-  pub counts-other : (d .kind ≡ 2 → ⊥) → Walking counting image first (gathered o n) (h + d .extent)
-  counts-other k = subst (λ (x : Gathered). Walking counting image first x (h + d .extent)) (used-other (gathered o n) d k) (goes-on w e refl)
+pub counts-none : (image : List ℕ) → Counting image 16 0 0 0
+counts-none image = record { rest = begins counting image nothing; below = omega arith }
+
+module _ {image : List ℕ} {h objects live free : ℕ} (w : Counting image h objects live free) where
+  -- all blocks are counted
+  pub counts-all : h ≡ length image
+      → counted.Counts (record { objects = objects; live = live; free = free; overhead = length image - 16 - live - free }) ≡ countBlocks image
+  counts-all e =
+      let rest : length image - 16 - live - free ≡ h - (16 + live + free) = omega arith in
+      ap (λ (n : ℕ). counted.Counts (record { objects = objects; live = live; free = free; overhead = n })) rest
+      ∙ sym (count-is image (upTo h objects live free) (sym (at-end (w .rest) e)))
+
+  -- one more, live or free
+  module _ {d : Header} (e : Seen image h d) where
+    pub counts-live : d .kind ≡ 2 → Counting image (h + d .extent) (objects + 1) (live + d .size) free
+    counts-live k =
+        let holds : 16 + d .size ≤ d .extent = live-holds e k in
+        let rest : h - (16 + live + free) + overheadOf d ≡ h + d .extent - (16 + (live + d .size) + free) = omega (arith, w .below) in
+        record {
+          rest =
+              subst (λ (x : Counts). Walking counting image nothing x (h + d .extent))
+              (passes-live (upTo h objects live free) h d k
+              ∙ ap (λ (n : ℕ). record { objects = objects + 1; live = live + d .size; free = free; overhead = n }) rest)
+              (goes-on (w .rest) e refl);
+          below = omega (arith, w .below);
+        }
+
+    pub counts-free : (d .kind ≡ 2 → ⊥) → Counting image (h + d .extent) objects (live + d .size) (free + d .extent)
+    counts-free k =
+        let none : live + d .size ≡ live = omega (arith, free-empty e k) in
+        let rest : h - (16 + live + free) ≡ h + d .extent - (16 + live + (free + d .extent)) = omega (arith, w .below) in
+        rw none (
+        record {
+          rest =
+              subst (λ (x : Counts). Walking counting image nothing x (h + d .extent))
+              (passes-free (upTo h objects live free) h d k
+              ∙ ap (λ (n : ℕ). record { objects = objects; live = live; free = free + d .extent; overhead = n }) rest)
+              (goes-on (w .rest) e refl);
+          below = omega (arith, w .below);
+        })

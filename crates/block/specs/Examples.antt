@@ -34,6 +34,6 @@ meets : (walkTo image 16 ≡ met.After 0) × (walkTo image 78 ≡ met.After 42) 
 unfolding image damaged superblock header encode decode field put headerAt wellFormed sound walkIn walkFrom walk metOf walkTo
 meets = (refl, refl, refl, refl)
 
-counts : (countBlocks image ≡ counted.Counts 2 30) × (countBlocks damaged ≡ counted.Unsound)
+counts : (countBlocks image ≡ counted.Counts (record { objects = 2; live = 30; free = 946; overhead = 32 })) × (countBlocks damaged ≡ counted.Unsound)
 unfolding image damaged superblock header encode decode field put headerAt wellFormed sound walkIn walkFrom walk countOf countBlocks
 counts = (refl, refl)

@@ -1,5 +1,5 @@
 -- The walk over the blocks of an image, from 16 on, from block to block by their extents: document 01, "Calls". Assumes nothing.
-use Prim.Native.Nat.{ℕ, zero, suc, _+_, _≤_, _<_}
+use Prim.Native.Nat.{ℕ, zero, suc, _+_, _-_, _≤_, _<_}
 use mathlib.Core.Path.{_≡_}
 use mathlib.Core.Bool.{Bool, true, false, cond, _&&_}
 use mathlib.Core.List.{List}
@@ -11,6 +11,7 @@ use Rattle.block.specs.declared.walk.Fit.{Fit}
 use Rattle.block.specs.declared.walk.Fit.the-variants as fit
 use Rattle.block.specs.declared.walk.Met.{Met}
 use Rattle.block.specs.declared.walk.Met.the-variants as met
+use Rattle.block.specs.declared.walk.Counts.{Counts}
 use Rattle.block.specs.declared.walk.Counted.{Counted}
 use Rattle.block.specs.declared.walk.Counted.the-variants as counted
 
@@ -76,28 +77,35 @@ metOf target (ended a) = met.Lost
 unfoldable pub walkTo : List ℕ → ℕ → Met
 walkTo image target = metOf target (walk (reaching target) image 0)
 
--- what a count gathers: the live objects passed, and the sum of their raw sizes in bytes
-pub record Gathered : Type 0 where
-  pub objects : ℕ
-  pub bytes : ℕ
+-- no block is counted yet
+abbrev pub nothing : Counts
+nothing = record { objects = 0; live = 0; free = 0; overhead = 0 }
 
--- what a block adds
-abbrev pub used : Gathered → Header → Gathered
-used a d = cond (eqb (d .kind) 2) (record { objects = a .objects + 1; bytes = a .bytes + d .size }) a
+-- the overhead bytes of a live block: 16 for its header, and its extent's bytes beyond header and size
+abbrev pub overheadOf : Header → ℕ
+overheadOf d = 16 + (d .extent - (16 + d .size))
 
--- every block is passed
-abbrev pub counting : Search Gathered
-counting = record { stops = λ h d. false; passes = λ a h d. used a d }
+-- a live block more: an object, its raw size, its overhead bytes
+abbrev pub withLive : Counts → Header → Counts
+withLive a d = record { objects = a .objects + 1; live = a .live + d .size; free = a .free; overhead = a .overhead + overheadOf d }
+
+-- a free block more: its extent
+abbrev pub withFree : Counts → Header → Counts
+withFree a d = record { objects = a .objects; live = a .live; free = a .free + d .extent; overhead = a .overhead }
+
+-- every block is passed, and counted; a sound one that is not live is free
+abbrev pub counting : Search Counts
+counting = record { stops = λ h d. false; passes = λ a h d. cond (eqb (d .kind) 2) (withLive a d) (withFree a d) }
 
 -- the answer of a count; its walk never stops before the end
-unfoldable pub countOf : Walked Gathered → Counted
+unfoldable pub countOf : Walked Counts → Counted
 countOf (stopped a h) = counted.Unsound
 countOf (unsound h) = counted.Unsound
-countOf (ended a) = counted.Counts (a .objects) (a .bytes)
+countOf (ended a) = counted.Counts a
 
--- the live objects of an image and the sum of their raw sizes, or that a header is unsound
+-- the counts of an image's blocks, or that a header is unsound
 unfoldable pub countBlocks : List ℕ → Counted
-countBlocks image = countOf (walk counting image (record { objects = 0; bytes = 0 }))
+countBlocks image = countOf (walk counting image nothing)
 
 -- a place that the walk comes to
 pub data OnWalk (image : List ℕ) : ℕ → Type 0 where

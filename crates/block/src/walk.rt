@@ -17,9 +17,17 @@ pub enum Met {
     Lost,
 }
 
-// What a count of the blocks finds: live objects and the sum of their raw sizes; or an unsound header.
+// The blocks, counted: live objects, and in bytes the sum of their raw sizes, the sum of the free blocks' extents, and the overhead.
+pub struct Counts {
+    pub objects: u64,
+    pub live: u64,
+    pub free: u64,
+    pub overhead: u64,
+}
+
+// What a count of the blocks finds: all of them, or an unsound header.
 pub enum Counted {
-    Counts(u64, u64),
+    Counts(Counts),
     Unsound,
 }
 
@@ -68,25 +76,33 @@ pub fn walk_to(image: &[u8], target: u64) -> Met
     }
 }
 
-// Counts the live blocks and their raw sizes.
+// Counts the blocks. Free ones have size 0; and what is neither live nor free behind the superblock is overhead, so that no sum is kept of it.
 pub fn count_blocks(image: &[u8]) -> Counted
     ensures { λ r. ⌜ r ≡ countBlocks (now (image .entry)) ⌝ }
 {
     let len = image.len() as u64;
     let mut objects: u64 = 0;
-    let mut bytes: u64 = 0;
+    let mut live: u64 = 0;
+    let mut free: u64 = 0;
     let mut h: u64 = 16;
     loop {
         if h == len {
-            break Counted::Counts(objects, bytes);
+            break Counted::Counts(Counts {
+                objects,
+                live,
+                free,
+                overhead: len - 16 - live - free,
+            });
         }
         let Examined::Sound(d) = examine(image, h) else {
             break Counted::Unsound;
         };
         if d.kind == 2 {
             objects = objects + 1;
-            bytes = bytes + d.size;
+        } else {
+            free = free + d.extent;
         }
+        live = live + d.size;
         h = h + d.extent;
     }
 }

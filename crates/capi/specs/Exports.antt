@@ -1,7 +1,7 @@
 -- What C sees of a call: the returned number, the value, and the image and table as they are left. Assumes nothing.
 use Prim.Native.Nat.{ℕ}
 use mathlib.Core.List.{List}
-use Rattle.store.specs.State.{Outcome, returned, value, usageNumber, liveObjects, liveBytes, freeBytes}
+use Rattle.store.specs.State.{Outcome, returned, value, usageNumber, liveObjects, liveBytes, freeBytes, overheadBytes}
 use Rattle.store.specs.declared.counting.Usage.{Usage}
 
 -- What the export of a call that gives no value returns and leaves.
@@ -39,11 +39,12 @@ pub record Tallied : Type 0 where
   pub objects : ℕ
   pub live : ℕ
   pub free : ℕ
+  pub overhead : ℕ
 
--- made of a returned number and three values
-abbrev pub tallied : ℕ → ℕ → ℕ → ℕ → Tallied
-tallied r objects live free = record { returned = r; objects = objects; live = live; free = free }
+-- made of a returned number and four values
+abbrev pub tallied : ℕ → ℕ → ℕ → ℕ → ℕ → Tallied
+tallied r objects live free overhead = record { returned = r; objects = objects; live = live; free = free; overhead = overhead }
 
 -- what C sees of tally's answer
 abbrev pub exportedUsage : Usage → Tallied
-exportedUsage u = tallied (usageNumber u) (liveObjects u) (liveBytes u) (freeBytes u)
+exportedUsage u = tallied (usageNumber u) (liveObjects u) (liveBytes u) (freeBytes u) (overheadBytes u)

@@ -117,7 +117,7 @@ pub extern "C" fn cue_copy(
     a.returned()
 }
 
-// Live objects, live bytes and free bytes.
+// Live objects, live bytes, free bytes and overhead bytes.
 #[no_mangle]
 pub extern "C" fn cue_tally(
     image: &[u8],
@@ -125,21 +125,23 @@ pub extern "C" fn cue_tally(
     objects: &mut u64,
     live: &mut u64,
     free: &mut u64,
+    overhead: &mut u64,
 ) -> u32
-    ensures { λ r. ⌜ tallied r (now (objects .exit)) (now (live .exit)) (now (free .exit)) ≡ exportedUsage (tally (state (now (image .entry)) (now (table .entry)))) ⌝ }
+    ensures { λ r. ⌜ tallied r (now (objects .exit)) (now (live .exit)) (now (free .exit)) (now (overhead .exit)) ≡ exportedUsage (tally (state (now (image .entry)) (now (table .entry)))) ⌝ }
 {
+    // what a refusal gives
+    *objects = 0;
+    *live = 0;
+    *free = 0;
+    *overhead = 0;
     match store::tally(image, table) {
-        Usage::Counts(n, used, rest) => {
+        Usage::Counts(n, used, unused, extra) => {
             *objects = n;
             *live = used;
-            *free = rest;
+            *free = unused;
+            *overhead = extra;
             0
         }
-        Usage::Refused(r) => {
-            *objects = 0;
-            *live = 0;
-            *free = 0;
-            r.number()
-        }
+        Usage::Refused(r) => r.number(),
     }
 }

@@ -41,7 +41,7 @@ pub fn openings(run: Run) -> Run {
     let run = lend(run, 1024, 384).make(Call::SetUp(6), DONE, 0, 0);
     heading(b"Cases: an object of 10 bytes, whose body is at 32");
     let run = run.make(Call::Allocate(10), BYTES, 0, TEN | 32);
-    run.tally(0, 1, 10, 998)
+    run.tally(0, 1, 10, 982, 16)
 }
 
 // Refusals 13 and 16.
@@ -143,7 +143,7 @@ pub fn frees(run: Run) -> Run {
     let run = lend(run, 1024, 384).make(Call::Free(TEN | 33), DONE, 15, 0);
     let run = run.make(Call::Free(F7 | 32), DONE, 11, 0);
     let run = run.make(Call::Free(TEN | 32), DONE, 0, 0);
-    let run = run.tally(0, 0, 0, 1008);
+    let run = run.tally(0, 0, 0, 1008, 0);
     let run = run.make(Call::Free(TEN | 32), DONE, 11, 0);
     heading(b"Cases: allocate, with 1008 bytes free");
     let run = run.make(Call::Allocate(0), BYTES, 6, 0);
@@ -163,9 +163,9 @@ pub fn fresh(run: Run) -> Run {
     let run = first(run, 31, 0, TEN | 32);
     let run = first(run, 32, 0, F7 | 32);
     let run = lend(run, 64, 48);
-    let run = first(run, 16, 0, TEN | 32);
-    let run = first(run, 17, 0, TEN | 32);
-    let run = first(run, 32, 0, F7 | 32);
+    let run = first(run, 16, 0, TEN | 32).tally(0, 1, 16, 16, 16);
+    let run = first(run, 17, 0, TEN | 32).tally(0, 1, 17, 0, 31);
+    let run = first(run, 32, 0, F7 | 32).tally(0, 1, 32, 0, 16);
     first(run, 33, 8, 0)
 }
 
@@ -179,5 +179,5 @@ pub fn damaged(run: Run) -> Run {
     heading(b"Cases: a damaged image, kind 9 in the first header");
     run.image[20] = 9;
     let run = run.make(Call::Allocate(10), BYTES, 7, 0);
-    run.tally(7, 0, 0, 0)
+    run.tally(7, 0, 0, 0, 0)
 }

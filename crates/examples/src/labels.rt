@@ -1,5 +1,5 @@
 // The first column of each call's line: 32 places, in the order of the calls.
-pub const LABELS: [u8; 2976] = *b"set up                          \
+pub const LABELS: [u8; 3072] = *b"set up                          \
 10 bytes                        \
 20 bytes                        \
 32 bytes                        \
@@ -85,8 +85,11 @@ at 32 again                     \
 31, from 1024 bytes             \
 32, from 1024 bytes             \
 16, from 64 bytes               \
+tally                           \
 17, from 64 bytes               \
+tally: 15 bytes are spare       \
 32, from 64 bytes               \
+tally                           \
 33, from 64 bytes               \
 allocate 32                     \
 load through entry 0            \

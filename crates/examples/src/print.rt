@@ -30,7 +30,7 @@ pub fn heading(t: &[u8]) {
 // The label of the call with this number, 0 the first.
 pub fn label(call: u64) {
     text(b"  ");
-    if call < 93 {
+    if call < 96 {
         let at = 32 * call as usize;
         let end = at + 32;
         text(&LABELS[at..end]);
@@ -83,13 +83,15 @@ fn refused(number: u32) {
 // The answer of a tally.
 pub fn usage(u: Usage) {
     match u {
-        Usage::Counts(objects, live, free) => {
+        Usage::Counts(objects, live, free, overhead) => {
             text(b"live objects ");
             decimal(objects);
             text(b", live bytes ");
             decimal(live);
             text(b", free bytes ");
             decimal(free);
+            text(b", overhead bytes ");
+            decimal(overhead);
         }
         Usage::Refused(r) => refused(r.number()),
     }

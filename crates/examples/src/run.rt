@@ -53,10 +53,23 @@ fn lent(call: Call, image: &mut [u8], table: &mut [u64], bytes: usize, entries: 
     called(call, &mut image[..bytes], &mut table[..entries])
 }
 
+// Makes a tally on the first `bytes` and `entries`; refused where there are not as many.
+fn tally_lent(image: &[u8], table: &[u64], bytes: usize, entries: usize) -> Usage {
+    if image.len() < bytes {
+        return Usage::Refused(Refusal::BadLength);
+    }
+    if table.len() < entries {
+        return Usage::Refused(Refusal::ShortTable);
+    }
+    store::tally(&image[..bytes], &table[..entries])
+}
+
 // Whether a tally returned this number and these counts.
-fn has(u: Usage, number: u32, objects: u64, live: u64, free: u64) -> bool {
+fn has(u: Usage, number: u32, objects: u64, live: u64, free: u64, overhead: u64) -> bool {
     match u {
-        Usage::Counts(o, l, f) => number == 0 && o == objects && l == live && f == free,
+        Usage::Counts(o, l, f, v) => {
+            number == 0 && o == objects && l == live && f == free && v == overhead
+        }
         Usage::Refused(r) => r.number() == number,
     }
 }
@@ -113,12 +126,12 @@ impl Run {
     }
 
     // Tally: the returned number and the counts.
-    pub fn tally(self, number: u32, objects: u64, live: u64, free: u64) -> Run {
+    pub fn tally(self, number: u32, objects: u64, live: u64, free: u64, overhead: u64) -> Run {
         let image = self.image;
         let table = self.table;
-        let u = store::tally(&image, &table);
+        let u = tally_lent(&image, &table, self.bytes, self.entries);
         label(self.made);
         usage(u);
-        self.count(has(u, number, objects, live, free))
+        self.count(has(u, number, objects, live, free, overhead))
     }
 }

@@ -55,5 +55,5 @@ pub fn freed(run: Run) -> Run {
     text(b"\n");
     let run = run.make(Call::Load(TWENTY, 4), BYTES, 11, 0);
     heading(b"Tally: what is in use");
-    run.tally(0, 3, 43, 965)
+    run.tally(0, 3, 43, 917, 48)
 }

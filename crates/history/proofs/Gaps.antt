@@ -9,6 +9,7 @@ use lib.ListN.{length, take, drop, replicate}
 use lib.Dec.{eqb}
 use Rattle.block.specs.Bytes.{put}
 use Rattle.block.specs.Layout.{freeHeader, liveHeader}
+use Rattle.block.specs.declared.walk.Counts.{Counts}
 
 -- A live block: its type number, its body and how many bytes lie unused behind that.
 pub record Block : Type 0 where
@@ -44,6 +45,30 @@ render (item g b l) = gapBytes g ++ (blockBytes b ++ render l)
 abbrev pub size : Layout → ℕ
 size (last g) = g
 size (item g b l) = g + (extent b + size l)
+
+-- how many live blocks it has
+abbrev pub blocks : Layout → ℕ
+blocks (last g) = 0
+blocks (item g b l) = 1 + blocks l
+
+-- the bytes of their bodies
+abbrev pub bodies : Layout → ℕ
+bodies (last g) = 0
+bodies (item g b l) = length (b .body) + bodies l
+
+-- the bytes of its gaps
+abbrev pub gaps : Layout → ℕ
+gaps (last g) = g
+gaps (item g b l) = g + gaps l
+
+-- the bytes of live headers, and the spare bytes
+abbrev pub overheads : Layout → ℕ
+overheads (last g) = 0
+overheads (item g b l) = 16 + b .spare + overheads l
+
+-- what a count of its blocks gives
+abbrev pub counts : Layout → Counts
+counts l = record { objects = blocks l; live = bodies l; free = gaps l; overhead = overheads l }
 
 -- a gap has room for a header
 abbrev pub GapOk : ℕ → Type 0

@@ -15,12 +15,13 @@ use Rattle.block.specs.declared.walk.Counted.the-variants as counted
 use Rattle.store.specs.Calls.{fresh, carved, released, merged}
 use Rattle.store.specs.declared.answer.Refusal.the-variants.{Unsound}
 use Rattle.store.specs.declared.release.Release.the-variants as release
-use Rattle.history.proofs.Gaps.{Block, extent, Layout, last, item, blockAt, BlockOk, Placed, Remade, Clear, patched}
+use Rattle.history.proofs.Gaps.{Block, extent, Layout, last, item, blockAt, BlockOk, counts, Placed, Remade, Clear, patched}
 use Rattle.history.proofs.Looks.{gap, regap, look-apart, look-swap}
 use Rattle.history.proofs.Rendered.{block-header, block-sound}
 use Rattle.history.proofs.Focus.{Focus, Found, found, find, standing}
 use Rattle.history.proofs.Bodies.{read-at, write-remade, patched-length}
-use Rattle.history.proofs.Places.{standing-neighbours, standing-free-zero, standing-tail-zero, not-met, counts-sound}
+use Rattle.history.proofs.Places.{standing-neighbours, standing-free-zero, standing-tail-zero, not-met}
+use Rattle.history.proofs.Counting.{count-layout}
 use Rattle.history.proofs.Fresh.{fresh-placed}
 use Rattle.history.proofs.Fitting.{new, placed-in, carve-remade, carve-looks, carve-vacant, carve-clear, FirstFit, at, nowhere, first-fit}
 use Rattle.history.proofs.Freeing.{joined, free-merges, free-remade, free-looks}
@@ -144,9 +145,9 @@ not-freed image l h p e live so = not-met image l p h e live (walkTo image h) re
 pub placed-fresh : (s L : ℕ) → 64 ≤ L → L ≤ 2 ^ 30 → Placed (fresh s L) (last (L - 16))
 placed-fresh s L low high = fresh-placed s L low high
 
--- the tally meets no unsound header
-pub counts : (image : List ℕ) (l : Layout) → Placed image l → countBlocks image ≡ counted.Unsound → ⊥
-counts image l p e = counts-sound image l p e
+-- a count of the blocks gives the layout's counts
+pub counted-as : (image : List ℕ) (l : Layout) → Placed image l → countBlocks image ≡ counted.Counts (counts l)
+counted-as image l p = count-layout image l p
 
 -- no two free blocks are neighbours
 pub no-neighbours : (image : List ℕ) (l : Layout) → Placed image l → (h : ℕ) → OnWalk image h → h < length image → isFree image h ≡ true

@@ -5,6 +5,7 @@ mod Rendered
 mod Focus
 mod Bodies
 mod Places
+mod Counting
 mod Fresh
 mod Fitting
 mod Freeing

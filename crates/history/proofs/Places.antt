@@ -11,10 +11,8 @@ use Rattle.block.specs.laws.Booleans.{true-false}
 use Rattle.block.specs.Layout.{freeHeader, sound, isFree, isLive, extentAt, sizeAt}
 use Rattle.block.specs.laws.Headers.{length-header}
 use Rattle.block.specs.laws.Soundness.{sound-in}
-use Rattle.block.specs.Walk.{countBlocks, walkTo}
+use Rattle.block.specs.Walk.{walkTo}
 use Rattle.block.specs.laws.WalkTo.{MeetsBlock, walk-to-meets}
-use Rattle.block.specs.laws.Counting.{count-unsound}
-use Rattle.block.specs.declared.walk.Counted.the-variants as counted
 use Rattle.block.specs.declared.walk.Met.{Met}
 use Rattle.block.specs.declared.walk.Met.the-variants as met
 use Rattle.store.specs.Calls.{released}
@@ -24,7 +22,7 @@ use Rattle.store.specs.declared.release.Release.the-variants as release
 use Rattle.history.proofs.Gaps.{Block, extent, Layout, last, item, zeros, render, blockAt, Placed}
 use Rattle.history.proofs.Looks.{gap, look-first, clash}
 use Rattle.history.proofs.Rendered.{Part, after, step-drop, gap-cut, gap-not-live, gap-extent, block-not-free, block-extent, block-size}
-use Rattle.history.proofs.Focus.{Standing, a-gap, a-block, the-end, standing, no-unsound}
+use Rattle.history.proofs.Focus.{Standing, a-gap, a-block, the-end, standing}
 use Rattle.history.proofs.Bodies.{drop-body}
 
 -- a byte of a run of zeros that stands at h
@@ -93,7 +91,3 @@ module _ (image : List ℕ) (l : Layout) where
       let m : MeetsBlock image h before = walk-to-meets image h before q in
       absurd (standing-looked h (standing image l p h (m .on-walk)) e (m .is-sound) r)
   not-met p h e r met.Lost q = released-lost image h
-
-  -- a count does not end at an unsound header
-  pub counts-sound : Placed image l → countBlocks image ≡ counted.Unsound → ⊥
-  counts-sound p e = let m = count-unsound image e in no-unsound image l p (m .0) (m .1)

@@ -15,14 +15,11 @@ use Rattle.block.specs.laws.Booleans.{and-left, and-right, and-both, true-false
 use Rattle.block.specs.Bytes.{decode, field}
 use Rattle.block.specs.laws.Fields.{field-bytes}
 use Rattle.block.specs.Layout.{extentAt}
-use Rattle.block.specs.Walk.{countBlocks}
-use Rattle.block.specs.declared.walk.Counted.{Counted}
-use Rattle.block.specs.declared.walk.Counted.the-variants as counted
 use Rattle.store.specs.State.{State, Outcome, IsAccepted, returned, usageNumber}
 use Rattle.store.specs.Calls.{setUp, allocate, free, copy, tally, located}
 use Rattle.store.specs.laws.Refusals.{demand-iff, refused-some}
 use Rattle.store.specs.Step.{Call, allocates, frees, moves, loads, stores, fills, copies, step}
-use Rattle.store.specs.laws.Tally.{tally-counts}
+use Rattle.store.specs.laws.Tally.{tally-counts, tally-balanced}
 use Rattle.store.specs.laws.SetUp.{set-up-accepted}
 use Rattle.store.specs.laws.Access.{through-iff}
 use Rattle.store.specs.laws.Load.{load-through}
@@ -31,11 +28,12 @@ use Rattle.store.specs.laws.Fill.{fill-through}
 use Rattle.store.specs.laws.Copy.{copy-through}
 use Rattle.store.specs.declared.answer.Answer.the-variants.{Accepted}
 use Rattle.store.specs.declared.answer.Refusal.the-variants.{OutOfBounds}
+use Rattle.store.specs.declared.counting.Usage.the-variants as usage
 use Rattle.history.specs.Heap.{Object, Heap, holds, inside, hear, HearsNoOther}
 use Rattle.history.specs.History.{known, admitted, Configuration, next, after, allAdmitted, begun, In, headerOf, FreeRun, EntriesApart, PointersApart, PointersLead, FreesExactly, LoadsExactly, StoresExactly, FillsExactly, CopiesExactly, LoadsBytes, EachAllocate, Holds, Demand3}
-use Rattle.history.specs.Tidiness.{MeetsNoUnsound, NeverUnsound, Tidy, StaysTidy}
-use Rattle.history.proofs.Gaps.{Block, extent, blockAt, Clear}
-use Rattle.history.proofs.Image.{counts, no-neighbours, free-zero, tail-zero}
+use Rattle.history.specs.Tidiness.{MeetsNoUnsound, NeverUnsound, Balanced, StaysBalanced, Tidy, StaysTidy}
+use Rattle.history.proofs.Gaps.{Block, extent, Layout, blocks, bodies, gaps, overheads, counts, blockAt, Clear}
+use Rattle.history.proofs.Image.{counted-as, no-neighbours, free-zero, tail-zero}
 use Rattle.history.proofs.Heap.{find, find-in, find-place, in-find, places-apart, two-places, known-owner}
 use Rattle.history.proofs.Table.{entries-differ}
 use Rattle.history.proofs.Invariant.{Invariant, object-of, ranged, exponent-is, opens, Leads, leads, accesses, begins-with}
@@ -240,17 +238,22 @@ module _ {s L : ℕ} (x : Configuration) (i : Invariant s L (x .state) (x .heap)
         no-space = has-none;
       }
 
-  -- the tally meets no unsound header either
-  tally-never : (c : Counted) → countBlocks (x .state .image) ≡ c → usageNumber (tally (x .state)) ≡ 7 → ⊥
-  tally-never (counted.Counts n b) q e = omega (arith, ap usageNumber (tally-counts (x .state) s (opens i) n b q))
-  tally-never counted.Unsound q e = counts (x .state .image) (i .laid .layout) (i .laid .placed) q
+  -- tally is accepted, and gives the layout's counts
+  tallied : let l : Layout = i .laid .layout in tally (x .state) ≡ usage.Counts (blocks l) (bodies l) (gaps l) (overheads l)
+  tallied = sym (tally-counts (x .state) s (opens i) (counts (i .laid .layout)) (counted-as (x .state .image) (i .laid .layout) (i .laid .placed)))
+
+  tally-accepted : usageNumber (tally (x .state)) ≡ 0
+  tally-accepted = ap usageNumber tallied
 
   pub meets-no-unsound : MeetsNoUnsound (x .state)
   meets-no-unsound =
       record {
         allocates = never 7 (λ z. omega arith) (λ z. omega arith) (λ z. omega arith);
-        tallies = tally-never (countBlocks (x .state .image)) refl;
+        tallies = λ e. omega (arith, tally-accepted);
       }
+
+  pub balanced : Balanced (x .state)
+  balanced = record { tallies = tally-accepted; sum = tally-balanced (x .state) tally-accepted }
 
   pub tidy : Tidy (x .state .image)
   tidy =
@@ -269,6 +272,10 @@ demand3 s x e calls a = holds-all (after calls (begun s x)) (keeps calls (begun 
 pub never-unsound : NeverUnsound
 unfolding NeverUnsound
 never-unsound s x e calls a = meets-no-unsound (after calls (begun s x)) (keeps calls (begun s x) (begins s x e) a)
+
+pub stays-balanced : StaysBalanced
+unfolding StaysBalanced
+stays-balanced s x e calls a = balanced (after calls (begun s x)) (keeps calls (begun s x) (begins s x e) a)
 
 pub stays-tidy : StaysTidy
 unfolding StaysTidy

@@ -9,9 +9,10 @@ use Rattle.frame.specs.Pointers.{unpack, pack, goodTag, reach, landed, moved}
 use Rattle.frame.specs.Tags.{wrapper, tagNumber, pointerTo, tagMatches, usedEntries, entryAt}
 use Rattle.block.specs.Bytes.{encode, decode, field, put}
 use Rattle.block.specs.Layout.{superblock, superblockGood, header, headerAt, wellFormed, sound}
-use Rattle.block.specs.Walk.{walkIn, walkFrom, walk, fitOf, firstFit, metOf, walkTo}
+use Rattle.block.specs.Walk.{walkIn, walkFrom, walk, fitOf, firstFit, metOf, walkTo, countOf, countBlocks}
 use Rattle.store.specs.State.{state}
-use Rattle.store.specs.Calls.{setUpChecks, fresh, setUp, opening, entryFree, fitAnswer, allocateChecks, carved, noted, allocate, headerPlace, verified, leadsBack, located, inBody, accessed, movedAnswer, moveAnswer, move, loadAnswer, load, storeChecks, store, fillChecks, fill, copyChecks, copy, mergeEnd, mergeStart, released, freeChecks, releasedAt, freeRelease, merged, freed, free}
+use Rattle.store.specs.Calls.{setUpChecks, fresh, setUp, opening, entryFree, fitAnswer, allocateChecks, carved, noted, allocate, headerPlace, verified, leadsBack, located, inBody, accessed, movedAnswer, moveAnswer, move, loadAnswer, load, storeChecks, store, fillChecks, fill, copyChecks, copy, mergeEnd, mergeStart, released, freeChecks, releasedAt, freeRelease, merged, freed, free, tallyOpened, tallyCounted, tally}
+use Rattle.store.specs.declared.counting.Usage.the-variants as usage
 use Rattle.store.specs.Step.{Call, allocates, frees, moves, loads, stores, fills, copies}
 use Rattle.history.specs.Heap.{member, ownerOf, inside, change, without, write, copied, hear}
 use Rattle.history.specs.History.{Configuration, begun, after, allAdmitted, known}
@@ -40,8 +41,10 @@ calls =
     ∷ frees 0x8010000000000020
     ∷ []
 
--- each of them is admitted; the abstract heap is left with the second object, which holds the number and the last byte that was copied to it
+-- each of them is admitted; the abstract heap is left with the second object, which holds the number and the last byte that was copied to it; tally counts
+-- that object, the two gaps around it, and its header
 pub admitted-calls : (allAdmitted calls fresh6 ≡ true)
     × (after calls fresh6 .heap ≡ record { answer = 0x802A00000000003A; size = 4; pointers = 0x802A00000000003A ∷ []; bytes = 5 ∷ 6 ∷ 7 ∷ 4 ∷ [] } ∷ [])
-unfolding frameNumber frameNumberIn unpack pack goodTag reach landed moved wrapper tagNumber pointerTo tagMatches usedEntries entryAt encode decode field put superblock superblockGood header headerAt wellFormed sound walkIn walkFrom walk fitOf firstFit metOf walkTo setUpChecks fresh setUp opening entryFree fitAnswer allocateChecks carved noted allocate headerPlace verified leadsBack located inBody accessed movedAnswer moveAnswer move loadAnswer load storeChecks store fillChecks fill copyChecks copy mergeEnd mergeStart released freeChecks releasedAt freeRelease merged freed free member ownerOf inside change without write copied hear after allAdmitted known
-admitted-calls = (refl, refl)
+    × (tally (after calls fresh6 .state) ≡ usage.Counts 1 4 92 16)
+unfolding frameNumber frameNumberIn unpack pack goodTag reach landed moved wrapper tagNumber pointerTo tagMatches usedEntries entryAt encode decode field put superblock superblockGood header headerAt wellFormed sound walkIn walkFrom walk fitOf firstFit metOf walkTo setUpChecks fresh setUp opening entryFree fitAnswer allocateChecks carved noted allocate headerPlace verified leadsBack located inBody accessed movedAnswer moveAnswer move loadAnswer load storeChecks store fillChecks fill copyChecks copy mergeEnd mergeStart released freeChecks releasedAt freeRelease merged freed free member ownerOf inside change without write copied hear after allAdmitted known countOf countBlocks tallyOpened tallyCounted tally
+admitted-calls = (refl, refl, refl)

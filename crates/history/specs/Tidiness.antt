@@ -1,12 +1,12 @@
--- Further claims about what every history begun by set-up leaves: no unsound header, and a tidy image. Assumes nothing.
-use Prim.Native.Nat.{ℕ, _+_, _≤_, _<_}
+-- Further claims about what every history begun by set-up leaves: no unsound header, a balanced tally, and a tidy image. Assumes nothing.
+use Prim.Native.Nat.{ℕ, _+_, _-_, _≤_, _<_}
 use mathlib.Core.Path.{_≡_}
 use mathlib.Core.Bool.{true, false}
 use mathlib.Core.List.{List}
 use lib.ListN.{length, getD}
 use Rattle.block.specs.Layout.{extentAt, sizeAt, isFree, isLive}
 use Rattle.block.specs.Walk.{OnWalk}
-use Rattle.store.specs.State.{State, usageNumber}
+use Rattle.store.specs.State.{State, usageNumber, liveBytes, freeBytes, overheadBytes}
 use Rattle.store.specs.Calls.{tally}
 use Rattle.history.specs.History.{EachAllocate, AfterEveryHistory}
 
@@ -18,6 +18,15 @@ pub record MeetsNoUnsound (x : State) : Type 0 where
 -- On these histories 7 never comes from allocate or tally.
 unfoldable pub NeverUnsound : Type 0
 NeverUnsound = AfterEveryHistory (λ s x. MeetsNoUnsound (x .state))
+
+-- tally is accepted, and its live, free and overhead bytes are all bytes behind the superblock
+pub record Balanced (x : State) : Type 0 where
+  pub tallies : usageNumber (tally x) ≡ 0
+  pub sum : liveBytes (tally x) + freeBytes (tally x) + overheadBytes (tally x) ≡ length (x .image) - 16
+
+-- These histories leave it so.
+unfoldable pub StaysBalanced : Type 0
+StaysBalanced = AfterEveryHistory (λ s x. Balanced (x .state))
 
 -- no two free blocks are neighbours; the body of a free block, and what lies behind the body of a live one, is zero
 pub record Tidy (image : List ℕ) : Type 0 where

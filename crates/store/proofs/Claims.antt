@@ -18,7 +18,7 @@ use Rattle.block.specs.laws.Writes.{length-put, field-put}
 use Rattle.block.specs.Layout.{slotExponent, sizeAt, extentAt}
 use Rattle.block.specs.laws.Soundness.{sound-low, sound-end, sound-live-at}
 use Rattle.block.specs.declared.header.Header.{Header}
-use Rattle.store.specs.State.{State, state, Outcome, IsAccepted, returned, value, usageNumber, liveObjects, liveBytes, freeBytes}
+use Rattle.store.specs.State.{State, state, Outcome, IsAccepted, returned, value, usageNumber, liveObjects, liveBytes, freeBytes, overheadBytes}
 use Rattle.store.specs.Calls.{setUpChecks, setUp, fresh, cleared, allocateChecks, allocate, carved, noted, freeRelease, free, move, moveAnswer, load, loadAnswer, storeChecks, store, fillChecks, fill, copyChecks, copy, tally}
 use Rattle.store.specs.laws.Refusals.{refused-some}
 use Rattle.store.specs.laws.SetUp.{Settable, settable-parts, set-up-declined, set-up-done, length-fresh}
@@ -31,10 +31,11 @@ use Rattle.store.specs.laws.Store.{Stores, store-parts, store-declined, 
 use Rattle.store.specs.laws.Fill.{fill-parts, fill-declined, fill-done}
 use Rattle.store.specs.laws.Copy.{Copies, copy-parts, copy-declined, copy-done}
 use Rattle.store.specs.Step.{Call, allocates, frees, moves, loads, stores, fills, copies, step}
-use Rattle.store.specs.Claims.{RefusalsKeep, KeepsShape, ShapesKept, PointsBack, LeadsBack, ReadsBack}
+use Rattle.store.specs.Claims.{RefusalsKeep, KeepsShape, ShapesKept, PointsBack, LeadsBack, ReadsBack, CountsAll}
 use Rattle.store.specs.laws.Load.{load-given, load-leaves}
 use Rattle.store.specs.laws.Move.{move-leaves}
 use Rattle.store.specs.laws.Entries.{length-noted, noted-beyond, noted-entry}
+use Rattle.store.specs.laws.Tally.{tally-balanced}
 use Rattle.store.specs.declared.answer.Answer.{Answer}
 use Rattle.store.specs.declared.answer.Answer.the-variants.{Accepted, Refused}
 use Rattle.store.specs.declared.release.Release.{Release}
@@ -192,9 +193,9 @@ ended-shape s x r (refused e f) = subst (KeepsShape s x) (sym e) (kept s x)
 ended-shape s x r (accepted a k) = k
 
 -- a refused tally gives no values
-usage-refused : (u : Usage) → (usageNumber u ≡ 0 → ⊥) → (liveObjects u ≡ 0) × (liveBytes u ≡ 0) × (freeBytes u ≡ 0)
-usage-refused (usage.Counts objects live free) n = absurd (n refl)
-usage-refused (usage.Refused r) n = (refl, refl, refl)
+usage-refused : (u : Usage) → (usageNumber u ≡ 0 → ⊥) → (liveObjects u ≡ 0) × (liveBytes u ≡ 0) × (freeBytes u ≡ 0) × (overheadBytes u ≡ 0)
+usage-refused (usage.Counts objects live free overhead) n = absurd (n refl)
+usage-refused (usage.Refused r) n = (refl, refl, refl, refl)
 
 -- The claims.
 
@@ -302,3 +303,8 @@ reads-back p width v x e = go (storeChecks p width v x) refl
         in
         subst (λ (o : Outcome). Gives p width v (o .after)) (store-done p width v x a q)
         (subst (λ (o : Outcome). IsAccepted o × (value (o .answer) ≡ v)) (sym read) (refl, refl))
+
+-- the balance of tally
+pub counts-all : CountsAll
+unfolding CountsAll
+counts-all = tally-balanced

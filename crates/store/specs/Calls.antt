@@ -248,7 +248,8 @@ freed (release.Refused r) x = refuse r x
 unfoldable pub free : ℕ → State → Outcome
 free word x = freed (freeRelease word x) x
 
--- Tally, the memory in use: 7; live objects, live bytes (the sum of their raw sizes) and free bytes (all others behind the superblock).
+-- Tally, the memory in use: 7; live objects, live bytes (the sum of their raw sizes), free bytes (the sum of the extents of free blocks) and overhead
+-- bytes (16 for each live header, and each live extent's bytes beyond header and size).
 
 -- what follows where 4 and 5 are passed
 unfoldable pub tallyOpened : Answer → Usage → Usage
@@ -256,10 +257,10 @@ tallyOpened (Accepted s) next = next
 tallyOpened (Refused r) next = usage.Refused r
 
 -- 7: what a count of the blocks comes to
-unfoldable pub tallyCounted : Counted → ℕ → Usage
-tallyCounted (counted.Counts objects live) L = usage.Counts objects live (L - 16 - live)
-tallyCounted counted.Unsound L = usage.Refused Unsound
+unfoldable pub tallyCounted : Counted → Usage
+tallyCounted (counted.Counts c) = usage.Counts (c .objects) (c .live) (c .free) (c .overhead)
+tallyCounted counted.Unsound = usage.Refused Unsound
 
 -- its answer
 unfoldable pub tally : State → Usage
-tally x = tallyOpened (opening x) (tallyCounted (countBlocks (x .image)) (length (x .image)))
+tally x = tallyOpened (opening x) (tallyCounted (countBlocks (x .image)))

@@ -4,17 +4,18 @@ use Prim.Native.Nat.{ℕ, _-_, _^_}
 use mathlib.Core.Bool.{Bool, true, false, cond, not, _&&_}
 use mathlib.Core.List.{List, [], _∷_}
 use lib.Dec.{T, eqb}
-use lib.ListN.{replicate, getD}
+use lib.ListN.{replicate, getD, set}
 use lib.IntN.{ℤ, pos, negsuc}
 use Rattle.frame.specs.Frame.{frameNumber, frameNumberIn}
 use Rattle.frame.specs.Pointers.{unpack, pack, goodTag, reach, landed, moved}
 use Rattle.frame.specs.Tags.{lastHeld, wrapper, isSmall, tagNumber, pointerTo, tagMatches, usedEntries, entryAt, entryOf}
 use Rattle.block.specs.Bytes.{encode, decode, field, put}
 use Rattle.block.specs.Layout.{superblock, superblockGood, header, headerAt, wellFormed, sound, isFree, extentAt}
-use Rattle.block.specs.Walk.{walkIn, walkFrom, walk, fitOf, firstFit}
-use Rattle.store.specs.State.{State, state, Outcome, returned, value}
-use Rattle.store.specs.Calls.{setUpChecks, fresh, setUp, opening, entryFree, fitAnswer, allocateChecks, carved, noted, allocate, headerPlace, verified, leadsBack, located, inBody, accessed, movedAnswer, moveAnswer, move, loadAnswer, load, storeChecks, store}
+use Rattle.block.specs.Walk.{walkIn, walkFrom, walk, fitOf, firstFit, countOf, countBlocks}
+use Rattle.store.specs.State.{State, state, Outcome, returned, value, usageNumber, liveObjects, liveBytes, freeBytes, overheadBytes}
+use Rattle.store.specs.Calls.{setUpChecks, fresh, setUp, opening, entryFree, fitAnswer, allocateChecks, carved, noted, allocate, headerPlace, verified, leadsBack, located, inBody, accessed, movedAnswer, moveAnswer, move, loadAnswer, load, storeChecks, store, tallyOpened, tallyCounted, tally}
 use Rattle.store.specs.declared.answer.Answer.{Answer}
+use Rattle.store.specs.declared.counting.Usage.{Usage}
 
 -- A case: what it starts from, and what the documents say of it. An image of L bytes is set up, and the sizes `before` are allocated.
 pub data Case : Type 0 where
@@ -34,6 +35,10 @@ pub data Case : Type 0 where
   moves : (L : ℕ) (before : List ℕ) (pointer : ℕ) (distance : ℤ) (number value : ℕ) → Case
   -- W1: a store, then a load of that width through the same pointer: the returned number of each, and the loaded value
   accesses : (L : ℕ) (before : List ℕ) (pointer width v stored loaded value : ℕ) → Case
+  -- W3: what tally counts
+  tallies : (L : ℕ) (before : List ℕ) (objects live free overhead : ℕ) → Case
+  -- W3: with another byte at that place tally is refused by 7, and gives zeros
+  damages : (L : ℕ) (before : List ℕ) (at byte : ℕ) → Case
 
 -- a store set up on an image and table that were full of other bytes
 abbrev begun : ℕ → State
@@ -50,6 +55,12 @@ further L before size = allocate size 0 (placed before (begun L))
 -- the header place of the object that it gives
 abbrev given : Outcome → ℕ
 given o = unpack (value (o .answer)) .address - 16
+
+-- tally returns that number and these counts
+abbrev gives : Usage → ℕ → ℕ → ℕ → ℕ → ℕ → Bool
+gives u number objects live free overhead =
+    eqb (usageNumber u) number
+    && (eqb (liveObjects u) objects && (eqb (liveBytes u) live && (eqb (freeBytes u) free && eqb (overheadBytes u) overhead)))
 
 abbrev same : Bool → Bool → Bool
 same a b = cond a b (not b)
@@ -76,6 +87,10 @@ holds (accesses L before pointer width v stored loaded n) =
     let o : Outcome = store pointer width v (placed before (begun L)) in
     let a : Answer = load pointer width (o .after) .answer in
     eqb (returned (o .answer)) stored && (eqb (returned a) loaded && eqb (value a) n)
+holds (tallies L before objects live free overhead) = gives (tally (placed before (begun L))) 0 objects live free overhead
+holds (damages L before at byte) =
+    let x : State = placed before (begun L) in
+    gives (tally (state (set (x .image) at byte) (x .table))) 7 0 0 0 0
 
 abbrev pub all : List Case → Bool
 all [] = true
@@ -108,8 +123,16 @@ cases =
     ∷ accesses 1024 (10 ∷ []) 0x8010000000000020 9 0 14 14 0
     ∷ accesses 1024 (10 ∷ []) 0x8010000000000020 (2 ^ 32) 0 14 14 0
     ∷ accesses 1024 (10 ∷ []) 0x8010000000000020 (2 ^ 64 - 1) 0 14 14 0
+    ∷ tallies 1024 [] 0 0 1008 0
+    ∷ tallies 1024 (10 ∷ 20 ∷ 32 ∷ 1 ∷ []) 4 63 881 64
+    ∷ tallies 64 (16 ∷ []) 1 16 16 16
+    ∷ tallies 64 (17 ∷ []) 1 17 0 31
+    ∷ tallies 64 (32 ∷ []) 1 32 0 16
+    ∷ damages 64 (17 ∷ []) 16 49
+    ∷ damages 64 (17 ∷ []) 20 9
+    ∷ damages 64 (17 ∷ []) 24 16
     ∷ []
 
 pub worked : T (all cases)
-unfolding frameNumber frameNumberIn unpack pack goodTag reach landed moved wrapper tagNumber pointerTo tagMatches usedEntries entryAt encode decode field put superblock superblockGood header headerAt wellFormed sound walkIn walkFrom walk fitOf firstFit setUpChecks fresh setUp opening entryFree fitAnswer allocateChecks carved noted allocate headerPlace verified leadsBack located inBody accessed movedAnswer moveAnswer move loadAnswer load storeChecks store
+unfolding frameNumber frameNumberIn unpack pack goodTag reach landed moved wrapper tagNumber pointerTo tagMatches usedEntries entryAt encode decode field put superblock superblockGood header headerAt wellFormed sound walkIn walkFrom walk fitOf firstFit setUpChecks fresh setUp opening entryFree fitAnswer allocateChecks carved noted allocate headerPlace verified leadsBack located inBody accessed movedAnswer moveAnswer move loadAnswer load storeChecks store countOf countBlocks tallyOpened tallyCounted tally
 worked = tt

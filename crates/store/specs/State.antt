@@ -41,23 +41,28 @@ value (Refused r) = 0
 
 -- the number that tally returns: 0 where it is accepted
 abbrev pub usageNumber : Usage → ℕ
-usageNumber (usage.Counts objects live free) = 0
+usageNumber (usage.Counts objects live free overhead) = 0
 usageNumber (usage.Refused r) = refusalNumber r
 
 -- the live objects that it gives: 0 where it is refused
 abbrev pub liveObjects : Usage → ℕ
-liveObjects (usage.Counts objects live free) = objects
+liveObjects (usage.Counts objects live free overhead) = objects
 liveObjects (usage.Refused r) = 0
 
 -- the live bytes that it gives: 0 where it is refused
 abbrev pub liveBytes : Usage → ℕ
-liveBytes (usage.Counts objects live free) = live
+liveBytes (usage.Counts objects live free overhead) = live
 liveBytes (usage.Refused r) = 0
 
 -- the free bytes that it gives: 0 where it is refused
 abbrev pub freeBytes : Usage → ℕ
-freeBytes (usage.Counts objects live free) = free
+freeBytes (usage.Counts objects live free overhead) = free
 freeBytes (usage.Refused r) = 0
+
+-- the overhead bytes that it gives: 0 where it is refused
+abbrev pub overheadBytes : Usage → ℕ
+overheadBytes (usage.Counts objects live free overhead) = overhead
+overheadBytes (usage.Refused r) = 0
 
 -- An image with its frame table.
 pub record State : Type 0 where

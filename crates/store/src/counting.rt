@@ -8,13 +8,13 @@ use crate::opening::opening;
 use block::walk::Counted;
 use block::walk::count_blocks;
 
-// Live objects, live bytes and free bytes.
+// Live objects, live bytes, free bytes and overhead bytes; or why there are none.
 pub enum Usage {
-    Counts(u64, u64, u64),
+    Counts(u64, u64, u64, u64),
     Refused(Refusal),
 }
 
-// Counts the live objects of an image.
+// Counts the blocks of an image.
 pub fn tally(image: &[u8], table: &[u64]) -> Usage
     ensures { λ r. ⌜ r ≡ tally (state (now (image .entry)) (now (table .entry))) ⌝ }
 {
@@ -22,9 +22,7 @@ pub fn tally(image: &[u8], table: &[u64]) -> Usage
         Answer::Refused(r) => Usage::Refused(r),
         Answer::Accepted(_) => match count_blocks(image) {
             Counted::Unsound => Usage::Refused(Refusal::Unsound),
-            Counted::Counts(objects, live) => {
-                Usage::Counts(objects, live, image.len() as u64 - 16 - live)
-            }
+            Counted::Counts(c) => Usage::Counts(c.objects, c.live, c.free, c.overhead),
         },
     }
 }

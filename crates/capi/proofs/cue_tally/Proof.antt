@@ -14,7 +14,7 @@ returns c = cc
 returns-2 : tie.Need-returns-2
 returns-2 c =
     let r = c .before .before in
-    ap (λ (n : ℕ). tallied n 0 0 0) (c .number .ensures) ∙ ap exportedUsage (sym (r .r .given .1) ∙ r .before .before .tally .ensures)
+    ap (λ (n : ℕ). tallied n 0 0 0 0) (c .number .ensures) ∙ ap exportedUsage (sym (r .r .given .1) ∙ r .before .before .tally .ensures)
 
 pub cue-tally-spec : {M : Type 1} → statement M
 cue-tally-spec =

@@ -1,9 +1,5 @@
 -- `store::tally` meets its contract: 4 and 5 (`opening`), then 7 (`count_blocks`); or the counts. Assumes nothing.
 use mathlib.Core.Path.{_≡_, sym, _∙_}
-use native.Mathlib.Omega.{arith}
-use Rattle.block.specs.Walk.{countBlocks}
-use Rattle.block.specs.laws.Counting.{count-bound}
-use Rattle.block.specs.declared.walk.Counted.the-variants as counted
 use Rattle.store.specs.State.{state}
 use Rattle.store.specs.Calls.{opening}
 use Rattle.store.specs.laws.Tally.{tally-shut, tally-unsound, tally-counts}
@@ -12,22 +8,15 @@ use borrow.Author.Needs.{needs}
 use Rattle.store.proofs.counting.tally.Statement.{statement}
 use Rattle.store.proofs.counting.tally.Tie as tie
 
--- The places: where rows 4 and 5 are passed, where the blocks are counted, and where all are sound.
+-- The places: where rows 4 and 5 are passed, and where the blocks are counted.
 abbrev start : tie.After-enum-told → tie.Start
 start c = c .before .before .before .before .before
 
 abbrev at-open : tie.After-count-blocks → tie.After-enum-told
 at-open c = c .before
 
-abbrev at-counted : tie.After-objects → tie.After-count-blocks
-at-counted c = c .before .before
-
 is-open : (c : tie.After-enum-told) → opening (state (start c .args .image .now) (start c .args .table .now)) ≡ Accepted (c .enum-told .given .0 .0)
 is-open c = sym (c .before .before .opening .ensures) ∙ c .enum-told .given .1
-
-counts : (c : tie.After-objects) → let g = c .objects .given .0 in
-    countBlocks (start (at-open (at-counted c)) .args .image .now) ≡ counted.Counts (g .0) (g .1 .0)
-counts c = sym (c .before .before .count-blocks .ensures) ∙ c .objects .given .1
 
 -- row 4 or 5
 returns : tie.Need-returns
@@ -39,7 +28,9 @@ returns-2 c = tally-unsound (state _ _) _ (is-open (at-open (c .before .before))
 
 -- the counts
 returns-3 : tie.Need-returns-3
-returns-3 c = tally-counts (state _ _) _ (is-open (at-open (at-counted (c .before)))) _ _ (counts (c .before))
+returns-3 c =
+    let counted = c .before .before .before in
+    tally-counts (state _ _) _ (is-open (at-open counted)) _ (sym (counted .count-blocks .ensures) ∙ c .before .c .given .1)
 
 pub tally-spec : {M : Type 1} → statement M
 tally-spec =
@@ -51,8 +42,6 @@ tally-spec =
     (λ c κs. search needs)
     (λ c. search needs)
     (λ c. search needs)
-    (λ c. omega (arith, count-bound _ _ _ (counts (c .before))))
-    (λ c. omega (arith, count-bound _ _ _ (counts (c .before))))
     returns
     returns-2
     returns-3)
