@@ -22,7 +22,7 @@ static void report(const char *call, uint32_t number)
 
 int main(void)
 {
-    uint64_t record, moved, value, objects, live, unused, overhead;
+    uint64_t record, moved, value, objects, live_bytes, free_bytes, overhead_bytes;
 
     report("set up", cue_setup(STORE, SLOT_EXPONENT));
     report("allocate 10", cue_allocate(STORE, 10, 7, &record));
@@ -53,11 +53,11 @@ int main(void)
     printf("value %" PRIu64 "\n", value);
     report("move by a slot", cue_move(STORE, record, 1 << SLOT_EXPONENT, &moved));
 
-    report("tally", cue_tally(STORE, &objects, &live, &unused, &overhead));
-    printf("objects %" PRIu64 ", live bytes %" PRIu64 ", free bytes %" PRIu64 ", overhead bytes %" PRIu64 "\n", objects, live, unused, overhead);
+    report("tally", cue_tally(STORE, &objects, &live_bytes, &free_bytes, &overhead_bytes));
+    printf("objects %" PRIu64 ", live bytes %" PRIu64 ", free bytes %" PRIu64 ", overhead bytes %" PRIu64 "\n", objects, live_bytes, free_bytes, overhead_bytes);
     report("free", cue_free(STORE, record));
     report("free again", cue_free(STORE, record));
-    report("tally", cue_tally(STORE, &objects, &live, &unused, &overhead));
-    printf("objects %" PRIu64 ", live bytes %" PRIu64 ", free bytes %" PRIu64 ", overhead bytes %" PRIu64 "\n", objects, live, unused, overhead);
+    report("tally", cue_tally(STORE, &objects, &live_bytes, &free_bytes, &overhead_bytes));
+    printf("objects %" PRIu64 ", live bytes %" PRIu64 ", free bytes %" PRIu64 ", overhead bytes %" PRIu64 "\n", objects, live_bytes, free_bytes, overhead_bytes);
     return 0;
 }

@@ -68,7 +68,7 @@ pub struct Buffers {
     pub lent_image: usize,
     pub lent_table: usize,
     pub content: u64,
-    /// A history begun by set-up, on which 9 never occurs.
+    /// A history begun by set-up, on which 9 never occurs and tally is accepted.
     pub history: bool,
 }
 
@@ -150,6 +150,8 @@ pub struct Run<'a, A, B> {
     lent_image: usize,
     lent_table: usize,
     history: bool,
+    /// The history has begun: its set-up was accepted, and not taken out of the list.
+    begun: bool,
     answers: Answers,
 }
 
@@ -168,6 +170,7 @@ impl<'a, A: Store, B: Store> Run<'a, A, B> {
             lent_image: buffers.lent_image,
             lent_table: buffers.lent_table,
             history: buffers.history,
+            begun: false,
             answers: Answers { slot_exponent: 6, pointers: HashMap::new() },
         }
     }
@@ -256,11 +259,11 @@ impl<'a, A: Store, B: Store> Run<'a, A, B> {
         } else if self.before.0 != e.image || self.before.1 != e.table {
             return Err(Mismatch::ReadOrRefusalWrote);
         }
-        if self.history && expected.refusal == 9 {
+        if self.begun && expected.refusal == 9 {
             return Err(Mismatch::EntryTakenInHistory);
         }
         if call == Call::Tally {
-            if self.history && !expected.accepted() {
+            if self.begun && !expected.accepted() {
                 return Err(Mismatch::TallyRefusedInHistory);
             }
             let [_, live, free, overhead] = expected.values;
@@ -271,6 +274,7 @@ impl<'a, A: Store, B: Store> Run<'a, A, B> {
         if expected.accepted() {
             if let Call::SetUp { slot_exponent } = call {
                 self.answers.slot_exponent = slot_exponent;
+                self.begun = self.history;
             }
             if matches!(call, Call::Allocate { .. } | Call::Move { .. }) {
                 self.answers.pointers.insert(number, expected.values[0]);

@@ -2,6 +2,7 @@
 
 use crate::case::Case;
 use crate::store::Store;
+use std::mem::discriminant;
 
 /// Above this length only single steps are tried at the end, not pairs.
 const PAIRS_UP_TO: usize = 40;
@@ -9,11 +10,12 @@ const PAIRS_UP_TO: usize = 40;
 /// A list from which no step, and of a short one no two steps, can be taken out without the failure going away.
 /// `case` fails.
 pub fn shrink(mut case: Case, expected: &impl Store, tested: &impl Store) -> Case {
-    // what is left up to the step that fails, if one still does
+    let Err((_, failure)) = case.run(expected, tested) else { return case };
+    // what is left up to the step that fails, if one still does, and in the same way
     let still_fails = |mut case: Case| {
-        let (at, _) = case.run(expected, tested).err()?;
+        let (at, mismatch) = case.run(expected, tested).err()?;
         case.steps.truncate(at + 1);
-        Some(case)
+        (discriminant(&mismatch) == discriminant(&failure)).then_some(case)
     };
     if let Some(cut) = still_fails(case.clone()) {
         case = cut;

@@ -4,6 +4,7 @@ use cueledger_tests::case::Mismatch;
 use cueledger_tests::driver::{compare, Failure};
 use cueledger_tests::model::{self, Pointer};
 use cueledger_tests::store::{Answer, Call, Model, Store, ROWS};
+use std::mem::discriminant;
 
 /// The most steps of a shortened list, where their number depends on the random calls; before, it has up to 400.
 const SHORT: usize = 6;
@@ -36,12 +37,13 @@ fn header_place(image: &[u8], table: &[u64], pointer: u64) -> u64 {
 
 fn find(fault: Behaviour) -> Box<Failure> {
     let failure = compare(&Model, &Faulty(fault), 1_000_000, 1).expect_err("the fault was not found");
-    let (at, _) = failure.case.run(&Model, &Faulty(fault)).unwrap_err();
+    let (at, mismatch) = failure.case.run(&Model, &Faulty(fault)).unwrap_err();
     assert_eq!(at + 1, failure.case.steps.len(), "the last step is the one that fails");
     for i in 0..failure.case.steps.len() {
         let mut shorter = failure.case.clone();
         shorter.steps.remove(i);
-        assert!(shorter.run(&Model, &Faulty(fault)).is_ok(), "step {i} is not needed:\n{failure}");
+        let same = shorter.run(&Model, &Faulty(fault)).is_err_and(|(_, other)| discriminant(&other) == discriminant(&mismatch));
+        assert!(!same, "step {i} is not needed:\n{failure}");
     }
     println!("{failure}");
     failure
@@ -359,6 +361,8 @@ fn expected_store_that_counts_a_byte_twice() {
         (Call::Tally, Answer { refusal: 0, values: [objects, live, free, overhead] }) => Answer::new(0, [objects, live, free, overhead + objects]),
         (_, answer) => answer,
     });
+    // set-up, an object, tally
+    assert_eq!(failure.case.steps.len(), 3, "{failure}");
     assert!(failure.text.contains(&Mismatch::Unbalanced.to_string()), "{failure}");
 }
 
@@ -368,6 +372,8 @@ fn expected_store_that_refuses_a_tally() {
         (Call::Tally, Answer { refusal: 0, values: [3, ..] }) => Answer::new(7, []),
         (_, answer) => answer,
     });
+    // set-up, three objects, tally
+    assert_eq!(failure.case.steps.len(), 5, "{failure}");
     assert!(failure.text.contains(&Mismatch::TallyRefusedInHistory.to_string()), "{failure}");
 }
 

@@ -176,7 +176,7 @@ fn tallies<S: Store + Copy>(store: S) {
     assert_eq!(lent.refusal(Call::Free { pointer: freed }), 0);
     assert_eq!(lent.call(Call::Tally), Answer::new(0, [3, 43, 36 + 881, 3 * 16]));
 
-    // the last header unsound: an extent that does not reach the image's end, no kind, a size
+    // the last block ends one byte early, where no header fits; or its header is unsound: no kind, another kind, a size
     for (at, byte) in [(143, 0x70), (147, 0), (147, 3), (151, 1)] {
         let before = std::mem::replace(&mut lent.image[at], byte);
         assert_eq!(lent.call(Call::Tally), Answer::new(7, []), "byte {at} set to {byte}");

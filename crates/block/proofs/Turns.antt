@@ -1,4 +1,4 @@
--- A turn of a loop that walks: what is left of the walk, the header that was examined, and how the walk ends or goes on. Assumes nothing.
+-- A turn of a loop that walks: what is left of the walk, the header that was examined, how the walk ends or goes on, and what is counted. Assumes nothing.
 use mathlib.Core.Path.{_≡_, refl, sym, ap, _∙_, subst}
 use mathlib.Core.List.{List}
 use mathlib.Core.Bool.{true, false}
@@ -11,9 +11,9 @@ use borrow.Author.Tests.{eq-eqb, eqb-true, eqb-false}
 use Rattle.block.specs.laws.Booleans.{byBool}
 use Rattle.block.specs.Layout.{headerAt, sound}
 use Rattle.block.specs.laws.Soundness.{examined, Free, Live, sound-kinds, sound-live, sound-extent, sound-end, examined-is-sound, examined-is-unsound}
-use Rattle.block.specs.Walk.{stopped, unsound, ended, Search, walkFrom, walk, nothing, overheadOf, counting, countBlocks}
+use Rattle.block.specs.Walk.{stopped, unsound, ended, Search, walkFrom, walk, noCounts, counting, countBlocks}
 use Rattle.block.specs.laws.Walks.{walk-ended, walk-unsound, walk-stopped, walk-next}
-use Rattle.block.specs.laws.Counting.{passes-live, passes-free, count-is}
+use Rattle.block.specs.laws.Counting.{same-counts, passes-live, passes-free, count-is}
 use Rattle.block.specs.declared.header.Header.{Header}
 use Rattle.block.specs.declared.header.Examined.the-variants as examining
 use Rattle.block.specs.declared.walk.Counts.{Counts}
@@ -46,13 +46,13 @@ live-holds {image} {h} {d} e k =
     let l : Live d = subst Live (sym (e .is-header)) (sound-live image h (e .is-sound) (eq-eqb _ _ (ap (λ (x : Header). x .kind) (sym (e .is-header)) ∙ k))) in
     l .holds
 
--- another block has no size
+-- a block that is not live has size 0
 pub free-empty : {image : List ℕ} {h : ℕ} {d : Header} → Seen image h d → (d .kind ≡ 2 → ⊥) → d .size ≡ 0
 free-empty {image} {h} {d} e k =
     ⊎-elim (λ (f : Free d). f .no-size) (λ (l : Live d). absurd (k (l .is-kind)))
     (subst (λ (x : Header). Free x ⊎ Live x) (sym (e .is-header)) (sound-kinds image h (e .is-sound)))
 
--- no size is beyond its block
+-- a size is at most its block's extent
 pub size-inside : {image : List ℕ} {h : ℕ} {d : Header} → Seen image h d → d .size ≤ d .extent
 size-inside {image} {h} {d} e =
     byBool (eqb (d .kind) 2)
@@ -82,51 +82,39 @@ module _ {A : Type 0} {s : Search A} {image : List ℕ} {first a : A} {h : ℕ} 
         record { rest = ap (λ (x : Header). walkFrom s image (s .passes a h x) (h + x .extent)) (e .is-header) ∙ sym step ∙ w .rest }
 
 -- the counts up to h: what is neither live nor free is overhead
-abbrev upTo : ℕ → ℕ → ℕ → ℕ → Counts
-upTo h objects live free = record { objects = objects; live = live; free = free; overhead = h - (16 + live + free) }
+abbrev countsUpTo : ℕ → ℕ → ℕ → ℕ → Counts
+countsUpTo h objects live free = record { objects = objects; live = live; free = free; overhead = h - (16 + live + free) }
 
 -- the invariant of the count: the blocks up to h are counted, and live headers, live bytes and free bytes fit below h
 pub record Counting (image : List ℕ) (h objects live free : ℕ) : Type 0 where
-  pub rest : Walking counting image nothing (upTo h objects live free) h
+  pub rest : Walking counting image noCounts (countsUpTo h objects live free) h
   pub below : 16 + 16 * objects + live + free ≤ h
 
+-- at 16 no block is counted yet
 pub counts-none : (image : List ℕ) → Counting image 16 0 0 0
-counts-none image = record { rest = begins counting image nothing; below = omega arith }
+counts-none image = record { rest = begins counting image noCounts; below = omega arith }
 
 module _ {image : List ℕ} {h objects live free : ℕ} (w : Counting image h objects live free) where
   -- all blocks are counted
   pub counts-all : h ≡ length image
       → counted.Counts (record { objects = objects; live = live; free = free; overhead = length image - 16 - live - free }) ≡ countBlocks image
   counts-all e =
-      let rest : length image - 16 - live - free ≡ h - (16 + live + free) = omega arith in
-      ap (λ (n : ℕ). counted.Counts (record { objects = objects; live = live; free = free; overhead = n })) rest
-      ∙ sym (count-is image (upTo h objects live free) (sym (at-end (w .rest) e)))
+      ap counted.Counts (same-counts refl refl refl (omega arith)) ∙ sym (count-is image (countsUpTo h objects live free) (sym (at-end (w .rest) e)))
 
-  -- one more, live or free
   module _ {d : Header} (e : Seen image h d) where
+    -- a block more, whose counts are o, n and f
+    counts-more : {o n f : ℕ} → counting .passes (countsUpTo h objects live free) h d ≡ countsUpTo (h + d .extent) o n f → 16 + 16 * o + n + f ≤ h + d .extent
+        → Counting image (h + d .extent) o n f
+    counts-more q l = record { rest = subst (λ (x : Counts). Walking counting image noCounts x (h + d .extent)) q (goes-on (w .rest) e refl); below = l }
+
+    -- a live one
     pub counts-live : d .kind ≡ 2 → Counting image (h + d .extent) (objects + 1) (live + d .size) free
     counts-live k =
         let holds : 16 + d .size ≤ d .extent = live-holds e k in
-        let rest : h - (16 + live + free) + overheadOf d ≡ h + d .extent - (16 + (live + d .size) + free) = omega (arith, w .below) in
-        record {
-          rest =
-              subst (λ (x : Counts). Walking counting image nothing x (h + d .extent))
-              (passes-live (upTo h objects live free) h d k
-              ∙ ap (λ (n : ℕ). record { objects = objects + 1; live = live + d .size; free = free; overhead = n }) rest)
-              (goes-on (w .rest) e refl);
-          below = omega (arith, w .below);
-        }
+        counts-more (passes-live _ h d k ∙ same-counts refl refl refl (omega (arith, w .below))) (omega (arith, w .below))
 
+    -- a free one
     pub counts-free : (d .kind ≡ 2 → ⊥) → Counting image (h + d .extent) objects (live + d .size) (free + d .extent)
     counts-free k =
-        let none : live + d .size ≡ live = omega (arith, free-empty e k) in
-        let rest : h - (16 + live + free) ≡ h + d .extent - (16 + live + (free + d .extent)) = omega (arith, w .below) in
-        rw none (
-        record {
-          rest =
-              subst (λ (x : Counts). Walking counting image nothing x (h + d .extent))
-              (passes-free (upTo h objects live free) h d k
-              ∙ ap (λ (n : ℕ). record { objects = objects; live = live; free = free + d .extent; overhead = n }) rest)
-              (goes-on (w .rest) e refl);
-          below = omega (arith, w .below);
-        })
+        let none : d .size ≡ 0 = free-empty e k in
+        counts-more (passes-free _ h d k ∙ same-counts refl (omega arith) refl (omega (arith, w .below))) (omega (arith, w .below, e .long))

@@ -1,4 +1,4 @@
--- The walk over the blocks of an image, from 16 on, from block to block by their extents: document 01, "Calls". Assumes nothing.
+-- The walk over the blocks of an image, from 16 on, from block to block by their extents: document 01, "Calls"; the counts: document 02, W3. Assumes nothing.
 use Prim.Native.Nat.{ℕ, zero, suc, _+_, _-_, _≤_, _<_}
 use mathlib.Core.Path.{_≡_}
 use mathlib.Core.Bool.{Bool, true, false, cond, _&&_}
@@ -78,8 +78,8 @@ unfoldable pub walkTo : List ℕ → ℕ → Met
 walkTo image target = metOf target (walk (reaching target) image 0)
 
 -- no block is counted yet
-abbrev pub nothing : Counts
-nothing = record { objects = 0; live = 0; free = 0; overhead = 0 }
+abbrev pub noCounts : Counts
+noCounts = record { objects = 0; live = 0; free = 0; overhead = 0 }
 
 -- the overhead bytes of a live block: 16 for its header, and its extent's bytes beyond header and size
 abbrev pub overheadOf : Header → ℕ
@@ -105,7 +105,7 @@ countOf (ended a) = counted.Counts a
 
 -- the counts of an image's blocks, or that a header is unsound
 unfoldable pub countBlocks : List ℕ → Counted
-countBlocks image = countOf (walk counting image nothing)
+countBlocks image = countOf (walk counting image noCounts)
 
 -- a place that the walk comes to
 pub data OnWalk (image : List ℕ) : ℕ → Type 0 where

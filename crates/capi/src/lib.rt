@@ -135,11 +135,11 @@ pub extern "C" fn cue_tally(
     *free = 0;
     *overhead = 0;
     match store::tally(image, table) {
-        Usage::Counts(n, used, unused, extra) => {
-            *objects = n;
-            *live = used;
-            *free = unused;
-            *overhead = extra;
+        Usage::Counts(o, l, f, v) => {
+            *objects = o;
+            *live = l;
+            *free = f;
+            *overhead = v;
             0
         }
         Usage::Refused(r) => r.number(),

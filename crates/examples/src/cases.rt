@@ -157,7 +157,7 @@ fn first(run: Run, size: u32, number: u32, value: u64) -> Run {
         .make(Call::Allocate(size), BYTES, number, value)
 }
 
-// The last size that is small-framed, and the last that fits.
+// The last size that is small-framed, and the last that fits; tally on 64 bytes, once with spare ones.
 pub fn fresh(run: Run) -> Run {
     heading(b"Cases: allocate from a fresh image");
     let run = first(run, 31, 0, TEN | 32);

@@ -6,9 +6,9 @@ use native.Mathlib.Omega.{arith}
 use native.Mathlib.Nat.{add-zero}
 use lib.ListN.{length}
 use Rattle.block.specs.Layout.{fields}
-use Rattle.block.specs.Walk.{ended, walkFrom, nothing, withLive, withFree, counting, countBlocks}
+use Rattle.block.specs.Walk.{ended, walkFrom, noCounts, withLive, withFree, counting, countBlocks}
 use Rattle.block.specs.laws.Walks.{walk-begins, walk-ended, walk-next}
-use Rattle.block.specs.laws.Counting.{count-is}
+use Rattle.block.specs.laws.Counting.{same-counts, count-is}
 use Rattle.block.specs.declared.header.Header.{Header}
 use Rattle.block.specs.declared.walk.Counts.{Counts}
 use Rattle.block.specs.declared.walk.Counted.the-variants as counted
@@ -20,10 +20,6 @@ use Rattle.history.proofs.Focus.{focus-whole}
 -- two counts, added up
 abbrev plus : Counts → Counts → Counts
 plus a b = record { objects = a .objects + b .objects; live = a .live + b .live; free = a .free + b .free; overhead = a .overhead + b .overhead }
-
--- they are equal number by number
-equal : {a b : Counts} → a .objects ≡ b .objects → a .live ≡ b .live → a .free ≡ b .free → a .overhead ≡ b .overhead → a ≡ b
-equal p q r s = λ i. record { objects = p i; live = q i; free = r i; overhead = s i }
 
 -- past a gap, its free block is counted, if there is one
 count-gap : (image : List ℕ) (h : ℕ) (l : Layout) (a : Counts) → Part image h l
@@ -48,18 +44,18 @@ count-from : (image : List ℕ) (h : ℕ) (l : Layout) (a : Counts) → Part ima
 count-from image h (last g) a p =
     count-gap image h (last g) a p
     ∙ walk-ended counting image (withFree a (fields g 1 0 0)) (h + g) (p .whole)
-    ∙ ap ended (equal (omega arith) (omega arith) refl (omega arith))
+    ∙ ap ended (same-counts (omega arith) (omega arith) refl (omega arith))
 count-from image h (item g b l) a p =
     let c : Counts = withLive (withFree a (fields g 1 0 0)) (fields (extent b) 2 (b .type) (length (b .body))) in
     count-gap image h (item g b l) a p
     ∙ count-block image h g b l (withFree a (fields g 1 0 0)) p
     ∙ count-from image (h + g + extent b) l c (part-next image h g b l p)
-    ∙ ap ended (equal (omega arith) (omega arith) (omega arith) (omega arith))
+    ∙ ap ended (same-counts (omega arith) (omega arith) (omega arith) (omega arith))
 
 -- a count of an image gives the counts of its layout
 pub count-layout : (image : List ℕ) (l : Layout) → Placed image l → countBlocks image ≡ counted.Counts (counts l)
 count-layout image l p =
     count-is image (counts l)
-    (sym (walk-begins counting image nothing)
-    ∙ count-from image 16 l nothing (focus-whole image l p .part)
-    ∙ ap ended (equal (omega arith) (omega arith) (omega arith) (omega arith)))
+    (sym (walk-begins counting image noCounts)
+    ∙ count-from image 16 l noCounts (focus-whole image l p .part)
+    ∙ ap ended (same-counts (omega arith) (omega arith) (omega arith) (omega arith)))

@@ -238,10 +238,11 @@ module _ {s L : ℕ} (x : Configuration) (i : Invariant s L (x .state) (x .heap)
         no-space = has-none;
       }
 
-  -- tally is accepted, and gives the layout's counts
+  -- tally gives the layout's counts
   tallied : let l : Layout = i .laid .layout in tally (x .state) ≡ usage.Counts (blocks l) (bodies l) (gaps l) (overheads l)
   tallied = sym (tally-counts (x .state) s (opens i) (counts (i .laid .layout)) (counted-as (x .state .image) (i .laid .layout) (i .laid .placed)))
 
+  -- so that it is accepted
   tally-accepted : usageNumber (tally (x .state)) ≡ 0
   tally-accepted = ap usageNumber tallied
 
@@ -252,6 +253,7 @@ module _ {s L : ℕ} (x : Configuration) (i : Invariant s L (x .state) (x .heap)
         tallies = λ e. omega (arith, tally-accepted);
       }
 
+  -- and balanced
   pub balanced : Balanced (x .state)
   balanced = record { tallies = tally-accepted; sum = tally-balanced (x .state) tally-accepted }
 

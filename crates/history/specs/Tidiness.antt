@@ -1,12 +1,12 @@
 -- Further claims about what every history begun by set-up leaves: no unsound header, a balanced tally, and a tidy image. Assumes nothing.
-use Prim.Native.Nat.{ℕ, _+_, _-_, _≤_, _<_}
+use Prim.Native.Nat.{ℕ, _+_, _≤_, _<_}
 use mathlib.Core.Path.{_≡_}
 use mathlib.Core.Bool.{true, false}
 use mathlib.Core.List.{List}
 use lib.ListN.{length, getD}
 use Rattle.block.specs.Layout.{extentAt, sizeAt, isFree, isLive}
 use Rattle.block.specs.Walk.{OnWalk}
-use Rattle.store.specs.State.{State, usageNumber, liveBytes, freeBytes, overheadBytes}
+use Rattle.store.specs.State.{State, usageNumber, Balances}
 use Rattle.store.specs.Calls.{tally}
 use Rattle.history.specs.History.{EachAllocate, AfterEveryHistory}
 
@@ -22,7 +22,7 @@ NeverUnsound = AfterEveryHistory (λ s x. MeetsNoUnsound (x .state))
 -- tally is accepted, and its live, free and overhead bytes are all bytes behind the superblock
 pub record Balanced (x : State) : Type 0 where
   pub tallies : usageNumber (tally x) ≡ 0
-  pub sum : liveBytes (tally x) + freeBytes (tally x) + overheadBytes (tally x) ≡ length (x .image) - 16
+  pub sum : Balances (length (x .image)) (tally x)
 
 -- These histories leave it so.
 unfoldable pub StaysBalanced : Type 0

@@ -1,6 +1,6 @@
 -- What holds of single calls on every image and table, damaged ones too: demand 1, of demand 2 the pointer that allocate gives, read-back, and
 -- the balance of tally. Assumes nothing.
-use Prim.Native.Nat.{ℕ, _+_, _-_, _^_, _<_}
+use Prim.Native.Nat.{ℕ, _+_, _^_, _<_}
 use mathlib.Core.Path.{_≡_}
 use mathlib.Core.Bool.{true}
 use lib.ListN.{length, drop}
@@ -9,7 +9,7 @@ use Rattle.frame.specs.Tags.{pointerTo, usedEntries}
 use Rattle.block.specs.Layout.{slotExponent, sizeAt}
 use Rattle.block.specs.Walk.{firstFit}
 use Rattle.block.specs.declared.walk.Fit.the-variants as fit
-use Rattle.store.specs.State.{State, IsAccepted, value, usageNumber, liveObjects, liveBytes, freeBytes, overheadBytes}
+use Rattle.store.specs.State.{State, IsAccepted, value, usageNumber, liveObjects, liveBytes, freeBytes, overheadBytes, Balances}
 use Rattle.store.specs.Calls.{setUp, allocate, load, store, tally, leadsBack, headerPlace, located}
 use Rattle.store.specs.Step.{Call, step}
 use Rattle.store.specs.declared.answer.Answer.the-variants.{Accepted}
@@ -59,6 +59,4 @@ ReadsBack =
 
 -- An accepted tally counts every byte behind the superblock once: live, free or overhead.
 unfoldable pub CountsAll : Type 0
-CountsAll =
-    (x : State) → usageNumber (tally x) ≡ 0
-    → liveBytes (tally x) + freeBytes (tally x) + overheadBytes (tally x) ≡ length (x .image) - 16
+CountsAll = (x : State) → usageNumber (tally x) ≡ 0 → Balances (length (x .image)) (tally x)

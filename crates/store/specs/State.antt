@@ -1,5 +1,5 @@
 -- What a call is given and what it leaves: document 01, "Why a call was declined". Assumes nothing.
-use Prim.Native.Nat.{ℕ}
+use Prim.Native.Nat.{ℕ, _+_, _-_}
 use mathlib.Core.Path.{_≡_}
 use mathlib.Core.Bool.{Bool, cond}
 use mathlib.Core.List.{List}
@@ -63,6 +63,10 @@ freeBytes (usage.Refused r) = 0
 abbrev pub overheadBytes : Usage → ℕ
 overheadBytes (usage.Counts objects live free overhead) = overhead
 overheadBytes (usage.Refused r) = 0
+
+-- live, free and overhead bytes are all bytes behind the superblock of an image of L bytes
+abbrev pub Balances : ℕ → Usage → Type 0
+Balances L u = liveBytes u + freeBytes u + overheadBytes u ≡ L - 16
 
 -- An image with its frame table.
 pub record State : Type 0 where

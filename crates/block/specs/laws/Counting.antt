@@ -9,27 +9,31 @@ use borrow.Author.Tests.{eq-eqb, ne-eqb, eqb-true, eqb-false}
 use Rattle.block.specs.laws.Booleans.{byBool}
 use Rattle.block.specs.Layout.{headerAt, extentAt, isLive, sound}
 use Rattle.block.specs.laws.Soundness.{Live, sound-live}
-use Rattle.block.specs.Walk.{Walked, stopped, unsound, ended, walk, nothing, withLive, withFree, counting, countOf, countBlocks}
+use Rattle.block.specs.Walk.{Walked, stopped, unsound, ended, walk, noCounts, withLive, withFree, counting, countOf, countBlocks}
 use Rattle.block.specs.laws.Walks.{Ends, walk-carries}
 use Rattle.block.specs.declared.header.Header.{Header}
 use Rattle.block.specs.declared.walk.Counts.{Counts}
 use Rattle.block.specs.declared.walk.Counted.the-variants as counted
 
+-- counts are the same where each number is
+pub same-counts : {a b : Counts} → a .objects ≡ b .objects → a .live ≡ b .live → a .free ≡ b .free → a .overhead ≡ b .overhead → a ≡ b
+same-counts p q r s = λ i. record { objects = p i; live = q i; free = r i; overhead = s i }
+
 module _ (a : Counts) (h : ℕ) (d : Header) where
-  -- a live block is counted as one
+  -- a live block is counted as live
   pub passes-live : d .kind ≡ 2 → counting .passes a h d ≡ withLive a d
   passes-live k = simp (eq-eqb _ _ k)
 
-  -- every other as a free one
+  -- every other as free
   pub passes-free : (d .kind ≡ 2 → ⊥) → counting .passes a h d ≡ withFree a d
   passes-free k = simp (ne-eqb _ _ k)
 
--- a count whose walk ends is the answer
-pub count-is : (image : List ℕ) (a : Counts) → walk counting image nothing ≡ ended a → countBlocks image ≡ counted.Counts a
+-- the counts that the walk ends with are the answer
+pub count-is : (image : List ℕ) (a : Counts) → walk counting image noCounts ≡ ended a → countBlocks image ≡ counted.Counts a
 unfolding countBlocks countOf
 count-is image a e = ap countOf e
 
--- and there is no other
+-- and no other are
 count-ended : (w : Walked Counts) (a : Counts) → countOf w ≡ counted.Counts a → w ≡ ended a
 unfolding countOf
 count-ended (stopped b h) a e = let z : _≡_ {A = ℕ} 0 1 = cc in absurd (omega arith)
@@ -52,5 +56,5 @@ passes-balanced image a h p o =
 pub count-balanced : (image : List ℕ) (a : Counts) → countBlocks image ≡ counted.Counts a → 16 + (a .live + a .free + a .overhead) ≡ length image
 unfolding countBlocks Ends
 count-balanced image a e =
-    subst (Ends counting image Balanced) (count-ended (walk counting image nothing) a e)
-    (walk-carries counting image Balanced (λ b h p o t. passes-balanced image b h p o) nothing refl)
+    subst (Ends counting image Balanced) (count-ended (walk counting image noCounts) a e)
+    (walk-carries counting image Balanced (λ b h p o t. passes-balanced image b h p o) noCounts refl)

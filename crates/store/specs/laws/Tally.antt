@@ -1,5 +1,5 @@
 -- Tally: its rows, and what it gives. Assumes nothing.
-use Prim.Native.Nat.{ℕ, _+_, _-_}
+use Prim.Native.Nat.{ℕ}
 use mathlib.Core.Path.{_≡_, refl, sym, ap, _∙_}
 use native.Mathlib.Omega.{arith}
 use lib.ListN.{length}
@@ -8,7 +8,7 @@ use Rattle.block.specs.laws.Counting.{count-balanced}
 use Rattle.block.specs.declared.walk.Counts.{Counts}
 use Rattle.block.specs.declared.walk.Counted.{Counted}
 use Rattle.block.specs.declared.walk.Counted.the-variants as counted
-use Rattle.store.specs.State.{State, usageNumber, liveBytes, freeBytes, overheadBytes}
+use Rattle.store.specs.State.{State, usageNumber, Balances}
 use Rattle.store.specs.Calls.{opening, tally, tallyOpened, tallyCounted}
 use Rattle.store.specs.laws.Refusals.{refused-some}
 use Rattle.store.specs.declared.answer.Refusal.{Refusal}
@@ -34,12 +34,13 @@ module _ (x : State) (s : ℕ) (e : opening x ≡ Accepted s) where
   unfolding tally tallyOpened tallyCounted
   tally-counts c u = rw (e, u)
 
--- an accepted tally gives the counts of the blocks
-pub record Tallies (x : State) (c : Counts) : Type 0 where
-  pub counts : countBlocks (x .image) ≡ counted.Counts c
-  pub gives : tally x ≡ usage.Counts (c .objects) (c .live) (c .free) (c .overhead)
+-- c are the counts of the blocks, and tally gives them
+record Tallies (x : State) (c : Counts) : Type 0 where
+  counts : countBlocks (x .image) ≡ counted.Counts c
+  gives : tally x ≡ usage.Counts (c .objects) (c .live) (c .free) (c .overhead)
 
-pub tally-parts : (x : State) → usageNumber (tally x) ≡ 0 → (c : Counts) × Tallies x c
+-- there are such where it is accepted
+tally-parts : (x : State) → usageNumber (tally x) ≡ 0 → (c : Counts) × Tallies x c
 tally-parts x e = opened (opening x) refl
   where
     walked : (s : ℕ) → opening x ≡ Accepted s → (w : Counted) → countBlocks (x .image) ≡ w → (c : Counts) × Tallies x c
@@ -50,9 +51,8 @@ tally-parts x e = opened (opening x) refl
     opened (Accepted s) o = walked s o (countBlocks (x .image)) refl
     opened (Refused r) o = absurd (refused-some r (ap usageNumber (tally-shut x r o) ∙ e))
 
--- its live, free and overhead bytes are all bytes behind the superblock
-pub tally-balanced : (x : State) → usageNumber (tally x) ≡ 0
-    → liveBytes (tally x) + freeBytes (tally x) + overheadBytes (tally x) ≡ length (x .image) - 16
+-- and they are balanced
+pub tally-balanced : (x : State) → usageNumber (tally x) ≡ 0 → Balances (length (x .image)) (tally x)
 tally-balanced x e =
     let (c, t) = tally-parts x e in
     rw (t .gives) (omega (arith, count-balanced (x .image) c (t .counts)))
