@@ -35,9 +35,9 @@ extern "C" {
 #endif
 
 #define CUE_VERSION_MAJOR 1
-#define CUE_VERSION_MINOR 0
+#define CUE_VERSION_MINOR 1
 #define CUE_VERSION_PATCH 0
-#define CUE_VERSION "1.0.0"
+#define CUE_VERSION "1.1.0"
 
 /* 17 to 19 are a call log's (docs/FORMAT.md): the program replay prints them, and no function returns them. */
 enum cue_refusal {

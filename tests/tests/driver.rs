@@ -2,7 +2,7 @@
 
 use cueledger_tests::case::Mismatch;
 use cueledger_tests::driver::{compare, Failure};
-use cueledger_tests::model::{self, Pointer};
+use cueledger_tests::model::{self, Header, Pointer};
 use cueledger_tests::store::{Answer, Call, Model, Store, ROWS};
 use std::mem::discriminant;
 
@@ -270,6 +270,56 @@ fn walk_that_trusts_headers() {
     // shows only where a header was damaged
     find(|image, table, call| match (call, right(image, table, call)) {
         (Call::Tally, Answer { refusal: 7, .. }) => Answer::new(0, [0, 0, image.len() as u64 - 16]),
+        (_, answer) => answer,
+    });
+}
+
+/// Tally, with each header on its walk mended first: what a test that does not ask for it would count.
+fn tally_of_mended(image: &[u8], table: &mut [u64], mend: fn(&mut Header)) -> Answer {
+    let mut image = image.to_vec();
+    let mut at = 16;
+    while at + 16 <= image.len() {
+        let mut header = Header::read(&image, at as u64);
+        mend(&mut header);
+        image[at..at + 16].copy_from_slice(&header.bytes());
+        let Some(header) = model::sound(&image, at as u64) else { break };
+        at += header.extent as usize;
+    }
+    right(&mut image, table, Call::Tally)
+}
+
+#[test]
+fn header_test_without_that_of_free_blocks() {
+    find(|image, table, call| match (call, right(image, table, call)) {
+        (Call::Tally, Answer { refusal: 7, .. }) => tally_of_mended(image, table, |header| {
+            if header.kind == 1 {
+                (header.type_number, header.size) = (0, 0);
+            }
+        }),
+        (_, answer) => answer,
+    });
+}
+
+#[test]
+fn header_test_without_that_of_live_blocks() {
+    find(|image, table, call| match (call, right(image, table, call)) {
+        (Call::Tally, Answer { refusal: 7, .. }) => tally_of_mended(image, table, |header| {
+            if header.kind == 2 {
+                header.size = header.extent.saturating_sub(16);
+            }
+        }),
+        (_, answer) => answer,
+    });
+}
+
+#[test]
+fn header_test_that_takes_other_kinds_for_free() {
+    find(|image, table, call| match (call, right(image, table, call)) {
+        (Call::Tally, Answer { refusal: 7, .. }) => tally_of_mended(image, table, |header| {
+            if header.kind != 2 {
+                header.kind = 1;
+            }
+        }),
         (_, answer) => answer,
     });
 }

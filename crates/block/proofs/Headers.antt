@@ -1,20 +1,18 @@
 -- How the code's tests and writes of a header add up. Assumes nothing.
-use mathlib.Core.Path.{_≡_, ap, _∙_}
+use mathlib.Core.Path.{_≡_, sym, ap, _∙_}
 use mathlib.Core.List.{List, _++_, append-assoc}
-use mathlib.Core.Bool.{false}
-use mathlib.Core.Logic.{⊎-elim}
-use Prim.Native.Nat.{ℕ, _+_, _≤_}
+use mathlib.Core.Bool.{_&&_, and-assoc, and-false}
+use Prim.Native.Nat.{ℕ, _+_, _-_, _≤_, _<_}
 use native.Mathlib.Omega.{arith}
 use lib.ListN.{length, length-append}
 use lib.Dec.{leb, eqb}
-use borrow.Author.Tests.{le-leb, eq-eqb, ne-eqb}
+use borrow.Author.Tests.{le-leb, lt-leb, eq-eqb, ne-eqb, leb-true, leb-false}
 use Rattle.block.specs.Bytes.{encode, put}
 use Rattle.block.specs.laws.Fields.{length-encode}
 use Rattle.block.specs.laws.Writes.{put-append}
-use Rattle.block.specs.laws.Booleans.{refuted}
-use Rattle.block.specs.Layout.{wellFormed}
-use Rattle.block.specs.laws.Soundness.{Free, Live, well-formed-parts}
-use Rattle.block.specs.declared.header.Header.{Header}
+use Rattle.block.specs.laws.Booleans.{byBool}
+use Rattle.block.specs.Layout.{headerAt, extentAt, kindAt, typeAt, sizeAt, wellFormed, sound}
+use Rattle.block.specs.laws.Soundness.{sound-by}
 
 -- five fields of 4, 2, 2, 4 and 4 bytes, written one behind the other: the form of a superblock and of a header
 pub put-fields : (image : List ℕ) (h a b c d e : ℕ) → h + 16 ≤ length image
@@ -37,20 +35,42 @@ put-fields image h a b c d e room =
     (rw (put-append image h abc (encode 4 d) (h + 8) (omega arith) (omega arith))
     (put-append image h abcd (encode 4 e) (h + 12) (omega arith) (omega arith) ∙ ap (put image h) (simp append-assoc))))
 
-module _ (L h : ℕ) (d : Header) where
-  -- a header that is neither free nor live as it must be
-  pub ill-formed : (16 ≤ d .extent → h + d .extent ≤ L → d .last ≡ 0 → Free d → ⊥)
-      → (h + d .extent ≤ L → d .last ≡ 0 → Live d → ⊥) → wellFormed L h d ≡ false
-  ill-formed f l =
-      refuted (wellFormed L h d)
-      (λ e. let w = well-formed-parts L h d e in ⊎-elim (f (w .long) (w .inside) (w .zero-last)) (l (w .inside) (w .zero-last)) (w .kinds))
+-- the test h + e ≤ L, without the sum
+ends-by : (L h e : ℕ) → h ≤ L → leb (h + e) L ≡ leb e (L - h)
+ends-by L h e p =
+    byBool (leb e (L - h))
+    (λ t. let q : e ≤ L - h = leb-true _ _ t in le-leb (h + e) L (omega arith) ∙ sym t)
+    (λ t. let q : L - h < e = leb-false _ _ t in lt-leb (h + e) L (omega arith) ∙ sym t)
 
-  -- the last test of a free header, and of a live one
-  pub free-by-size : 16 ≤ d .extent → h + d .extent ≤ L → d .last ≡ 0 → d .kind ≡ 1 → d .ty ≡ 0 → wellFormed L h d ≡ eqb (d .size) 0
-  unfolding wellFormed
-  free-by-size a b c e f = simp (le-leb _ _ a, le-leb _ _ b, eq-eqb _ _ c, eq-eqb _ _ e, eq-eqb _ _ f)
+-- the tests of each kind, where there is room for a header
+module _ (image : List ℕ) (h : ℕ) (low : 16 ≤ h) (room : h + 16 ≤ length image) where
+  abbrev inside : leb (h + extentAt image h) (length image) ≡ leb (extentAt image h) (length image - h)
+  inside = ends-by (length image) h (extentAt image h) (omega arith)
 
-  pub live-by-extent : 16 ≤ d .extent → h + d .extent ≤ L → d .last ≡ 0 → d .kind ≡ 2 → 1 ≤ d .size → 16 + d .size ≤ d .extent
-      → wellFormed L h d ≡ leb (d .extent) (31 + d .size)
+  -- of a free block
+  pub free-by : kindAt image h ≡ 1
+      → sound image h
+      ≡ leb 16 (extentAt image h)
+      && leb (extentAt image h) (length image - h)
+      && eqb (headerAt image h .last) 0
+      && eqb (typeAt image h) 0
+      && eqb (sizeAt image h) 0
   unfolding wellFormed
-  live-by-extent a b c e f g = simp (le-leb _ _ a, le-leb _ _ b, eq-eqb _ _ c, eq-eqb _ _ e, ne-eqb (d .kind) 1 (omega arith), le-leb _ _ f, le-leb _ _ g)
+  free-by k = sound-by image h low room ∙ (simp (inside, eq-eqb _ _ k, and-assoc))
+
+  -- of a live block: an extent that holds header and size is at least 16
+  pub live-by : kindAt image h ≡ 2
+      → sound image h
+      ≡ leb (extentAt image h) (length image - h)
+      && eqb (headerAt image h .last) 0
+      && leb 1 (sizeAt image h)
+      && leb (16 + sizeAt image h) (extentAt image h)
+      && leb (extentAt image h) (31 + sizeAt image h)
+  unfolding wellFormed
+  live-by k =
+      let n = ne-eqb (kindAt image h) 1 (omega arith) in
+      sound-by image h low room
+      ∙ byBool (leb (16 + sizeAt image h) (extentAt image h))
+      (λ t. let q : 16 + sizeAt image h ≤ extentAt image h = leb-true _ _ t in
+      simp (le-leb 16 (extentAt image h) (omega arith), inside, n, eq-eqb _ _ k, and-assoc))
+      (λ t. simp (t, n, and-false))

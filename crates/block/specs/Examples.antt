@@ -1,6 +1,7 @@
 -- Worked examples on an image of 1,024 bytes, computed. Assumes nothing.
 use mathlib.Core.Path.{_≡_, refl}
 use mathlib.Core.List.{List, _++_}
+use mathlib.Core.Bool.{true, false}
 use Prim.Native.Nat.{ℕ}
 use lib.ListN.{replicate}
 use Rattle.block.specs.Bytes.{encode, decode, field, put}
@@ -22,9 +23,18 @@ image =
 damaged : List ℕ
 damaged = put image 42 (encode 4 15)
 
+-- `image` with kind k in the header at 42
+ofKind : ℕ → List ℕ
+ofKind k = put image 46 (encode 2 k)
+
 opens : opened image ≡ opening.Exponent 6
 unfolding image superblock header encode decode field superblockGood opened
 opens = refl
+
+-- with a size, 2 alone is sound; `unsound-kind` has 0, 3 and 65,535 with any other fields
+kinds : (sound (ofKind 2) 42 ≡ true) × (sound (ofKind 0) 42 ≡ false) × (sound (ofKind 1) 42 ≡ false) × (sound (ofKind 3) 42 ≡ false) × (sound (ofKind 65535) 42 ≡ false)
+unfolding image ofKind superblock header encode decode field put headerAt wellFormed sound
+kinds = (refl, refl, refl, refl, refl)
 
 fits : (firstFit image 946 ≡ fit.At 78) × (firstFit image 947 ≡ fit.End) × (firstFit damaged 16 ≡ fit.Unsound 42)
 unfolding image damaged superblock header encode decode field put headerAt wellFormed sound walkIn walkFrom walk fitOf firstFit

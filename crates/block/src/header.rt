@@ -4,10 +4,10 @@ use super::bytes::read4;
 use super::bytes::write2;
 use super::bytes::write4;
 ghost use mathlib.Core.Path.{_≡_};
-ghost use Prim.Native.Nat.{_+_, _≤_, _<_, _^_};
+ghost use Prim.Native.Nat.{_+_, _≤_};
 ghost use lib.ListN.{length};
 ghost use Rattle.block.specs.Bytes.{put};
-ghost use Rattle.block.specs.Layout.{header, freeHeader, liveHeader, headerAt, extentAt, kindAt, typeAt, sizeAt, wellFormed};
+ghost use Rattle.block.specs.Layout.{header, freeHeader, liveHeader, headerAt, extentAt, kindAt, typeAt, sizeAt, sound};
 ghost use Rattle.block.specs.laws.Soundness.{examined};
 
 // A block header's fields. `last` is the four bytes that must be zero.
@@ -76,36 +76,41 @@ pub fn read_header(image: &[u8], h: usize) -> Header
     }
 }
 
-// Whether the header d, read at h in an image of len bytes, is as it must be.
-fn well_formed(len: u64, h: u64, d: Header) -> bool
-    requires { ⌜ (h ≤ len) × (d .size < 2 ^ 32) ⌝ }
-    ensures { λ r. ⌜ r ≡ wellFormed len h d ⌝ }
+// Whether the header at h, of a free block, is sound.
+fn free_sound(image: &[u8], h: usize, extent: u64) -> bool
+    requires { ⌜ (16 ≤ h) × (h + 16 ≤ length (now image)) × (extent ≡ extentAt (now image) h) × (kindAt (now image) h ≡ 1) ⌝ }
+    ensures { λ r. ⌜ r ≡ sound (now (image .entry)) h ⌝ }
 {
-    if d.extent < 16 {
-        return false;
+    let room = (image.len() - h) as u64;
+    let ty = type_at(image, h);
+    let size = size_at(image, h);
+    let last = read4(image, h + 12);
+    (16 <= extent) & (extent <= room) & (last == 0) & (ty == 0) & (size == 0)
+}
+
+// Whether the header at h, of a live block, is sound. An extent that holds header and size is at least 16.
+fn live_sound(image: &[u8], h: usize, extent: u64) -> bool
+    requires { ⌜ (16 ≤ h) × (h + 16 ≤ length (now image)) × (extent ≡ extentAt (now image) h) × (kindAt (now image) h ≡ 2) ⌝ }
+    ensures { λ r. ⌜ r ≡ sound (now (image .entry)) h ⌝ }
+{
+    let room = (image.len() - h) as u64;
+    let size = size_at(image, h);
+    let last = read4(image, h + 12);
+    (extent <= room) & (last == 0) & (1 <= size) & (16 + size <= extent) & (extent <= 31 + size)
+}
+
+// Whether the header at h is sound: its kind decides which test it has to pass. A walk waits for the extent, so it is read before the branch.
+fn is_sound(image: &[u8], h: usize) -> bool
+    requires { ⌜ (16 ≤ h) × (h + 16 ≤ length (now image)) ⌝ }
+    ensures { λ r. ⌜ r ≡ sound (now (image .entry)) h ⌝ }
+{
+    let extent = extent_at(image, h);
+    let kind = kind_at(image, h);
+    match kind {
+        1 => free_sound(image, h, extent),
+        2 => live_sound(image, h, extent),
+        _ => false,
     }
-    if len - h < d.extent {
-        return false;
-    }
-    if d.last != 0 {
-        return false;
-    }
-    if d.kind == 1 {
-        if d.ty != 0 {
-            return false;
-        }
-        return d.size == 0;
-    }
-    if d.kind != 2 {
-        return false;
-    }
-    if d.size == 0 {
-        return false;
-    }
-    if d.extent < 16 + d.size {
-        return false;
-    }
-    d.extent <= 31 + d.size
 }
 
 // The header at h where it is sound. h may be any number, so it is compared with the length less 16.
@@ -122,9 +127,9 @@ pub fn examine(image: &[u8], h: u64) -> Examined
     if len - 16 < h {
         return Examined::Unsound;
     }
-    let d = read_header(image, h as usize);
-    if well_formed(len, h, d) {
-        Examined::Sound(d)
+    let at = h as usize;
+    if is_sound(image, at) {
+        Examined::Sound(read_header(image, at))
     } else {
         Examined::Unsound
     }

@@ -155,6 +155,11 @@ module _ (image : List ℕ) (h : ℕ) where
   unfolding sound
   unsound-past p = simp (and-false, lt-leb _ _ p)
 
+  -- a header that is neither free nor live, whatever its other fields
+  pub unsound-kind : (kindAt image h ≡ 1 → ⊥) → (kindAt image h ≡ 2 → ⊥) → sound image h ≡ false
+  unfolding wellFormed sound
+  unsound-kind f l = simp (ne-eqb _ _ f, ne-eqb _ _ l, and-false)
+
 -- what `examine` answers
 unfoldable pub examined : List ℕ → ℕ → Examined
 examined image h = cond (sound image h) (examining.Sound (headerAt image h)) examining.Unsound
