@@ -274,7 +274,7 @@ fn walk_that_trusts_headers() {
     });
 }
 
-/// Tally, with each header on its walk mended first: what a test that does not ask for it would count.
+/// Tally after each header on its walk is mended: accepted where a header test that does not ask for what was mended accepts.
 fn tally_of_mended(image: &[u8], table: &mut [u64], mend: fn(&mut Header)) -> Answer {
     let mut image = image.to_vec();
     let mut at = 16;

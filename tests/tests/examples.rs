@@ -188,7 +188,7 @@ fn tallies<S: Store + Copy>(store: S) {
 /// Headers of a kind with other fields of all sorts, each with each.
 fn headers_of(kind: u16) -> Vec<Header> {
     let mut headers = vec![];
-    for extent in [0, 15, 16, 32, 47, 48, 49, u32::MAX] {
+    for extent in [0, 15, 16, 32, 48, 49, u32::MAX] {
         for type_number in [0, 1, 2, u16::MAX] {
             for size in [0, 1, 16, 17, 32, 33, u32::MAX] {
                 headers.extend([0, 1, 2, u32::MAX].map(|zero| Header { extent, kind, type_number, size, zero }));
@@ -202,22 +202,25 @@ fn headers_of(kind: u16) -> Vec<Header> {
 fn kinds<S: Store>(store: S) {
     let mut lent = Lent::fresh(store, 64);
     let pointer = lent.allocate(16);
-    // behind the header at 16, which is tested, a walk may go on at 32 or at 48
+    // behind the header at 16, which is tested, a walk goes on at 32 or at 48
     lent.image[32..48].copy_from_slice(&Header::free(32).bytes());
     assert_eq!(lent.image[48..], Header::free(16).bytes());
     for kind in [0, 1, 2, 3, 0x100, 0x101, 0x102, 0x200, 0x201, 0x202, 0x8001, 0x8002, 0xffff] {
         for header in headers_of(kind) {
             lent.image[16..32].copy_from_slice(&header.bytes());
             let before = lent.image.clone();
-            let calls = [Call::Tally, Call::Allocate { size: 64, type_number: 0 }, Call::Load { pointer, width: 1 }];
-            let unsound = calls.map(|call| lent.refusal(call)) == [7, 7, 11];
-            let sound = match kind {
+            let fits_kind = match kind {
                 1 => header.type_number == 0 && [(16, 0), (32, 0), (48, 0)].contains(&(header.extent, header.size)),
-                2 => [(32, 1), (32, 16), (47, 16), (47, 17), (48, 17), (48, 32)].contains(&(header.extent, header.size)),
+                2 => [(32, 1), (32, 16), (48, 17), (48, 32)].contains(&(header.extent, header.size)),
                 _ => false,
             };
-            assert_eq!(unsound, !(sound && header.zero == 0), "{header:?}");
-            if unsound {
+            let sound = fits_kind && header.zero == 0;
+            // an object of 32 bytes there is large-framed, and has another pointer
+            let leads_home = sound && kind == 2 && header.size != 32;
+            let calls = [Call::Tally, Call::Allocate { size: 64, type_number: 0 }, Call::Load { pointer, width: 1 }];
+            let refusals = calls.map(|call| lent.refusal(call));
+            assert_eq!(refusals, [if sound { 0 } else { 7 }, if sound { 8 } else { 7 }, if leads_home { 0 } else { 11 }], "{header:?}");
+            if !sound {
                 assert_eq!(lent.refusal(Call::Free { pointer }), 11, "{header:?}");
             }
             assert_eq!(lent.image, before);

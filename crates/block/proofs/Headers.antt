@@ -44,6 +44,7 @@ ends-by L h e p =
 
 -- the tests of each kind, where there is room for a header
 module _ (image : List ℕ) (h : ℕ) (low : 16 ≤ h) (room : h + 16 ≤ length image) where
+  -- the block ends in the image
   abbrev inside : leb (h + extentAt image h) (length image) ≡ leb (extentAt image h) (length image - h)
   inside = ends-by (length image) h (extentAt image h) (omega arith)
 
@@ -58,7 +59,7 @@ module _ (image : List ℕ) (h : ℕ) (low : 16 ≤ h) (room : h + 16 ≤ length
   unfolding wellFormed
   free-by k = sound-by image h low room ∙ (simp (inside, eq-eqb _ _ k, and-assoc))
 
-  -- of a live block: an extent that holds header and size is at least 16
+  -- of a live block
   pub live-by : kindAt image h ≡ 2
       → sound image h
       ≡ leb (extentAt image h) (length image - h)

@@ -31,10 +31,10 @@ opens : opened image ≡ opening.Exponent 6
 unfolding image superblock header encode decode field superblockGood opened
 opens = refl
 
--- with a size, 2 alone is sound; `unsound-kind` has 0, 3 and 65,535 with any other fields
-kinds : (sound (ofKind 2) 42 ≡ true) × (sound (ofKind 0) 42 ≡ false) × (sound (ofKind 1) 42 ≡ false) × (sound (ofKind 3) 42 ≡ false) × (sound (ofKind 65535) 42 ≡ false)
+-- the header at 78 is sound as a free one, that at 42 as a live one alone; `unsound-kind` has 0, 3 and 65,535 with any other fields
+kinds : (sound image 78 ≡ true) × (sound (ofKind 2) 42 ≡ true) × (sound (ofKind 0) 42 ≡ false) × (sound (ofKind 1) 42 ≡ false) × (sound (ofKind 3) 42 ≡ false) × (sound (ofKind 65535) 42 ≡ false)
 unfolding image ofKind superblock header encode decode field put headerAt wellFormed sound
-kinds = (refl, refl, refl, refl, refl)
+kinds = (refl, refl, refl, refl, refl, refl)
 
 fits : (firstFit image 946 ≡ fit.At 78) × (firstFit image 947 ≡ fit.End) × (firstFit damaged 16 ≡ fit.Unsound 42)
 unfolding image damaged superblock header encode decode field put headerAt wellFormed sound walkIn walkFrom walk fitOf firstFit

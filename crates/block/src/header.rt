@@ -99,7 +99,7 @@ fn live_sound(image: &[u8], h: usize, extent: u64) -> bool
     (extent <= room) & (last == 0) & (1 <= size) & (16 + size <= extent) & (extent <= 31 + size)
 }
 
-// Whether the header at h is sound: its kind decides which test it has to pass. A walk waits for the extent, so it is read before the branch.
+// Whether the header at h is sound. A walk waits for the extent, so it is read before the branch.
 fn is_sound(image: &[u8], h: usize) -> bool
     requires { ⌜ (16 ≤ h) × (h + 16 ≤ length (now image)) ⌝ }
     ensures { λ r. ⌜ r ≡ sound (now (image .entry)) h ⌝ }

@@ -6,6 +6,7 @@ use borrow.Author.Needs.{needs}
 use Rattle.block.proofs.header.free_sound.Statement.{statement}
 use Rattle.block.proofs.header.free_sound.Tie as tie
 
+-- each test, by the field that it reads
 returns : tie.Need-returns
 unfolding headerAt
 returns c =

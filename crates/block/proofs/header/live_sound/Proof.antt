@@ -16,12 +16,15 @@ size-fits c =
     let f = headerAt-fitting (s .args .image .now) (λ k. c .before .before .shared-slice-known .given k .fits) (s .args .h) in
     omega (arith, c .before .size-at .ensures)
 
+-- 16 + size
 add-result : tie.Need-add-result
 add-result c = let f = size-fits c in omega arith
 
+-- 31 + size
 add-result-2 : tie.Need-add-result-2
 add-result-2 c = let f = size-fits c in omega arith
 
+-- each test, by the field that it reads
 returns : tie.Need-returns
 unfolding headerAt
 returns c =
