@@ -16,11 +16,13 @@
  * - One call at a time on an image and its table: no second thread, no interrupt handler in between. Calls on different
  *   images do not disturb each other.
  * - Time: allocate, free and tally walk over the blocks from the image's start and grow with their number. Setup, free,
- *   fill and copy also grow with the bytes that they write. Load, store and move take constant time.
+ *   fill and copy also grow with the bytes that they write, compare and text copy with those that they read. Load, store
+ *   and move take constant time.
  * - Stack, in bytes at most: the return address and all below it, without memmove and memset.
- *     cue_setup     48    cue_load     168    cue_fill     168
- *     cue_allocate  64    cue_store    168    cue_copy     200
- *     cue_move       8    cue_free     216    cue_tally     64
+ *     cue_setup     48    cue_store    168    cue_compare    200
+ *     cue_allocate  64    cue_free     216    cue_copy_text  200
+ *     cue_move       8    cue_fill     152    cue_tally       64
+ *     cue_load     168    cue_copy     200
  *
  * On CUE_UNSOUND something else has written into the image. Allocate and free nothing more there. Objects that their
  * pointers still reach can be loaded; save image and table for diagnosis, then set the store up afresh. */
@@ -35,9 +37,9 @@ extern "C" {
 #endif
 
 #define CUE_VERSION_MAJOR 1
-#define CUE_VERSION_MINOR 1
+#define CUE_VERSION_MINOR 2
 #define CUE_VERSION_PATCH 0
-#define CUE_VERSION "1.1.0"
+#define CUE_VERSION "1.2.0"
 
 /* 17 to 19 are a call log's (docs/FORMAT.md): the program replay prints them, and no function returns them. */
 enum cue_refusal {
@@ -57,7 +59,8 @@ enum cue_refusal {
     CUE_OUT_OF_BOUNDS = 13,  /* bytes not all inside the body */
     CUE_BAD_WIDTH = 14,      /* width outside 1..8 */
     CUE_NOT_BASE = 15,       /* free: the address is not the object's start */
-    CUE_TOO_LARGE = 16       /* store: value too large for the width */
+    CUE_TOO_LARGE = 16,      /* store: value too large for the width */
+    CUE_UNTERMINATED = 20    /* text copy: no zero byte from the source's address to the body's end */
 };
 
 /* A returned number as text. */
@@ -81,6 +84,7 @@ static inline const char *cue_reason(uint32_t number)
     case CUE_BAD_WIDTH: return "width outside 1 to 8";
     case CUE_NOT_BASE: return "address is not the base";
     case CUE_TOO_LARGE: return "value too large for the width";
+    case CUE_UNTERMINATED: return "no zero byte up to the body's end";
     default: return "no refusal has this number";
     }
 }
@@ -134,6 +138,16 @@ uint32_t cue_fill(uint8_t *image, size_t image_len, const uint64_t *table, size_
 /* Copies length bytes as if all were read first: source and target may overlap.
  * Refusals, in order: 4, 5, 6, the target's 10, 11, 13, the source's 10, 11, 13. */
 uint32_t cue_copy(uint8_t *image, size_t image_len, const uint64_t *table, size_t table_len, uint64_t target, uint64_t source, uint32_t length);
+
+/* Compares length bytes: order is -1 or 1 as the left's first differing byte, unsigned, is below or above the right's,
+ * and 0 where none differs. A zero byte does not end it.
+ * Refusals, in order: 4, 5, 6, the left's 10, 11, 13, the right's 10, 11, 13. */
+uint32_t cue_compare(const uint8_t *image, size_t image_len, const uint64_t *table, size_t table_len, uint64_t left, uint64_t right, uint32_t length, int64_t *order);
+
+/* Copies a text, all bytes from the source's address up to and including the first zero byte, as if all were read first:
+ * source and target may overlap. Gives the number of bytes copied, the zero byte included: a text of 5 letters is 6.
+ * Refusals, in order: 4, 5, the source's 10, 11, 13 (for its first byte), 20, the target's 10, 11, 13 (for all of them). */
+uint32_t cue_copy_text(uint8_t *image, size_t image_len, const uint64_t *table, size_t table_len, uint64_t target, uint64_t source, uint64_t *copied);
 
 /* Walks the image: live objects, and in bytes the sum of their sizes, the sum of the extents of free blocks, and the
  * overhead: 16 for each live header, and the at most 15 spare bytes behind each object. Live, free and overhead bytes

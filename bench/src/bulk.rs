@@ -10,7 +10,7 @@ use std::hint::black_box;
 const SIZES: [(&str, u32, usize); 3] = [("16 B", 16, 20_000), ("4 KiB", 4 << 10, 2_000), ("1 MiB", 1 << 20, 4)];
 
 /// The slice function is a target from 4 KiB on.
-fn slice<'a, L>(length: usize, round: Round<'a, L>) -> Other<'a, L> {
+pub fn slice<'a, L>(length: usize, round: Round<'a, L>) -> Other<'a, L> {
     if length < 4096 {
         Other::Shown(round)
     } else {

@@ -1,7 +1,7 @@
-//! The two that are compared: the library, by its exports, and the model of document 01.
+//! The two that are compared: the library, by its exports, and the model of documents 01 and 02.
 
 use cueledger::ffi;
-use cueledger_tests::model::{self, Answer, TallyAnswer};
+use cueledger_tests::model::{self, Answer, CompareAnswer, TallyAnswer};
 
 /// An image and its table.
 #[derive(Clone)]
@@ -32,6 +32,8 @@ pub trait Calls {
     fn free(lent: &mut Lent, pointer: u64) -> Answer;
     fn fill(lent: &mut Lent, pointer: u64, length: u32, value: u8) -> Answer;
     fn copy(lent: &mut Lent, target: u64, source: u64, length: u32) -> Answer;
+    fn compare(lent: &Lent, left: u64, right: u64, length: u32) -> CompareAnswer;
+    fn copy_text(lent: &mut Lent, target: u64, source: u64) -> Answer;
     fn tally(lent: &Lent) -> TallyAnswer;
 }
 
@@ -101,6 +103,14 @@ impl Calls for Library {
         export!(cue_copy, lent, as_mut_ptr, as_ptr, target, source, length;).map(nothing)
     }
 
+    fn compare(lent: &Lent, left: u64, right: u64, length: u32) -> CompareAnswer {
+        export!(cue_compare, lent, as_ptr, as_ptr, left, right, length; order).map(first)
+    }
+
+    fn copy_text(lent: &mut Lent, target: u64, source: u64) -> Answer {
+        export!(cue_copy_text, lent, as_mut_ptr, as_ptr, target, source; copied).map(first)
+    }
+
     fn tally(lent: &Lent) -> TallyAnswer {
         export!(cue_tally, lent, as_ptr, as_ptr; objects live_bytes free_bytes overhead_bytes)
     }
@@ -110,7 +120,7 @@ fn nothing(_: [u64; 0]) -> u64 {
     0
 }
 
-fn first([value]: [u64; 1]) -> u64 {
+fn first<T>([value]: [T; 1]) -> T {
     value
 }
 
@@ -147,6 +157,14 @@ impl Calls for Model {
 
     fn copy(lent: &mut Lent, target: u64, source: u64, length: u32) -> Answer {
         model::copy(&mut lent.image, &lent.table, target, source, length)
+    }
+
+    fn compare(lent: &Lent, left: u64, right: u64, length: u32) -> CompareAnswer {
+        model::compare(&lent.image, &lent.table, left, right, length)
+    }
+
+    fn copy_text(lent: &mut Lent, target: u64, source: u64) -> Answer {
+        model::copy_text(&mut lent.image, &lent.table, target, source)
     }
 
     fn tally(lent: &Lent) -> TallyAnswer {

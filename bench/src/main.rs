@@ -1,6 +1,6 @@
 //! Each call of the library, through its exports, against the Rust model and, where there is one, against what does the
-//! same work unchecked: all built for release, on the same buffers in the same run; and the program `replay` on long logs.
-//! `cueledger-bench [MILLISECONDS]`.
+//! same work unchecked or by slice functions: all built for release, on the same buffers in the same run; and the program
+//! `replay` on long logs. `cueledger-bench [MILLISECONDS]`.
 
 mod accesses;
 mod blocks;
@@ -12,6 +12,7 @@ mod logs;
 mod measure;
 mod memory;
 mod refused;
+mod texts;
 mod tree;
 
 use measure::{Bench, LEAST_ROUNDS};
@@ -34,6 +35,7 @@ fn main() {
     blocks::many(&mut bench);
     bench.for_each_line = for_each_line;
     bulk::measure(&mut bench);
+    texts::measure(&mut bench);
     freeing::measure(&mut bench);
     heap::measure(&mut bench);
     tree::measure(&mut bench);

@@ -30,7 +30,7 @@ pub fn repeat(passes: usize, work: impl FnMut(usize)) -> f64 {
 /// One round on the buffers; gives the nanoseconds of the part that counts.
 pub type Round<'a, L> = &'a mut dyn FnMut(&mut L) -> f64;
 
-/// What does the same work unchecked.
+/// What else does the same work, unchecked where the group's title does not say otherwise.
 pub enum Other<'a, L> {
     None,
     /// Shown; no target is set.

@@ -22,7 +22,8 @@ static void report(const char *call, uint32_t number)
 
 int main(void)
 {
-    uint64_t record, moved, value, objects, live_bytes, free_bytes, overhead_bytes;
+    uint64_t record, name, moved, value, objects, live_bytes, free_bytes, overhead_bytes;
+    int64_t order;
 
     report("set up", cue_setup(STORE, SLOT_EXPONENT));
     report("allocate 10", cue_allocate(STORE, 10, 7, &record));
@@ -52,6 +53,20 @@ int main(void)
     report("load 8 there", cue_load(STORE, moved, 8, &value));
     printf("value %" PRIu64 "\n", value);
     report("move by a slot", cue_move(STORE, record, 1 << SLOT_EXPONENT, &moved));
+
+    report("allocate 6 for a name", cue_allocate(STORE, 6, 8, &name));
+    report("store \"cue 1\" and a zero byte", cue_store(STORE, name, 6, 0x003120657563));
+    report("copy the text to the record", cue_copy_text(STORE, record, name, &value));
+    printf("%" PRIu64 " bytes\n", value);
+    report("compare 6 bytes of record and name", cue_compare(STORE, record, name, 6, &order));
+    printf("order %" PRId64 "\n", order);
+    report("store \"cue 2\" and a zero byte", cue_store(STORE, name, 6, 0x003220657563));
+    report("compare 6 bytes of record and name", cue_compare(STORE, record, name, 6, &order));
+    printf("order %" PRId64 "\n", order);
+    report("fill the name", cue_fill(STORE, name, 6, '?'));
+    report("copy the text to the record", cue_copy_text(STORE, record, name, &value));
+    printf("%" PRIu64 " bytes\n", value);
+    report("free the name", cue_free(STORE, name));
 
     report("tally", cue_tally(STORE, &objects, &live_bytes, &free_bytes, &overhead_bytes));
     printf("objects %" PRIu64 ", live bytes %" PRIu64 ", free bytes %" PRIu64 ", overhead bytes %" PRIu64 "\n", objects, live_bytes, free_bytes, overhead_bytes);

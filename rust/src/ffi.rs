@@ -14,6 +14,8 @@ extern "C" {
     pub fn cue_free(image: *mut u8, image_len: usize, table: *mut u64, table_len: usize, pointer: u64) -> u32;
     pub fn cue_fill(image: *mut u8, image_len: usize, table: *const u64, table_len: usize, pointer: u64, length: u32, value: u8) -> u32;
     pub fn cue_copy(image: *mut u8, image_len: usize, table: *const u64, table_len: usize, target: u64, source: u64, length: u32) -> u32;
+    pub fn cue_compare(image: *const u8, image_len: usize, table: *const u64, table_len: usize, left: u64, right: u64, length: u32, order: *mut i64) -> u32;
+    pub fn cue_copy_text(image: *mut u8, image_len: usize, table: *const u64, table_len: usize, target: u64, source: u64, copied: *mut u64) -> u32;
     pub fn cue_tally(
         image: *const u8,
         image_len: usize,

@@ -47,11 +47,13 @@ pub enum Refusal {
     NotBase = 15,
     /// 16, store: the value is too large for the width.
     TooLarge = 16,
+    /// 20, text copy: no byte from the source's address to the end of its body is zero.
+    Unterminated = 20,
 }
 
 impl Refusal {
     /// Every refusal, in the order of its number.
-    pub const ALL: [Refusal; 16] = [
+    pub const ALL: [Refusal; 17] = [
         Refusal::BadExponent,
         Refusal::BadLength,
         Refusal::TooFewEntries,
@@ -68,9 +70,10 @@ impl Refusal {
         Refusal::BadWidth,
         Refusal::NotBase,
         Refusal::TooLarge,
+        Refusal::Unterminated,
     ];
 
-    /// The number that the exports return, 1 to 16.
+    /// The number that the exports return: 1 to 16, or 20. 17 to 19 are a call log's.
     ///
     /// ```
     /// # use cueledger::Refusal;
@@ -86,13 +89,15 @@ impl Refusal {
     /// # use cueledger::Refusal;
     /// assert_eq!(Refusal::from_number(7), Some(Refusal::Unsound));
     /// assert_eq!(Refusal::from_number(0), None); // accepted
+    /// assert_eq!(Refusal::from_number(17), None); // a malformed record of a call log
     /// ```
     pub const fn from_number(number: u32) -> Option<Refusal> {
-        if 1 <= number && number <= 16 {
-            Some(Self::ALL[number as usize - 1])
-        } else {
-            None
-        }
+        let place = match number {
+            1..=16 => number - 1,
+            20 => number - 4,
+            _ => return None,
+        };
+        Some(Self::ALL[place as usize])
     }
 
     /// The reason in words, as `cue_reason` of the C header has it.
@@ -119,6 +124,7 @@ impl Refusal {
             Refusal::BadWidth => "width outside 1 to 8",
             Refusal::NotBase => "address is not the base",
             Refusal::TooLarge => "value too large for the width",
+            Refusal::Unterminated => "no zero byte up to the body's end",
         }
     }
 }
@@ -137,10 +143,11 @@ mod tests {
 
     #[test]
     fn numbers() {
-        for number in 1..=16 {
-            assert_eq!(Refusal::from_number(number).unwrap().number(), number);
+        let numbers = Refusal::ALL.map(Refusal::number);
+        assert!(numbers.is_sorted_by(|a, b| a < b));
+        for number in (0..300).chain([u32::MAX]) {
+            assert_eq!(Refusal::from_number(number).map(Refusal::number), numbers.contains(&number).then_some(number));
         }
-        assert_eq!(Refusal::from_number(0), None);
-        assert_eq!(Refusal::from_number(17), None);
+        assert!([0, 17, 18, 19, 21].iter().all(|&number| Refusal::from_number(number).is_none()));
     }
 }

@@ -1,4 +1,5 @@
 use crate::{ffi, Blocks, Pointer, Refusal, Width};
+use core::cmp::Ordering;
 use core::fmt;
 
 /// An object store on a lent image and a lent table.
@@ -25,7 +26,7 @@ pub struct Tally {
     pub overhead_bytes: u64,
 }
 
-// A number outside 0..=16 means that the archive is not the one this crate was written for.
+// A number that is neither 0 nor a refusal's means that the archive is not the one this crate was written for.
 fn answer<T>(number: u32, value: T) -> Result<T, Refusal> {
     if number == 0 {
         return Ok(value);
@@ -293,6 +294,64 @@ impl<'a> Store<'a> {
         let number =
             unsafe { ffi::cue_copy(self.image.as_mut_ptr(), self.image.len(), self.table.as_ptr(), self.table.len(), target.into(), source.into(), length) };
         answer(number, ())
+    }
+
+    /// Compares `length` bytes as slices are compared: by the first byte that differs, unsigned. A zero byte does not end it.
+    ///
+    /// Refused with, in this order: [`Empty`](Refusal::Empty); the left's [`BadTag`](Refusal::BadTag),
+    /// [`Dangling`](Refusal::Dangling), [`OutOfBounds`](Refusal::OutOfBounds); then the right's.
+    ///
+    /// ```
+    /// # use cueledger::{Refusal, Store, Width};
+    /// # use std::cmp::Ordering;
+    /// # let (mut image, mut table) = ([0u8; 1024], [0u64; Store::table_entries(1024, 9)]);
+    /// let mut store = Store::set_up(&mut image, &mut table, 9)?;
+    /// let [left, right] = [store.allocate(8, 7)?, store.allocate(8, 7)?];
+    /// store.store(left, Width::Eight, u64::from_le_bytes(*b"winch 1\0"))?;
+    /// store.store(right, Width::Eight, u64::from_le_bytes(*b"winch 2\0"))?;
+    /// assert_eq!(store.compare(left, right, 6), Ok(Ordering::Equal));
+    /// assert_eq!(store.compare(left, right, 8), Ok(Ordering::Less));
+    /// assert_eq!(store.compare(left, right, 9), Err(Refusal::OutOfBounds));
+    /// # Ok::<(), Refusal>(())
+    /// ```
+    #[inline]
+    pub fn compare(&self, left: Pointer, right: Pointer, length: u32) -> Result<Ordering, Refusal> {
+        let mut order = 0;
+        let (image, table) = (self.image(), self.table());
+        // SAFETY: as in `offset`.
+        let number = unsafe { ffi::cue_compare(image.as_ptr(), image.len(), table.as_ptr(), table.len(), left.into(), right.into(), length, &mut order) };
+        answer(number, order.cmp(&0))
+    }
+
+    /// Copies a text from `source` to `target`, up to and including its first zero byte, and gives the number of bytes copied.
+    ///
+    /// It is copied as if all bytes were read first: the two may overlap. The zero byte counts, so that a text of 5 letters
+    /// takes 6 bytes in the target.
+    ///
+    /// Refused with, in this order: the source's [`BadTag`](Refusal::BadTag), [`Dangling`](Refusal::Dangling),
+    /// [`OutOfBounds`](Refusal::OutOfBounds) for its first byte; [`Unterminated`](Refusal::Unterminated); then the target's, for
+    /// all bytes.
+    ///
+    /// ```
+    /// # use cueledger::{Refusal, Store, Width};
+    /// # let (mut image, mut table) = ([0u8; 1024], [0u64; Store::table_entries(1024, 9)]);
+    /// let mut store = Store::set_up(&mut image, &mut table, 9)?;
+    /// let [name, copy, short] = [store.allocate(8, 7)?, store.allocate(8, 7)?, store.allocate(5, 7)?];
+    /// store.store(name, Width::Eight, u64::from_le_bytes(*b"winch\0??"))?;
+    /// assert_eq!(store.copy_text(copy, name), Ok(6));
+    /// assert_eq!(store.load(copy, Width::Eight), Ok(u64::from_le_bytes(*b"winch\0\0\0")));
+    /// assert_eq!(store.copy_text(short, name), Err(Refusal::OutOfBounds)); // no room for the zero byte
+    /// assert_eq!(store.copy_text(copy, store.offset(name, 6)?), Err(Refusal::Unterminated));
+    /// # Ok::<(), Refusal>(())
+    /// ```
+    #[inline]
+    pub fn copy_text(&mut self, target: Pointer, source: Pointer) -> Result<u64, Refusal> {
+        let mut copied = 0;
+        // SAFETY: as in `store`; `copied` is a local of its own.
+        let number = unsafe {
+            ffi::cue_copy_text(self.image.as_mut_ptr(), self.image.len(), self.table.as_ptr(), self.table.len(), target.into(), source.into(), &mut copied)
+        };
+        answer(number, copied)
     }
 
     /// Walks the image and counts what is in use.

@@ -1,13 +1,29 @@
-//! The C header's names, reasons and version are this crate's.
+//! The C header's names, reasons, functions and version are this crate's.
 
 use cueledger::Refusal;
 
 const HEADER: &str = include_str!("../../include/cueledger.h");
+const EXPORTS: &str = include_str!("../src/ffi.rs");
 
 /// `OutOfBounds` as `CUE_OUT_OF_BOUNDS`.
 fn c_name(refusal: Refusal) -> String {
     let name = format!("{refusal:?}");
     name.chars().fold("CUE".to_string(), |c_name, c| if c.is_uppercase() { c_name + "_" + &c.to_string() } else { c_name + &c.to_uppercase().to_string() })
+}
+
+/// `order: *mut i64` as `int64_t *order`.
+fn c_parameter(parameter: &str) -> String {
+    let (name, of) = parameter.split_once(": ").unwrap();
+    let (before, of, star) = match of.split_once(' ') {
+        Some(("*const", of)) => ("const ", of, "*"),
+        Some(("*mut", of)) => ("", of, "*"),
+        _ => ("", of, ""),
+    };
+    let c_type = match of {
+        "usize" => "size_t".to_string(),
+        _ => of.replace('i', "int").replace('u', "uint") + "_t",
+    };
+    format!("{before}{c_type} {star}{}", name.trim_start_matches("r#"))
 }
 
 #[test]
@@ -18,6 +34,18 @@ fn refusals() {
             assert!(HEADER.contains(&line), "include/cueledger.h has no `{line}`");
         }
     }
+    assert_eq!(HEADER.matches("    case CUE_").count(), Refusal::ALL.len() + 1, "accepted, and these");
+}
+
+#[test]
+fn functions() {
+    let exports: Vec<_> = EXPORTS.split("pub fn ").skip(1).map(|export| export.split_once(") -> u32;").unwrap().0.split_once('(').unwrap()).collect();
+    for (name, parameters) in &exports {
+        let parameters: Vec<_> = parameters.split(',').map(str::trim).filter(|parameter| !parameter.is_empty()).map(c_parameter).collect();
+        let line = format!("\nuint32_t {name}({});\n", parameters.join(", "));
+        assert!(HEADER.contains(&line), "include/cueledger.h has no `{}`", line.trim());
+    }
+    assert_eq!(HEADER.matches("\nuint32_t cue_").count(), exports.len());
 }
 
 #[test]

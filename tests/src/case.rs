@@ -89,6 +89,8 @@ pub enum Mismatch {
     EntryTakenInHistory,
     TallyRefusedInHistory,
     Unbalanced,
+    NotNegated,
+    NotTheText,
 }
 
 impl fmt::Display for Mismatch {
@@ -102,6 +104,8 @@ impl fmt::Display for Mismatch {
             Mismatch::EntryTakenInHistory => write!(f, "the expected store answered 9 on a history begun by set-up"),
             Mismatch::TallyRefusedInHistory => write!(f, "the expected store refused a tally on a history begun by set-up"),
             Mismatch::Unbalanced => write!(f, "the expected store's live, free and overhead bytes are not all bytes behind the superblock"),
+            Mismatch::NotNegated => write!(f, "the expected store's order is not negated when the operands are swapped"),
+            Mismatch::NotTheText => write!(f, "the expected store wrote something else than the source's bytes up to the first zero byte"),
         }
     }
 }
@@ -241,6 +245,7 @@ impl<'a, A: Store, B: Store> Run<'a, A, B> {
             }
         }
         counts.add(&call, &expected);
+        counts.seen.look(&self.before.0[..n], &self.before.1[..m], &call, &expected);
         if expected != got {
             return Err(Mismatch::Answer { expected, got });
         }
@@ -252,6 +257,23 @@ impl<'a, A: Store, B: Store> Run<'a, A, B> {
         if e.table != t.table {
             let at = (0..e.table.len()).find(|&i| e.table[i] != t.table[i]).unwrap();
             return Err(Mismatch::Table { at, expected: e.table[at], got: t.table[at] });
+        }
+        match call {
+            Call::Compare { left, right, length } if expected.accepted() => {
+                let swapped = e.store.call(&mut e.image[..n], &mut e.table[..m], Call::Compare { left: right, right: left, length });
+                if swapped != Answer::new(0, [expected.values[0].wrapping_neg()]) {
+                    return Err(Mismatch::NotNegated);
+                }
+            }
+            Call::CopyText { target, source } if expected.accepted() => {
+                let [to, from] = [target, source].map(|pointer| Pointer::unpack(pointer).address as usize);
+                let text = self.before.0.get(from..).and_then(|rest| rest.split_inclusive(|&byte| byte == 0).next());
+                let written = e.image.get(to..).and_then(|rest| rest.get(..expected.values[0] as usize));
+                if text.is_none() || text != written {
+                    return Err(Mismatch::NotTheText);
+                }
+            }
+            _ => {}
         }
         if expected.accepted() && kind.access == Access::Writes {
             self.before.0.copy_from_slice(&e.image);

@@ -1,6 +1,8 @@
 //! What occurred in a comparison, and what did not.
 
+use crate::seen::Seen;
 use crate::store::{Answer, Call, KINDS, ROWS};
+use cueledger::Refusal;
 use std::fmt;
 
 /// How often each call, and each of its answers, occurred.
@@ -21,6 +23,7 @@ pub struct Counts {
     pub widths: [[u64; 9]; 2],
     /// Accepted tallies that show spare bytes, and those that show no free block.
     pub tallies: [u64; 2],
+    pub seen: Seen,
 }
 
 impl Counts {
@@ -59,7 +62,7 @@ impl fmt::Display for Counts {
         write!(f, "{:>8}", "answer")?;
         KINDS.iter().try_for_each(|kind| write!(f, "{:>10}", kind.name))?;
         writeln!(f, "{:>11}", "all")?;
-        for row in 0..=ROWS {
+        for row in (0..=ROWS).filter(|&row| row == 0 || Refusal::from_number(row as u32).is_some()) {
             write!(f, "{:>8}", if row == 0 { "accepted".to_string() } else { row.to_string() })?;
             for answers in &self.by_call {
                 write!(f, "{:>10}", if answers[row] == 0 { ".".to_string() } else { answers[row].to_string() })?;

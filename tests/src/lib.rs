@@ -1,9 +1,9 @@
-//! The object store's library against a model of document 01, call by call, and the program `replay` against one of
-//! document 02's call log.
+//! The object store's library against a model of documents 01 and 02, call by call, and the program `replay` against one
+//! of document 02's call log.
 //!
-//! `model` is document 01; `store` the trait that model and library share; `case` a list of calls and damages, and
-//! how it is run on two stores at once; `generate` makes random lists; `counts` says what occurred in them; `shrink`
-//! shortens one that fails; `driver` puts them together. `log` is the call log.
+//! `model` is the documents; `store` the trait that model and library share; `case` a list of calls and damages, and
+//! how it is run on two stores at once; `generate` makes random lists; `counts` and `seen` say what occurred in them;
+//! `shrink` shortens one that fails; `driver` puts them together. `log` is the call log.
 
 pub mod case;
 pub mod counts;
@@ -13,6 +13,7 @@ pub mod library;
 pub mod log;
 pub mod model;
 pub mod random;
+pub mod seen;
 pub mod shrink;
 pub mod store;
 

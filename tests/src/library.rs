@@ -27,6 +27,8 @@ fn answered(image: &mut [u8], table: &mut [u64], call: Call<Pointer>) -> Result<
         Call::Free { pointer } => store.free(pointer).map(|()| 0)?,
         Call::Fill { pointer, length, value } => store.fill(pointer, length, value).map(|()| 0)?,
         Call::Copy { target, source, length } => store.copy(target, source, length).map(|()| 0)?,
+        Call::Compare { left, right, length } => store.compare(left, right, length)? as i64 as u64,
+        Call::CopyText { target, source } => store.copy_text(target, source)?,
         Call::Tally => return store.tally().map(|t| [t.objects, t.live_bytes, t.free_bytes, t.overhead_bytes]),
     };
     Ok([value, 0, 0, 0])
@@ -62,6 +64,15 @@ impl Store for Exports {
                 Call::Free { pointer } => Answer::new(ffi::cue_free(bytes, n, entries, m, pointer), []),
                 Call::Fill { pointer, length, value } => Answer::new(ffi::cue_fill(bytes, n, entries, m, pointer, length, value), []),
                 Call::Copy { target, source, length } => Answer::new(ffi::cue_copy(bytes, n, entries, m, target, source, length), []),
+                Call::Compare { left, right, length } => {
+                    let mut order = STALE as i64;
+                    let refusal = ffi::cue_compare(bytes, n, entries, m, left, right, length, &mut order);
+                    Answer::new(refusal, [order as u64])
+                }
+                Call::CopyText { target, source } => {
+                    let refusal = ffi::cue_copy_text(bytes, n, entries, m, target, source, &mut v);
+                    Answer::new(refusal, [v])
+                }
                 Call::Tally => {
                     let refusal = ffi::cue_tally(bytes, n, entries, m, &mut v, &mut w, &mut x, &mut y);
                     Answer::new(refusal, [v, w, x, y])

@@ -27,7 +27,7 @@ fn widths(kind: u16) -> Option<&'static [usize]> {
 
 // ---- a call's record
 
-/// A call's kind and its fields as numbers; set-up and tally have none.
+/// A call's kind and its fields as numbers, where a log can hold it.
 fn numbers(call: Call<u64>) -> Option<(u16, Vec<u64>)> {
     Some(match call {
         Call::Allocate { size, type_number } => (16, vec![size.into(), type_number.into()]),
@@ -37,7 +37,7 @@ fn numbers(call: Call<u64>) -> Option<(u16, Vec<u64>)> {
         Call::Store { pointer, width, value } => (20, vec![pointer, width, value]),
         Call::Fill { pointer, length, value } => (21, vec![pointer, length.into(), value.into()]),
         Call::Copy { target, source, length } => (22, vec![target, source, length.into()]),
-        Call::SetUp { .. } | Call::Tally => return None,
+        Call::SetUp { .. } | Call::Compare { .. } | Call::CopyText { .. } | Call::Tally => return None,
     })
 }
 

@@ -4,8 +4,13 @@
 //! Places and numbers are u64 throughout: fields have at most 4 bytes and addresses 48 bits, so that only a table
 //! entry, which may be any number, needs care.
 
+use std::ops::Range;
+
 /// The value of an accepted call, 0 where it has none, or the refusal's number.
 pub type Answer = Result<u64, u32>;
+
+/// -1, 0 or 1, or the refusal's number.
+pub type CompareAnswer = Result<i64, u32>;
 
 /// Objects, live bytes, free bytes and overhead bytes, or the refusal's number.
 pub type TallyAnswer = Result<[u64; 4], u32>;
@@ -165,7 +170,7 @@ pub fn entry(s: u32, exponent: u32, a: u64) -> u64 {
 // ---- the checks that calls share
 
 /// 4, 5; gives the slot exponent.
-fn open(image: &[u8], table: &[u64]) -> Result<u32, u32> {
+pub fn open(image: &[u8], table: &[u64]) -> Result<u32, u32> {
     if image.len() < 16 {
         return Err(4);
     }
@@ -205,14 +210,20 @@ fn read_tag(image: &[u8], table: &[u64], s: u32, p: Pointer) -> Result<(u64, Hea
 }
 
 /// 10, 11, 13; gives the place of the first byte.
-fn access(image: &[u8], table: &[u64], s: u32, pointer: u64, bytes: u64) -> Result<usize, u32> {
+pub fn access(image: &[u8], table: &[u64], s: u32, pointer: u64, bytes: u64) -> Result<usize, u32> {
+    body_from(image, table, s, pointer, bytes).map(|body| body.start)
+}
+
+/// 10, 11, 13; gives the places from the first byte to the body's end.
+pub fn body_from(image: &[u8], table: &[u64], s: u32, pointer: u64, bytes: u64) -> Result<Range<usize>, u32> {
     let p = Pointer::unpack(pointer);
     let (h, header) = read_tag(image, table, s, p)?;
     let base = h + HEADER;
-    if p.address < base || p.address + bytes > base + u64::from(header.size) {
+    let end = base + u64::from(header.size);
+    if p.address < base || p.address + bytes > end {
         return Err(13);
     }
-    Ok(p.address as usize)
+    Ok(p.address as usize..end as usize)
 }
 
 // ---- the calls
@@ -371,6 +382,33 @@ pub fn copy(image: &mut [u8], table: &[u64], target: u64, source: u64, length: u
     let from = access(image, table, s, source, u64::from(length))?;
     image.copy_within(from..from + length as usize, to);
     Ok(0)
+}
+
+pub fn compare(image: &[u8], table: &[u64], left: u64, right: u64, length: u32) -> CompareAnswer {
+    let s = open(image, table)?;
+    if length == 0 {
+        return Err(6);
+    }
+    let left = access(image, table, s, left, u64::from(length))?;
+    let right = access(image, table, s, right, u64::from(length))?;
+    for i in 0..length as usize {
+        let (a, b) = (image[left + i], image[right + i]);
+        if a != b {
+            return Ok(if a < b { -1 } else { 1 });
+        }
+    }
+    Ok(0)
+}
+
+pub fn copy_text(image: &mut [u8], table: &[u64], target: u64, source: u64) -> Answer {
+    let s = open(image, table)?;
+    let body = body_from(image, table, s, source, 1)?;
+    let zero = body.clone().find(|&at| image[at] == 0).ok_or(20u32)?;
+    let text = body.start..zero + 1;
+    let bytes = text.len() as u64;
+    let to = access(image, table, s, target, bytes)?;
+    image.copy_within(text, to);
+    Ok(bytes)
 }
 
 pub fn tally(image: &[u8], table: &[u64]) -> TallyAnswer {

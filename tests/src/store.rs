@@ -16,7 +16,7 @@ pub enum Access {
     Writes,
 }
 
-/// What document 01 says of a call.
+/// What documents 01 and 02 say of a call.
 #[derive(Debug)]
 pub struct Kind {
     pub name: &'static str,
@@ -27,7 +27,7 @@ pub struct Kind {
 
 macro_rules! calls {
     ($($call:ident $name:literal $access:ident [$($row:literal)*] $({ $($pointer:ident)*; $($field:ident: $type:ty),* })?)*) => {
-        /// One of document 01's calls. `P` is how a pointer is given: a number, or where to take it from.
+        /// One of their calls. `P` is how a pointer is given: a number, or where to take it from.
         #[derive(Clone, Copy, Debug, PartialEq, Eq)]
         pub enum Call<P> {
             $($call $({ $($pointer: P,)* $($field: $type,)* })?,)*
@@ -79,6 +79,8 @@ calls! {
     Free "free" Writes [4 5 10 11 15 7] { pointer; }
     Fill "fill" Writes [4 5 6 10 11 13] { pointer; length: u32, value: u8 }
     Copy "copy" Writes [4 5 6 10 11 13] { target source; length: u32 }
+    Compare "compare" Reads [4 5 6 10 11 13] { left right; length: u32 }
+    CopyText "text copy" Writes [4 5 10 11 13 20] { target source; }
     Tally "tally" Reads [4 5 7]
 }
 
@@ -88,7 +90,8 @@ impl<P: Copy> Call<P> {
     }
 }
 
-/// What a call answers: the refusal's number, 0 where it is accepted, and its values, 0 where it has none.
+/// What a call answers: the refusal's number, 0 where it is accepted, and its values, 0 where it has none. A negative one
+/// stands in two's complement.
 #[derive(Clone, Copy, Debug, PartialEq, Eq)]
 pub struct Answer {
     pub refusal: u32,
@@ -138,7 +141,7 @@ pub trait Store {
     fn call(&self, image: &mut [u8], table: &mut [u64], call: Call<u64>) -> Answer;
 }
 
-/// The model of document 01.
+/// The model of documents 01 and 02.
 #[derive(Clone, Copy)]
 pub struct Model;
 
@@ -153,6 +156,8 @@ impl Store for Model {
             Call::Free { pointer } => model::free(image, table, pointer).into(),
             Call::Fill { pointer, length, value } => model::fill(image, table, pointer, length, value).into(),
             Call::Copy { target, source, length } => model::copy(image, table, target, source, length).into(),
+            Call::Compare { left, right, length } => model::compare(image, table, left, right, length).map(|order| order as u64).into(),
+            Call::CopyText { target, source } => model::copy_text(image, table, target, source).into(),
             Call::Tally => model::tally(image, table).into(),
         }
     }

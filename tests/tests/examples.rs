@@ -1,7 +1,7 @@
 //! Document 01, "Arithmetic by example", and examples of the change requests, on the model and on the library.
 
 use cueledger_tests::library::{Exports, Library};
-use cueledger_tests::model::{self, Header};
+use cueledger_tests::model::{self, Header, Pointer};
 use cueledger_tests::store::{Answer, Call, Model, Store};
 
 struct Lent<S> {
@@ -39,6 +39,33 @@ impl<S: Store> Lent<S> {
         } else {
             Err(answer.refusal)
         }
+    }
+
+    /// Written behind the store's back, from the pointer's address on.
+    fn write(&mut self, pointer: u64, bytes: &[u8]) {
+        let at = Pointer::unpack(pointer).address as usize;
+        self.image[at..at + bytes.len()].copy_from_slice(bytes);
+    }
+
+    fn compare(&mut self, left: u64, right: u64, length: u32) -> Answer {
+        let before = self.image.clone();
+        let answer = self.call(Call::Compare { left, right, length });
+        assert!(self.image == before);
+        answer
+    }
+
+    /// An accepted text copy of this text, zero byte included: it stands at the target, and all else is as before.
+    fn copies_text(&mut self, target: u64, source: u64, text: &[u8]) {
+        let (mut expected, at) = (self.image.clone(), Pointer::unpack(target).address as usize);
+        expected[at..at + text.len()].copy_from_slice(text);
+        assert_eq!(self.call(Call::CopyText { target, source }), Answer::new(0, [text.len() as u64]));
+        assert!(self.image == expected);
+    }
+
+    fn refuses_text(&mut self, target: u64, source: u64, refusal: u32) {
+        let before = self.image.clone();
+        assert_eq!(self.call(Call::CopyText { target, source }), Answer::new(refusal, []));
+        assert!(self.image == before);
     }
 }
 
@@ -141,6 +168,128 @@ fn widths<S: Store>(store: S) {
     assert_eq!(lent.image, before);
 }
 
+const BELOW: Answer = Answer { refusal: 0, values: [u64::MAX, 0, 0, 0] };
+const EQUAL: Answer = Answer { refusal: 0, values: [0; 4] };
+const ABOVE: Answer = Answer { refusal: 0, values: [1, 0, 0, 0] };
+
+fn compares<S: Store>(store: S) {
+    let mut lent = Lent::fresh(store, 1024);
+    // small- and large-framed, and zero
+    let [ten, twenty] = [10, 20].map(|size| lent.allocate(size));
+    for length in 1..=10 {
+        assert_eq!(lent.compare(ten, twenty, length), EQUAL);
+    }
+    // the object of 10 has no eleventh byte
+    for (left, right) in [(ten, twenty), (twenty, ten), (ten, ten)] {
+        assert_eq!(lent.compare(left, right, 11), Answer::new(13, []));
+        assert_eq!(lent.compare(left, right, u32::MAX), Answer::new(13, []));
+        assert_eq!(lent.compare(left, right, 0), Answer::new(6, []));
+    }
+
+    // one byte in each place, all others alike: 0x7f is below 0x80
+    for place in 0..10 {
+        for (low, high) in [(0x7f, 0x80), (0, 1), (0, 0xff), (0xfe, 0xff)] {
+            lent.write(ten, &[0x5a; 10]);
+            lent.write(twenty, &[0x5a; 20]);
+            lent.write(ten + place, &[low]);
+            lent.write(twenty + place, &[high]);
+            for length in 1..=10 {
+                let seen = u64::from(length) > place;
+                assert_eq!(lent.compare(ten, twenty, length), if seen { BELOW } else { EQUAL });
+                assert_eq!(lent.compare(twenty, ten, length), if seen { ABOVE } else { EQUAL });
+                assert_eq!(lent.compare(ten, ten, length), EQUAL);
+            }
+        }
+    }
+
+    // the first difference decides, behind zero bytes too
+    lent.write(ten, &[0, 1, 0, 0, 0, 0, 0, 0, 0, 0]);
+    lent.write(twenty, &[0, 0, 0xff, 0xff, 0xff, 0xff, 0xff, 0xff, 0xff, 0xff]);
+    assert_eq!(lent.compare(ten, twenty, 10), ABOVE);
+    // bytes in common: 0 1 0 .. with 1 0 0 ..
+    assert_eq!(lent.compare(ten, ten + 1, 9), BELOW);
+    assert_eq!(lent.compare(ten, ten + 1, 10), Answer::new(13, []));
+}
+
+fn texts<S: Store>(store: S) {
+    let mut lent = Lent::fresh(store, 1024);
+    let [ten, five] = [10, 5].map(|size| lent.allocate(size));
+    assert_eq!(ten, 0x8010000000000020);
+    // no letters
+    lent.write(ten, b"\0________\0");
+    lent.copies_text(ten + 5, ten, b"\0");
+    lent.copies_text(ten, ten + 9, b"\0");
+    assert_eq!(lent.image[32..42], *b"\0____\0___\0");
+    // five letters; only from 4 on, and in no object of five bytes, is there room for the zero byte too
+    lent.write(ten, b"cue 1\0____");
+    lent.refuses_text(ten + 5, ten, 13);
+    lent.refuses_text(five, ten, 13);
+    lent.copies_text(five, ten + 1, b"ue 1\0");
+    lent.copies_text(ten + 4, ten, b"cue 1\0");
+    assert_eq!(lent.image[32..42], *b"cue cue 1\0");
+    // from the text's end, and onto itself
+    lent.copies_text(five, ten + 9, b"\0");
+    lent.copies_text(ten, ten, b"cue cue 1\0");
+    // by less than the text, up and down
+    for shift in 1..5 {
+        lent.write(ten, b"cue 1\0____");
+        lent.copies_text(ten + shift, ten, b"cue 1\0");
+        lent.copies_text(ten, ten + shift, b"cue 1\0");
+    }
+    assert_eq!(lent.image[32..42], *b"cue 1\0e 1\0");
+    // from the middle
+    lent.write(ten, b"winch\0cue\0");
+    lent.copies_text(ten + 6, ten + 2, b"nch\0");
+    // up to the body's end
+    lent.write(ten, b"_________\0");
+    lent.copies_text(ten, ten, b"_________\0");
+    lent.copies_text(ten, ten + 1, b"________\0");
+    // no zero byte, or only one behind the body
+    for behind in [1, 0] {
+        lent.write(ten, b"\0_________");
+        lent.write(ten + 10, &[behind]);
+        lent.refuses_text(ten, ten + 1, 20);
+        lent.refuses_text(ten, ten + 9, 20);
+        lent.refuses_text(ten, ten + 10, 13);
+        lent.copies_text(ten + 9, ten, b"\0");
+    }
+}
+
+/// Each refusal of the one pointer with each of the other.
+fn two_pointers<S: Store>(store: S) {
+    let mut lent = Lent::fresh(store, 1024);
+    let [text, letters] = [6, 6].map(|size| lent.allocate(size));
+    lent.write(text, b"cue 1\0");
+    lent.write(letters, b"cue 01");
+    let bad = [(6 << 48, 10), (0x8000000000000000, 11), (text - 1, 13), (text + 6, 13)];
+    for (left, row) in [(text, 0)].iter().chain(&bad).copied() {
+        for (right, other) in [(letters, 0)].iter().chain(&bad).copied() {
+            let refusal = if row != 0 { row } else { other };
+            assert_eq!(lent.compare(left, right, 0), Answer::new(6, []));
+            assert_eq!(lent.compare(left, right, 1), Answer::new(refusal, []), "{left:#x} and {right:#x}");
+        }
+    }
+    for (source, row) in [(text, 0), (letters, 20)].iter().chain(&bad).copied() {
+        for (target, other) in [(text, 0)].iter().chain(&bad).copied() {
+            match if row != 0 { row } else { other } {
+                0 => lent.copies_text(target, source, b"cue 1\0"),
+                refusal => lent.refuses_text(target, source, refusal),
+            }
+        }
+    }
+
+    // 4 and 5 come before all of them
+    for (superblock, entries, refusal) in [(3, 384, 4), (16, 383, 5), (3, 383, 4)] {
+        lent.image[0] = superblock;
+        lent.table.truncate(entries);
+        for pointer in [text, letters, 6 << 48] {
+            assert_eq!(lent.compare(pointer, pointer, 0), Answer::new(refusal, []));
+            lent.refuses_text(pointer, pointer, refusal);
+        }
+        lent.table.resize(384, 0);
+    }
+}
+
 fn smallest_image<S: Store + Copy>(store: S) {
     let mut lent = Lent::fresh(store, 64);
     lent.allocate(16);
@@ -241,6 +390,12 @@ fn largest_image<S: Store>(store: S) {
     // e may be pointed to, but not read
     let end = lent.moved(pointer, (1 << 30) - 32).unwrap();
     assert_eq!(lent.refusal(Call::Load { pointer: end, width: 1 }), 13);
+    // the longest text
+    let length = (1 << 30) - 32;
+    assert_eq!(lent.refusal(Call::Fill { pointer, length: length - 1, value: b'_' }), 0);
+    assert_eq!(lent.refusal(Call::Store { pointer: end - 1, width: 1, value: 0 }), 0);
+    assert_eq!(lent.call(Call::CopyText { target: pointer, source: pointer }), Answer::new(0, [u64::from(length)]));
+    assert_eq!(lent.call(Call::Compare { left: pointer, right: pointer + 1, length: length - 1 }), ABOVE);
     assert_eq!(lent.call(Call::Tally).values, [1, (1 << 30) - 32, 0, 16]);
     assert_eq!(lent.refusal(Call::Free { pointer }), 0);
     assert_eq!(lent.table[31 - 15 - 1], 0);
@@ -295,4 +450,5 @@ macro_rules! on_each_store {
     )*};
 }
 
-on_each_store!(set_up in_succession largest_small moves bounds widths smallest_image tallies kinds largest_image past_the_largest_image past_32_bits);
+on_each_store!(set_up in_succession largest_small moves bounds widths compares texts two_pointers smallest_image);
+on_each_store!(tallies kinds largest_image past_the_largest_image past_32_bits);

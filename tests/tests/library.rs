@@ -19,16 +19,18 @@ fn agrees(name: &str, library: &impl Store, calls: u64, seed: u64) -> Counts {
 #[test]
 fn exports() {
     let counts = agrees("exports", &Exports, 1_000_000, SEED);
-    print(&counts.to_string());
+    print(&format!("{counts}\n{}", counts.seen));
     assert!(counts.slot_exponents[6..].iter().all(|&cases| cases > 0));
     assert!(counts.widths.iter().all(|by_width| by_width[1..].iter().all(|&accepted| accepted > 0)));
     assert!(counts.tallies.iter().all(|&accepted| accepted > 0));
+    assert!(counts.seen.missing().is_empty(), "{:?}", counts.seen.missing());
     assert!(counts.largest_image > 1 << 20);
 }
 
 #[test]
 fn exports_with_a_fresh_seed() {
-    agrees("exports, fresh", &Exports, 1_000_000, fresh_seed());
+    let counts = agrees("exports, fresh", &Exports, 1_000_000, fresh_seed());
+    assert!(counts.seen.missing().is_empty(), "{:?}", counts.seen.missing());
 }
 
 #[test]

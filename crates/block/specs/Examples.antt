@@ -1,13 +1,17 @@
--- Worked examples on an image of 1,024 bytes, computed. Assumes nothing.
+-- Worked examples, computed: on an image of 1,024 bytes; of runs of bytes and of texts. Assumes nothing.
 use mathlib.Core.Path.{_≡_, refl}
-use mathlib.Core.List.{List, _++_}
+use mathlib.Core.List.{List, [], _∷_, _++_}
 use mathlib.Core.Bool.{true, false}
 use Prim.Native.Nat.{ℕ}
 use lib.ListN.{replicate}
 use Rattle.block.specs.Bytes.{encode, decode, field, put}
+use Rattle.block.specs.Order.{compareBytes}
+use Rattle.block.specs.Text.{textFrom, textOf}
 use Rattle.block.specs.Layout.{superblock, superblockGood, header, freeHeader, liveHeader, headerAt, wellFormed, sound}
 use Rattle.block.specs.laws.Superblock.{opened}
 use Rattle.block.specs.Walk.{walkIn, walkFrom, walk, fitOf, firstFit, metOf, walkTo, countOf, countBlocks}
+use Rattle.block.specs.declared.order.Ordering.the-variants as ordering
+use Rattle.block.specs.declared.text.Text.the-variants as text
 use Rattle.block.specs.declared.superblock.Opened.the-variants as opening
 use Rattle.block.specs.declared.walk.Fit.the-variants as fit
 use Rattle.block.specs.declared.walk.Met.the-variants as met
@@ -47,3 +51,20 @@ meets = (refl, refl, refl, refl)
 counts : (countBlocks image ≡ counted.Counts (record { objects = 2; live = 30; free = 946; overhead = 32 })) × (countBlocks damaged ≡ counted.Unsound)
 unfolding image damaged superblock header encode decode field put headerAt wellFormed sound walkIn walkFrom walk countOf countBlocks
 counts = (refl, refl)
+
+-- equal runs; bytes have no sign; the first difference decides, whatever a later one says
+compares :
+    (compareBytes (1 ∷ 2 ∷ 3 ∷ []) (1 ∷ 2 ∷ 3 ∷ []) ≡ ordering.Equal)
+    × (compareBytes (0x7F ∷ []) (0x80 ∷ []) ≡ ordering.Less)
+    × (compareBytes (1 ∷ 3 ∷ 0 ∷ []) (1 ∷ 2 ∷ 255 ∷ []) ≡ ordering.Greater)
+unfolding compareBytes
+compares = (refl, refl, refl)
+
+-- no byte; the zero byte first; five letters and a zero; no zero byte
+texts :
+    (textOf [] ≡ text.Endless)
+    × (textOf (0 ∷ 72 ∷ []) ≡ text.Ends 0)
+    × (textOf (72 ∷ 101 ∷ 108 ∷ 108 ∷ 111 ∷ 0 ∷ 7 ∷ []) ≡ text.Ends 5)
+    × (textOf (72 ∷ 101 ∷ 108 ∷ 108 ∷ 111 ∷ []) ≡ text.Endless)
+unfolding textFrom textOf
+texts = (refl, refl, refl, refl)

@@ -1,5 +1,7 @@
 -- definitions
 pub mod Bytes
+pub mod Order
+pub mod Text
 pub mod Layout
 pub mod Walk
 -- worked examples

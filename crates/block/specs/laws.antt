@@ -3,6 +3,8 @@ pub mod Booleans
 -- bytes
 pub mod Fields
 pub mod Writes
+pub mod Order
+pub mod Text
 -- superblock and headers
 pub mod Superblock
 pub mod Headers

@@ -1,7 +1,9 @@
 -- What C sees of a call: the returned number, the value, and the image and table as they are left. Assumes nothing.
 use Prim.Native.Nat.{ℕ}
 use mathlib.Core.List.{List}
-use Rattle.store.specs.State.{Outcome, returned, value, usageNumber, liveObjects, liveBytes, freeBytes, overheadBytes}
+use lib.IntN.{ℤ}
+use Rattle.store.specs.State.{Outcome, returned, value, comparisonNumber, comparisonValue, usageNumber, liveObjects, liveBytes, freeBytes, overheadBytes}
+use Rattle.store.specs.declared.comparing.Comparison.{Comparison}
 use Rattle.store.specs.declared.counting.Usage.{Usage}
 
 -- What the export of a call that gives no value returns and leaves.
@@ -32,6 +34,19 @@ export r v image table = record { returned = r; value = v; image = image; table 
 -- what C sees of an outcome with its value
 abbrev pub exported : Outcome → Export
 exported o = export (returned (o .answer)) (value (o .answer)) (o .after .image) (o .after .table)
+
+-- What the export of compare returns and gives: the value is 0 where it is refused.
+pub record Compared : Type 0 where
+  pub returned : ℕ
+  pub order : ℤ
+
+-- made of a returned number and a value
+abbrev pub compared : ℕ → ℤ → Compared
+compared r order = record { returned = r; order = order }
+
+-- what C sees of compare's answer
+abbrev pub exportedComparison : Comparison → Compared
+exportedComparison c = compared (comparisonNumber c) (comparisonValue c)
 
 -- What the export of tally returns and gives: every value is 0 where it is refused.
 pub record Tallied : Type 0 where

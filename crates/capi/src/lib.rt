@@ -1,9 +1,9 @@
-// The library as C sees it. Each function returns document 01's refusal number, 0 where the call is accepted; every value
+// The library as C sees it. Each function returns the refusal's number, 0 where the call is accepted; every value
 // given through a pointer is 0 where it is refused.
 ghost use mathlib.Core.Path.{_≡_};
 ghost use Rattle.store.specs.State.{state};
-ghost use Rattle.store.specs.Calls.{setUp, allocate, move, load, store, free, fill, copy, tally};
-ghost use Rattle.capi.specs.Exports.{left, leftBy, export, exported, tallied, exportedUsage};
+ghost use Rattle.store.specs.Calls.{setUp, allocate, move, load, store, free, fill, copy, compare, copyText, tally};
+ghost use Rattle.capi.specs.Exports.{left, leftBy, export, exported, compared, exportedComparison, tallied, exportedUsage};
 use store::Usage;
 
 // A fresh store on the image and table.
@@ -114,6 +114,39 @@ pub extern "C" fn cue_copy(
     ensures { λ r. ⌜ left r (now (image .exit)) (now (table .entry)) ≡ leftBy (copy target source length (state (now (image .entry)) (now (table .entry)))) ⌝ }
 {
     let a = store::copy(image, table, target, source, length);
+    a.returned()
+}
+
+// How `length` bytes of the left stand to those of the right goes to `order`: -1, 0 or 1.
+#[no_mangle]
+pub extern "C" fn cue_compare(
+    image: &[u8],
+    table: &[u64],
+    left: u64,
+    right: u64,
+    length: u32,
+    order: &mut i64,
+) -> u32
+    ensures { λ r. ⌜ compared r (now (order .exit)) ≡ exportedComparison (compare left right length (state (now (image .entry)) (now (table .entry)))) ⌝ }
+{
+    let c = store::compare(image, table, left, right, length);
+    *order = c.value();
+    c.returned()
+}
+
+// Copies the text at the source, its zero byte included; how many bytes it has goes to `copied`.
+#[no_mangle]
+pub extern "C" fn cue_copy_text(
+    image: &mut [u8],
+    table: &[u64],
+    target: u64,
+    source: u64,
+    copied: &mut u64,
+) -> u32
+    ensures { λ r. ⌜ export r (now (copied .exit)) (now (image .exit)) (now (table .entry)) ≡ exported (copyText target source (state (now (image .entry)) (now (table .entry)))) ⌝ }
+{
+    let a = store::copy_text(image, table, target, source);
+    *copied = a.value();
     a.returned()
 }
 

@@ -1,6 +1,7 @@
 // The cases: the ends of each rule of docs/FORMAT.md, and each refusal at least once. The slot exponent is 6.
 use crate::print::BYTES;
 use crate::print::DONE;
+use crate::print::NUMBER;
 use crate::print::heading;
 use crate::run::Call;
 use crate::run::Run;
@@ -87,6 +88,36 @@ pub fn widths(run: Run) -> Run {
     let run = run.make(Call::Load(TEN | 32, 4294967296), BYTES, 14, 0);
     let run = run.make(Call::Load(TEN | 32, 18446744073709551615), BYTES, 14, 0);
     run.make(Call::Store(6 << 48, 9, 0), DONE, 14, 0)
+}
+
+// Runs that differ in a byte above 127, and in none; refusals 6 and 13.
+pub fn compares(run: Run) -> Run {
+    heading(b"Cases: compare in it, where 0x7f stands at 32 and 0x80 at 33");
+    let run = run.quietly(Call::Store(TEN | 32, 2, 0x807F));
+    let run = run.compare(TEN | 32, TEN | 33, 1, 0, -1);
+    let run = run.compare(TEN | 33, TEN | 32, 1, 0, 1);
+    let run = run.compare(TEN | 32, TEN | 32, 10, 0, 0);
+    let run = run.compare(TEN | 32, TEN | 32, 0, 6, 0);
+    let run = run.compare(TEN | 32, TEN | 32, 11, 13, 0);
+    run.compare(TEN | 33, TEN | 32, 10, 13, 0)
+}
+
+// Texts of five letters and of none, overlapping both ways, onto itself, in a target that is one byte too small; refusals 13 and 20.
+pub fn texts(run: Run) -> Run {
+    heading(b"Cases: copy a text in it, where \"hello\" and a zero byte stand at 32");
+    let run = run.quietly(Call::Store(TEN | 32, 8, 0x6F_6C6C_6568));
+    let run = run.make(Call::CopyText(TEN | 34, TEN | 32), NUMBER, 0, 6);
+    let run = run.make(Call::Load(TEN | 34, 8), BYTES, 0, 0xFFFF_006F_6C6C_6568);
+    let run = run.make(Call::CopyText(TEN | 32, TEN | 34), NUMBER, 0, 6);
+    let run = run.make(Call::Load(TEN | 32, 8), BYTES, 0, 0x6F_006F_6C6C_6568);
+    let run = run.make(Call::CopyText(TEN | 32, TEN | 32), NUMBER, 0, 6);
+    let run = run.make(Call::CopyText(TEN | 37, TEN | 32), NUMBER, 13, 0);
+    let run = run.make(Call::CopyText(TEN | 36, TEN | 32), NUMBER, 0, 6);
+    let run = run.make(Call::Load(TEN | 32, 8), BYTES, 0, 0x6C6C_6568_6C6C_6568);
+    let run = run.make(Call::CopyText(TEN | 32, TEN | 41), NUMBER, 0, 1);
+    let run = run.make(Call::CopyText(TEN | 32, TEN | 42), NUMBER, 13, 0);
+    let run = run.quietly(Call::Fill(TEN | 32, 10, 7));
+    run.make(Call::CopyText(TEN | 42, TEN | 32), NUMBER, 20, 0)
 }
 
 // Moves of small-framed pointers: refusal 12.

@@ -1,5 +1,5 @@
 // The first column of each call's line: 32 places, in the order of the calls.
-pub const LABELS: [u8; 3072] = *b"set up                          \
+pub const LABELS: [u8; 3616] = *b"set up                          \
 10 bytes                        \
 20 bytes                        \
 32 bytes                        \
@@ -48,6 +48,23 @@ load 9 at 32                    \
 load 2^32 at 32                 \
 load 2^64-1 at 32               \
 store in 9, tag out of range    \
+compare 1 at 32 with 33         \
+compare 1 at 33 with 32         \
+compare 10 at 32 with itself    \
+compare 0 at 32 with itself     \
+compare 11 at 32 with itself    \
+compare 10 at 33 with 32        \
+text from 32 to 34              \
+load 8 at 34                    \
+text from 34 to 32              \
+load 8 at 32                    \
+text from 32 to 32              \
+text from 32 to 37              \
+text from 32 to 36              \
+load 8 at 32                    \
+text from 41 to 32              \
+text from 42 to 32              \
+text from 32, ten bytes of 7    \
 by 31                           \
 by 32                           \
 by -32                          \

@@ -24,6 +24,7 @@ fn main() {
     };
     let run = story::freed(story::used(story::allocated(run)));
     let run = cases::widths(cases::copies(cases::access(cases::openings(run))));
+    let run = cases::texts(cases::compares(run));
     let run = cases::tags(cases::frame_moves(cases::slot_moves(run)));
     let run = cases::frees(cases::not_open(run));
     let run = cases::damaged(cases::fresh(run));

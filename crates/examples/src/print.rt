@@ -2,6 +2,7 @@
 use crate::labels::LABELS;
 use libc::STDOUT_FILENO;
 use store::Answer;
+use store::Comparison;
 use store::Usage;
 
 // Text.
@@ -30,15 +31,15 @@ pub fn heading(t: &[u8]) {
 // The label of the call with this number, 0 the first.
 pub fn label(call: u64) {
     text(b"  ");
-    if call < 96 {
+    if call < 113 {
         let at = 32 * call as usize;
         let end = at + 32;
         text(&LABELS[at..end]);
     }
 }
 
-// Why a call was declined, by its number.
-const REASONS: [u8; 612] = *b"no reason known                     \
+// Why a call was declined, by its number; 17 to 19 are a call log's.
+const REASONS: [u8; 756] = *b"no reason known                     \
 slot exponent outside 6 to 15       \
 image length outside 64 to 2^30     \
 table too short to set up           \
@@ -54,7 +55,11 @@ move leaves slot, frame or 48 bits  \
 bytes not all inside the body       \
 width outside 1 to 8                \
 address is not the base             \
-value too large for the width       ";
+value too large for the width       \
+no reason known                     \
+no reason known                     \
+no reason known                     \
+no zero byte up to the body's end   ";
 
 // Text without the blanks at its end.
 fn trimmed(t: &[u8]) {
@@ -73,10 +78,24 @@ fn refused(number: u32) {
     text(b"refused ");
     decimal(number as u64);
     text(b": ");
-    if number < 17 {
+    if number < 21 {
         let at = 36 * number as usize;
         let end = at + 36;
         trimmed(&REASONS[at..end]);
+    }
+}
+
+// The answer of a compare.
+pub fn order(c: Comparison) {
+    let number = c.returned();
+    if number != 0 {
+        refused(number);
+    } else if c.value() < 0 {
+        text(b"-1: the left is below");
+    } else if c.value() == 0 {
+        text(b"0: none differs");
+    } else {
+        text(b"1: the left is above");
     }
 }
 

@@ -1,6 +1,7 @@
 // The calls of the store, each with its line and the answer that docs/FORMAT.md gives for it: the returned number, and the value.
 use crate::print::answer;
 use crate::print::label;
+use crate::print::order;
 use crate::print::text;
 use crate::print::usage;
 use std::num::wrapping_add_u64;
@@ -8,7 +9,7 @@ use store::Answer;
 use store::Refusal;
 use store::Usage;
 
-// The calls but tally, each with its arguments.
+// The calls but compare and tally, each with its arguments.
 pub enum Call {
     // Slot exponent.
     SetUp(u32),
@@ -26,6 +27,8 @@ pub enum Call {
     Fill(u64, u32, u8),
     // Target, source, length.
     Copy(u64, u64, u32),
+    // Target, source.
+    CopyText(u64, u64),
 }
 
 // Makes a call.
@@ -39,6 +42,7 @@ fn called(call: Call, image: &mut [u8], table: &mut [u64]) -> Answer {
         Call::Store(p, width, value) => store::store(image, table, p, width, value),
         Call::Fill(p, length, byte) => store::fill(image, table, p, length, byte),
         Call::Copy(target, source, length) => store::copy(image, table, target, source, length),
+        Call::CopyText(target, source) => store::copy_text(image, table, target, source),
     }
 }
 
@@ -123,6 +127,16 @@ impl Run {
         label(run.made);
         answer(a, form, &table);
         run.count(a.returned() == number && a.value() == value)
+    }
+
+    // Compare, on the whole image and table: the returned number and the value.
+    pub fn compare(self, left: u64, right: u64, length: u32, number: u32, value: i64) -> Run {
+        let image = self.image;
+        let table = self.table;
+        let c = store::compare(&image, &table, left, right, length);
+        label(self.made);
+        order(c);
+        self.count(c.returned() == number && c.value() == value)
     }
 
     // Tally: the returned number and the counts.

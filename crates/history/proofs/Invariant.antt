@@ -211,15 +211,19 @@ module _ {s L : ℕ} {x : State} {heap : Heap} (i : Invariant s L x heap) where
       leads k o (o .answer) e
       (rw (i .laid .fine k o e .answered) (own-pointer s k (o .size) (i .laid .shape .exponent-high) (n .fits))) .found
 
+  -- each pointer leads to its owner
+  pub owner-leads : (p : ℕ) (o : Object) → ownerOf heap p ≡ some o → located s (unpack p) x ≡ Accepted (headerOf o)
+  owner-leads p o e =
+      let w : Owned heap p o = owned heap p o (i .laid .distinct) e in
+      leads (headerOf o) o p (w .found) (i .laid .fine (headerOf o) o (w .found) .good p (w .mine)) .found
+
   -- n bytes through a pointer: refused exactly where they are not all inside its object
   pub accesses : (p : ℕ) (o : Object) (n : ℕ) → ownerOf heap p ≡ some o
       → accessed s (unpack p) n x ≡ demand (inside o p n) OutOfBounds (Accepted (unpack p .address))
   unfolding inside
   accesses p o n e =
-      let w : Owned heap p o = owned heap p o (i .laid .distinct) e in
-      let q = known (i .laid) (headerOf o) o (w .found) in
-      accessed-at s (unpack p) n x (headerOf o) (leads (headerOf o) o p (w .found) (i .laid .fine (headerOf o) o (w .found) .good p (w .mine)) .found)
-      ∙ rw (q .size, ← q .begins) refl
+      let q = known (i .laid) (headerOf o) o (owned heap p o (i .laid .distinct) e .found) in
+      accessed-at s (unpack p) n x (headerOf o) (owner-leads p o e) ∙ rw (q .size, ← q .begins) refl
 
 -- Set-up.
 

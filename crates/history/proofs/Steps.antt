@@ -1,31 +1,35 @@
 -- Each call keeps the invariant, and what it answers.
--- In order: allocate; free; a changed object; move; load; store, fill and copy. Not here: what follows for a list (`Theorem`). Assumes nothing.
-use Prim.Native.Nat.{ℕ, _+_, _^_, _≤_, _<_}
+-- In order: allocate; free; a changed object; move; load; store, fill and copy; text copy. Not here: what follows for a list (`Theorem`). Assumes nothing.
+use Prim.Native.Nat.{ℕ, _+_, _-_, _^_, _≤_, _<_}
 use mathlib.Core.Path.{_≡_, refl, sym, ap, _∙_, subst}
 use mathlib.Core.Bool.{true, false, cond, _&&_, and-true, and-false}
 use mathlib.Core.List.{List, [], _∷_, _++_}
 use mathlib.Core.Option.{Option, none, some}
 use native.Mathlib.Omega.{arith}
 use lib.ListN.{length, take, drop, replicate, length-replicate, length-drop}
-use lib.Seq.{length-take-le}
+use lib.Seq.{length-take-le, take-all}
 use lib.Dec.{leb, ltb, eqb}
 use lib.IntN.{ℤ}
-use borrow.Author.Tests.{eqb-true, eqb-false, leb-true, ltb-true}
+use borrow.Author.Tests.{eqb-true, eqb-false, leb-true, le-leb, ltb-true}
 use Rattle.frame.specs.Pointers.{unpack, pack, goodTag, reach, moved}
 use Rattle.frame.specs.Tags.{pointerTo}
 use Rattle.frame.specs.laws.Objects.{unpack-address, own-pointer, moved-pointer, own-again}
 use Rattle.frame.specs.declared.parts.Pointer.{Pointer}
 use Rattle.frame.specs.declared.parts.Moved.{Moved}
 use Rattle.frame.specs.declared.parts.Moved.the-variants.{To, Outside}
-use Rattle.block.specs.laws.Booleans.{byBool, and-left, and-right}
+use Rattle.block.specs.laws.Booleans.{byBool, refuted, true-false, and-left, and-right, and-both}
 use Rattle.block.specs.Bytes.{encode, put}
 use Rattle.block.specs.laws.Fields.{length-encode}
 use Rattle.block.specs.laws.Writes.{length-put}
+use Rattle.block.specs.Text.{textOf}
+use Rattle.block.specs.laws.Text.{text-bound}
+use Rattle.block.specs.declared.text.Text.{Text}
+use Rattle.block.specs.declared.text.Text.the-variants.{Ends, Endless}
 use Rattle.block.specs.Layout.{sizeAt}
-use Rattle.store.specs.State.{State, state, Outcome, outcome, returned, refuse}
-use Rattle.store.specs.Calls.{entryFree, carved, noted, merged, located, movedBy, goodWidth, allocate, move, load, store, fill, copy, free}
+use Rattle.store.specs.State.{State, state, Outcome, outcome, returned, demand, refuse}
+use Rattle.store.specs.Calls.{entryFree, carved, noted, merged, located, movedBy, goodWidth, allocate, move, load, store, fill, copy, textAnswer, bodyFrom, textAt, copyText, free}
 use Rattle.store.specs.laws.TagReading.{Located, located-parts}
-use Rattle.store.specs.Step.{allocates, frees, moves, loads, stores, fills, copies}
+use Rattle.store.specs.Step.{allocates, frees, moves, loads, stores, fills, copies, copiesText}
 use Rattle.store.specs.laws.Load.{load-leaves}
 use Rattle.store.specs.laws.Move.{moved-bad, moved-out, moved-in, move-outcome}
 use Rattle.store.specs.laws.Entries.{entry-is-free}
@@ -34,18 +38,19 @@ use Rattle.store.specs.laws.Allocate.{allocate-refuses-empty, allocate-refuses-
 use Rattle.store.specs.laws.Store.{store-through, store-refuses-width, store-refuses-large}
 use Rattle.store.specs.laws.Fill.{fill-through, fill-refuses-empty}
 use Rattle.store.specs.laws.Copy.{copy-through, copy-refuses-empty}
+use Rattle.store.specs.laws.CopyText.{text-ended, text-endless, text-located, copy-text-through, copy-text-refuses}
 use Rattle.store.specs.laws.Free.{free-unread, free-refuses-base, free-lost, free-merges}
 use Rattle.store.specs.declared.answer.Refusal.{Refusal}
-use Rattle.store.specs.declared.answer.Refusal.the-variants.{Empty, Unsound, NoSpace, NotBase}
+use Rattle.store.specs.declared.answer.Refusal.the-variants.{Empty, Unsound, NoSpace, NotBase, OutOfBounds, Unterminated}
 use Rattle.store.specs.declared.answer.Answer.{Answer}
 use Rattle.store.specs.declared.answer.Answer.the-variants.{Accepted, Refused}
-use Rattle.history.specs.Heap.{Object, Heap, start, member, ownerOf, offset, inside, bytesAt, written, pointed, newObject, change, without, write, copied, hear}
+use Rattle.history.specs.Heap.{Object, Heap, start, member, ownerOf, offset, inside, bytesAt, written, pointed, newObject, change, without, write, copied, textIn, copiedText, textCopied, hear}
 use Rattle.history.specs.History.{In, headerOf}
 use Rattle.history.proofs.Gaps.{Block, Layout, blockAt, Remade, Clear, patched}
 use Rattle.history.proofs.Image.{read-body, Rewritten, write-body, Carved, Fitted, room, full, fitted, Freed, freed, not-freed}
 use Rattle.history.proofs.Heap.{find, none-some, some-same, find-place, find-in, in-find, Owned, owned, find-append, distinct-append, find-change, distinct-change, change-nobody, find-without, distinct-without, without-nobody}
 use Rattle.history.proofs.Table.{Tabled, added, entry-zero, gone, same-table}
-use Rattle.history.proofs.Invariant.{Fine, Laid, Invariant, bodyIn, bytesIn, known, object-of, no-object, ranged, exponent-is, relaid, agree-cond, opens, answer-leads, accesses}
+use Rattle.history.proofs.Invariant.{Fine, Laid, Invariant, bodyIn, bytesIn, known, object-of, no-object, ranged, exponent-is, relaid, agree-cond, opens, answer-leads, owner-leads, accesses}
 
 -- every object is fine after one is put in or changed
 fine-cond : (s : ℕ) (heap new : Heap) (h : ℕ) (o : Object) → ((k : ℕ) → find new k ≡ cond (eqb k h) (some o) (find heap k)) → Fine s h o
@@ -54,6 +59,19 @@ fine-cond s heap new h o law f g k y e =
     byBool (eqb k h)
     (λ t. let v : o ≡ y = some-same (rw t at (law k)) e in rw (eqb-true k h t, ← v) f)
     (λ t. g k y (sym (rw t at (law k)) ∙ e))
+
+-- bytes inside an object, by the ends of both
+
+inside-range : (o : Object) (p n : ℕ) → inside o p n ≡ true → (start o ≤ unpack p .address) × (unpack p .address + n ≤ start o + o .size)
+unfolding inside
+inside-range o p n t = (
+  leb-true _ _ (and-left _ (leb (unpack p .address + n) (start o + o .size)) t),
+  leb-true _ _ (and-right (leb (start o) (unpack p .address)) _ t),
+)
+
+in-range : (o : Object) (p n : ℕ) → start o ≤ unpack p .address → unpack p .address + n ≤ start o + o .size → inside o p n ≡ true
+unfolding inside
+in-range o p n low high = and-both _ _ (le-leb _ _ low) (le-leb _ _ high)
 
 -- Allocate.
 
@@ -331,13 +349,11 @@ module _ {s L : ℕ} {x : State} {heap : Heap} (i : Invariant s L x heap) where
     pub fits : offset o p + n ≤ o .size
 
   pub span : (p : ℕ) (o : Object) (n : ℕ) → ownerOf heap p ≡ some o → inside o p n ≡ true → Span p o n
-  unfolding inside
   span p o n e t =
       let w : Owned heap p o = owned heap p o (i .laid .distinct) e in
       let b : start o ≡ headerOf o + 16 = known (i .laid) (headerOf o) o (w .found) .begins in
-      let low : start o ≤ unpack p .address = leb-true _ _ (and-left _ (leb (unpack p .address + n) (start o + o .size)) t) in
-      let high : unpack p .address + n ≤ start o + o .size = leb-true _ _ (and-right (leb (start o) (unpack p .address)) _ t) in
-      record { owner = w; at-address = omega arith; fits = omega arith }
+      let (low, high) = inside-range o p n t in
+      record { owner = w; at-address = omega (arith, low); fits = omega (arith, low, high) }
 
   -- they are the heap's
   pub read-through : (p : ℕ) (o : Object) (n : ℕ) → ownerOf heap p ≡ some o → inside o p n ≡ true → take n (drop (unpack p .address) (x .image)) ≡ bytesAt o p n
@@ -373,9 +389,9 @@ module _ {s L : ℕ} {x : State} {heap : Heap} (i : Invariant s L x heap) where
 
   -- so many bytes through a pointer, refused or not
   wrote-through : (p : ℕ) (o : Object) (n : ℕ) (bytes : List ℕ) → ownerOf heap p ≡ some o → length bytes ≡ n
-      → Invariant s L (through x (inside o p n) (unpack p .address) bytes .after) (write (some o) p n bytes heap)
+      → (v : ℕ) → Invariant s L (through x v (inside o p n) (unpack p .address) bytes .after) (write (some o) p n bytes heap)
   unfolding write
-  wrote-through p o n bytes e l =
+  wrote-through p o n bytes e l v =
       byBool (inside o p n)
       (λ t. rw t (wrote p o n bytes e l t))
       (λ t. rw t i)
@@ -388,7 +404,7 @@ module _ {s L : ℕ} {x : State} {heap : Heap} (i : Invariant s L x heap) where
       (λ g. byBool (ltb v (256 ^ width))
       (λ l.
       rw (store-through s x (opens i) p width v (unpack p .address) (inside o p width) g l (accesses i p o width e), g, l, e)
-      (wrote-through p o width (encode width v) e (length-encode width v)))
+      (wrote-through p o width (encode width v) e (length-encode width v) 0))
       (λ l. rw (store-refuses-large s x (opens i) p width v g l, g, l) i))
       (λ g. rw (store-refuses-width s x (opens i) p width v g, g) i)
 
@@ -399,7 +415,7 @@ module _ {s L : ℕ} {x : State} {heap : Heap} (i : Invariant s L x heap) where
       byBool (ltb 0 n)
       (λ l.
       rw (fill-through s x (opens i) p n byte (unpack p .address) (inside o p n) l (accesses i p o n e), l, e)
-      (wrote-through p o n (replicate n byte) e (length-replicate n byte)))
+      (wrote-through p o n (replicate n byte) e (length-replicate n byte) 0))
       (λ l. rw (fill-refuses-empty s x (opens i) p n byte l, l) i)
 
   -- the source's bytes are as many
@@ -410,12 +426,12 @@ module _ {s L : ℕ} {x : State} {heap : Heap} (i : Invariant s L x heap) where
       (simp length-drop (omega (arith, i .laid .fine (headerOf o) o (w .owner .found) .counted, w .fits)))
 
   copied-through : (t p : ℕ) (o o′ : Object) (n : ℕ) → ownerOf heap t ≡ some o → ownerOf heap p ≡ some o′
-      → Invariant s L (through x (inside o t n && inside o′ p n) (unpack t .address) (take n (drop (unpack p .address) (x .image))) .after)
+      → (v : ℕ) → Invariant s L (through x v (inside o t n && inside o′ p n) (unpack t .address) (take n (drop (unpack p .address) (x .image))) .after)
       (copied (some o′) t p n heap)
   unfolding copied
-  copied-through t p o o′ n e f =
+  copied-through t p o o′ n e f v =
       byBool (inside o′ p n)
-      (λ u. rw (u, e, read-through p o′ n f u, and-true (inside o t n)) (wrote-through t o n (bytesAt o′ p n) e (length-bytes p o′ n f u)))
+      (λ u. rw (u, e, read-through p o′ n f u, and-true (inside o t n)) (wrote-through t o n (bytesAt o′ p n) e (length-bytes p o′ n f u) v))
       (λ u. rw (u, and-false (inside o t n)) i)
 
   pub copy-step : (t p n : ℕ) (o o′ : Object) → ownerOf heap t ≡ some o → ownerOf heap p ≡ some o′
@@ -425,5 +441,75 @@ module _ {s L : ℕ} {x : State} {heap : Heap} (i : Invariant s L x heap) where
       byBool (ltb 0 n)
       (λ l.
       rw (copy-through s x (opens i) t p n (unpack p .address) (inside o t n) (inside o′ p n) l (accesses i t o n e) (accesses i p o′ n f), l, f)
-      (copied-through t p o o′ n e f))
+      (copied-through t p o o′ n e f 0))
       (λ l. rw (copy-refuses-empty s x (opens i) t p n l, l) i)
+
+  -- Text copy.
+
+  -- a pointer's text lies inside its object exactly where its first byte does
+  inside-text : (p : ℕ) (o : Object) (n : ℕ) → ownerOf heap p ≡ some o → textIn o p ≡ Ends n → inside o p (n + 1) ≡ inside o p 1
+  inside-text p o n e t =
+      let short : n < length (drop (offset o p) (o .bytes)) = text-bound (drop (offset o p) (o .bytes)) n t in
+      byBool (inside o p 1)
+      (λ u.
+      let w : Span p o 1 = span p o 1 e u in
+      let (low, high) = inside-range o p 1 u in
+      let long : length (drop (offset o p) (o .bytes)) ≡ o .size - offset o p =
+      length-drop (offset o p) (o .bytes) ∙ ap (λ (k : ℕ). k - offset o p) (i .laid .fine (headerOf o) o (w .owner .found) .counted)
+      in
+      in-range o p (n + 1) low (omega (arith, low, high)) ∙ sym u)
+      (λ u.
+      refuted (inside o p (n + 1))
+      (λ v. let (low, high) = inside-range o p (n + 1) v in true-false (in-range o p 1 low (omega (arith, high))) u)
+      ∙ sym u)
+
+  -- from its address to the end of the body, the image has the object's bytes
+  body-through : (p : ℕ) (o : Object) → ownerOf heap p ≡ some o → inside o p 1 ≡ true
+      → take (start o + o .size - unpack p .address) (drop (unpack p .address) (x .image)) ≡ drop (offset o p) (o .bytes)
+  body-through p o e t =
+      let n : ℕ = start o + o .size - unpack p .address in
+      let (low, high) = inside-range o p 1 t in
+      let counted : length (o .bytes) ≡ o .size = i .laid .fine (headerOf o) o (span p o 1 e t .owner .found) .counted in
+      read-through p o n e (in-range o p n low (omega (arith, low, high)))
+      ∙ take-all n (drop (offset o p) (o .bytes)) (simp length-drop (omega (arith, low, counted)))
+
+  -- the text through a pointer is that in its object's bytes
+  text-through : (p : ℕ) (o : Object) → ownerOf heap p ≡ some o → textAt s (unpack p) x ≡ demand (inside o p 1) OutOfBounds (textAnswer (textIn o p))
+  unfolding inside
+  text-through p o e =
+      let q = known (i .laid) (headerOf o) o (owned heap p o (i .laid .distinct) e .found) in
+      text-located s (unpack p) x (headerOf o) (owner-leads i p o e)
+      ∙ rw (q .size, ← q .begins)
+      (byBool (inside o p 1)
+      (λ t. rw t (ap (λ (l : List ℕ). textAnswer (textOf l)) (body-through p o e t)))
+      (λ t. rw t refl))
+
+  module _ (t p : ℕ) (o o′ : Object) (e : ownerOf heap t ≡ some o) (f : ownerOf heap p ≡ some o′) where
+    -- a text that ends is copied where its length plus one bytes of both lie inside their objects
+    pub copies-text : (n : ℕ) → textIn o′ p ≡ Ends n
+        → copyText t p x ≡ through x (n + 1) (inside o t (n + 1) && inside o′ p (n + 1)) (unpack t .address) (take (n + 1) (drop (unpack p .address) (x .image)))
+    copies-text n g =
+        let found = text-through p o′ f ∙ ap (λ (w : Text). demand (inside o′ p 1) OutOfBounds (textAnswer w)) g in
+        byBool (inside o′ p 1)
+        (λ u.
+        rw (inside-text p o′ n f g, u, and-true (inside o t (n + 1)))
+        (copy-text-through s x (opens i) t p n (inside o t (n + 1)) ((rw u at found) ∙ sym (text-ended n)) (accesses i t o (n + 1) e)))
+        (λ u.
+        rw (inside-text p o′ n f g, u, and-false (inside o t (n + 1)))
+        (copy-text-refuses s x (opens i) t p OutOfBounds (rw u at found)))
+
+    -- one that does not is refused, by 13 or 20
+    pub copies-no-text : textIn o′ p ≡ Endless → (r : Refusal) × (copyText t p x ≡ refuse r x)
+    copies-no-text g =
+        let found = text-through p o′ f ∙ ap (λ (w : Text). demand (inside o′ p 1) OutOfBounds (textAnswer w)) g in
+        byBool (inside o′ p 1)
+        (λ u. (Unterminated, copy-text-refuses s x (opens i) t p Unterminated ((rw u at found) ∙ sym text-endless)))
+        (λ u. (OutOfBounds, copy-text-refuses s x (opens i) t p OutOfBounds (rw u at found)))
+
+    pub copy-text-step : Invariant s L (copyText t p x .after) (hear heap (copiesText t p) (copyText t p x .answer))
+    unfolding hear textCopied copiedText
+    copy-text-step = rw f (go (textIn o′ p) refl)
+      where
+        go : (w : Text) → textIn o′ p ≡ w → Invariant s L (copyText t p x .after) (copiedText w (some o′) t p heap)
+        go (Ends n) g = rw (copies-text n g) (copied-through t p o o′ (n + 1) e f (n + 1))
+        go Endless g = rw (copies-no-text g .1) i

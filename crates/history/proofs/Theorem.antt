@@ -2,23 +2,27 @@
 -- In order: the induction over the list; each field of `Holds` from the invariant; the claims. Not here: the steps of single calls (`Steps`). Assumes nothing.
 use Prim.Native.Nat.{ℕ, zero, suc, _+_, _^_, _≤_, _<_}
 use mathlib.Core.Path.{_≡_, refl, sym, ap, _∙_, subst}
-use mathlib.Core.Bool.{true, false, _&&_}
+use mathlib.Core.Bool.{Bool, true, false, cond, _&&_}
 use mathlib.Core.List.{List, [], _∷_}
 use mathlib.Core.Logic.{_↔_, _⊎_}
 use mathlib.Core.Option.{Option, some}
 use native.Mathlib.Omega.{arith}
-use lib.ListN.{length}
+use lib.ListN.{length, take, drop}
 use lib.Dec.{ltb}
 use borrow.Author.Tests.{lt-ltb, ltb-true, leb-false}
 use Rattle.frame.specs.Pointers.{unpack}
 use Rattle.block.specs.laws.Booleans.{and-left, and-right, and-both, true-false}
 use Rattle.block.specs.Bytes.{decode, field}
 use Rattle.block.specs.laws.Fields.{field-bytes}
+use Rattle.block.specs.Order.{compareBytes, sign}
+use Rattle.block.specs.declared.order.Ordering.{Ordering}
+use Rattle.block.specs.declared.text.Text.{Text}
+use Rattle.block.specs.declared.text.Text.the-variants.{Ends, Endless}
 use Rattle.block.specs.Layout.{extentAt}
-use Rattle.store.specs.State.{State, Outcome, IsAccepted, returned, usageNumber}
-use Rattle.store.specs.Calls.{setUp, allocate, free, copy, tally, located}
+use Rattle.store.specs.State.{State, Outcome, IsAccepted, returned, value, comparisonNumber, comparisonValue, usageNumber}
+use Rattle.store.specs.Calls.{setUp, allocate, free, copy, compare, copyText, tally, located}
 use Rattle.store.specs.laws.Refusals.{demand-iff, refused-some}
-use Rattle.store.specs.Step.{Call, allocates, frees, moves, loads, stores, fills, copies, step}
+use Rattle.store.specs.Step.{Call, allocates, frees, moves, loads, stores, fills, copies, copiesText, step}
 use Rattle.store.specs.laws.Tally.{tally-counts, tally-balanced}
 use Rattle.store.specs.laws.SetUp.{set-up-accepted}
 use Rattle.store.specs.laws.Access.{through-iff}
@@ -26,11 +30,14 @@ use Rattle.store.specs.laws.Load.{load-through}
 use Rattle.store.specs.laws.Store.{store-through}
 use Rattle.store.specs.laws.Fill.{fill-through}
 use Rattle.store.specs.laws.Copy.{copy-through}
+use Rattle.store.specs.laws.Compare.{bytesThrough, compare-through}
 use Rattle.store.specs.declared.answer.Answer.the-variants.{Accepted}
 use Rattle.store.specs.declared.answer.Refusal.the-variants.{OutOfBounds}
+use Rattle.store.specs.declared.comparing.Comparison.{Comparison}
+use Rattle.store.specs.declared.comparing.Comparison.the-variants as comparison
 use Rattle.store.specs.declared.counting.Usage.the-variants as usage
-use Rattle.history.specs.Heap.{Object, Heap, holds, inside, hear, HearsNoOther}
-use Rattle.history.specs.History.{known, admitted, Configuration, next, after, allAdmitted, begun, In, headerOf, FreeRun, EntriesApart, PointersApart, PointersLead, FreesExactly, LoadsExactly, StoresExactly, FillsExactly, CopiesExactly, LoadsBytes, EachAllocate, Holds, Demand3}
+use Rattle.history.specs.Heap.{Object, Heap, holds, ownerOf, inside, bytesAt, textIn, hear, HearsNoOther}
+use Rattle.history.specs.History.{known, admitted, Configuration, next, after, allAdmitted, begun, In, headerOf, FreeRun, EntriesApart, PointersApart, PointersLead, FreesExactly, LoadsExactly, StoresExactly, FillsExactly, BothInside, CopiesExactly, ComparesExactly, TextsExactly, LoadsBytes, ComparesBytes, TextsCounted, EachAllocate, Holds, Demand3}
 use Rattle.history.specs.Tidiness.{MeetsNoUnsound, NeverUnsound, Balanced, StaysBalanced, Tidy, StaysTidy}
 use Rattle.history.proofs.Gaps.{Block, extent, Layout, blocks, bodies, gaps, overheads, counts, blockAt, Clear}
 use Rattle.history.proofs.Image.{counted-as, no-neighbours, free-zero, tail-zero}
@@ -38,7 +45,7 @@ use Rattle.history.proofs.Heap.{find, find-in, find-place, in-find, pla
 use Rattle.history.proofs.Table.{entries-differ}
 use Rattle.history.proofs.Invariant.{Invariant, object-of, ranged, exponent-is, opens, Leads, leads, accesses, begins-with}
 use Rattle.history.proofs.Invariant as invariant
-use Rattle.history.proofs.Steps.{Allocated, empty, no-room, given, allocated, allocate-step, Freeing, taken, declined, freeing, free-step, move-step, load-step, read-through, store-step, fill-step, copy-step}
+use Rattle.history.proofs.Steps.{Allocated, empty, no-room, given, allocated, allocate-step, Freeing, taken, declined, freeing, free-step, move-step, load-step, read-through, store-step, fill-step, copy-step, copies-text, copies-no-text, copy-text-step}
 
 -- The list.
 
@@ -59,6 +66,10 @@ steps {heap = heap} (copies t p n) i a =
     let o = known-owner heap t (and-left _ (known heap p && ltb n (2 ^ 32)) a) in
     let o′ = known-owner heap p (and-left _ (ltb n (2 ^ 32)) (and-right (known heap t) _ a)) in
     copy-step i t p n (o .0) (o′ .0) (o .1) (o′ .1)
+steps {heap = heap} (copiesText t p) i a =
+    let o = known-owner heap t (and-left _ (known heap p) a) in
+    let o′ = known-owner heap p (and-right (known heap t) _ a) in
+    copy-text-step i t p (o .0) (o′ .0) (o .1) (o′ .1)
 
 -- and so does an admitted list
 pub keeps : {s L : ℕ} (calls : List Call) (x : Configuration) → Invariant s L (x .state) (x .heap) → allAdmitted calls x ≡ true
@@ -122,20 +133,67 @@ module _ {s L : ℕ} (x : Configuration) (i : Invariant s L (x .state) (x .heap)
   store-iff : StoresExactly x
   store-iff width v g l o p e =
       rw (store-through s (x .state) (opens i) p width v (unpack p .address) (inside o p width) g (lt-ltb _ _ l) (accesses i p o width e))
-      (through-iff (x .state) (inside o p width) (unpack p .address) _)
+      (through-iff (x .state) 0 (inside o p width) (unpack p .address) _)
 
   fill-iff : FillsExactly x
   fill-iff n byte l u b o p e =
       rw (fill-through s (x .state) (opens i) p n byte (unpack p .address) (inside o p n) (lt-ltb 0 n l) (accesses i p o n e))
-      (through-iff (x .state) (inside o p n) (unpack p .address) _)
+      (through-iff (x .state) 0 (inside o p n) (unpack p .address) _)
+
+  -- two tests in one, apart
+  both-iff : {P : Type 0} (a b : Bool) → P ↔ (a && b ≡ true) → P ↔ ((a ≡ true) × (b ≡ true))
+  both-iff a b w = ((λ e. (and-left a b (w .0 e), and-right a b (w .0 e))), λ e. w .1 (and-both a b (e .0) (e .1)))
 
   copy-iff : CopiesExactly x
   copy-iff o o′ t p e f n l u =
-      let w : IsAccepted (copy t p n (x .state)) ↔ (inside o t n && inside o′ p n ≡ true) =
-      rw (copy-through s (x .state) (opens i) t p n (unpack p .address) (inside o t n) (inside o′ p n) (lt-ltb 0 n l) (accesses i t o n e) (accesses i p o′ n f))
-      (through-iff (x .state) (inside o t n && inside o′ p n) (unpack t .address) _)
+      both-iff (inside o t n) (inside o′ p n)
+      (rw (copy-through s (x .state) (opens i) t p n (unpack p .address) (inside o t n) (inside o′ p n) (lt-ltb 0 n l) (accesses i t o n e) (accesses i p o′ n f))
+      (through-iff (x .state) 0 (inside o t n && inside o′ p n) (unpack t .address) _))
+
+  -- two pointers' bytes, compared where both lie inside their objects
+  compares-both : (o o′ : Object) (p q : ℕ) → ownerOf (x .heap) p ≡ some o → ownerOf (x .heap) q ≡ some o′ → (n : ℕ) → 0 < n
+      → compare p q n (x .state)
+      ≡ cond (inside o p n && inside o′ q n) (comparison.Ordered (compareBytes (bytesThrough (x .state) n p) (bytesThrough (x .state) n q)))
+      (comparison.Refused OutOfBounds)
+  compares-both o o′ p q e f n l =
+      compare-through s (x .state) (opens i) p q n (inside o p n) (inside o′ q n) (lt-ltb 0 n l) (accesses i p o n e) (accesses i q o′ n f)
+
+  compare-iff : ComparesExactly x
+  compare-iff o o′ p q e f n l u = both-iff (inside o p n) (inside o′ q n) (rw (compares-both o o′ p q e f n l) (decided (inside o p n && inside o′ q n) _))
+    where
+      decided : (b : Bool) (c : Ordering) → (comparisonNumber (cond b (comparison.Ordered c) (comparison.Refused OutOfBounds)) ≡ 0) ↔ (b ≡ true)
+      decided true c = ((λ e. refl), λ e. refl)
+      decided false c = ((λ e. absurd (omega arith)), λ (e : false ≡ true). absurd (true-false e refl))
+
+  compare-value : ComparesBytes x
+  compare-value o o′ p q e f n l u a =
+      let (t, v) = compare-iff o o′ p q e f n l u .0 a in
+      rw (compares-both o o′ p q e f n l, t, v, read-through i p o n e t, read-through i q o′ n f v) refl
+
+  text-iff : TextsExactly x
+  text-iff o o′ t p e f = go (textIn o′ p) refl
+    where
+      go : (w : Text) → textIn o′ p ≡ w → IsAccepted (copyText t p (x .state)) ↔ ((n : ℕ) × (textIn o′ p ≡ Ends n) × BothInside o o′ t p (n + 1))
+      go (Ends n) g =
+          let w : IsAccepted (copyText t p (x .state)) ↔ BothInside o o′ t p (n + 1) =
+          both-iff (inside o t (n + 1)) (inside o′ p (n + 1))
+          (rw (copies-text i t p o o′ e f n g) (through-iff (x .state) (n + 1) (inside o t (n + 1) && inside o′ p (n + 1)) (unpack t .address) _))
+          in
+          ((λ a. (n, g, w .0 a)), λ (b : (m : ℕ) × (textIn o′ p ≡ Ends m) × BothInside o o′ t p (m + 1)). let same : b .0 ≡ n = cc (b .1, g) in w .1 (rw same at (b .2)))
+      go Endless g =
+          let (r, q) = copies-no-text i t p o o′ e f g in (
+            (λ (a : IsAccepted (copyText t p (x .state))). absurd (refused-some r (sym (ap (λ (z : Outcome). returned (z .answer)) q) ∙ a))),
+            λ (b : (m : ℕ) × (textIn o′ p ≡ Ends m) × BothInside o o′ t p (m + 1)). let z : _≡_ {A = ℕ} 0 1 = cc (b .1, g) in absurd (omega arith),
+          )
+
+  text-value : TextsCounted x
+  text-value o o′ t p e f n g a =
+      let q = copies-text i t p o o′ e f n g in
+      let w : inside o t (n + 1) && inside o′ p (n + 1) ≡ true =
+      through-iff (x .state) (n + 1) (inside o t (n + 1) && inside o′ p (n + 1)) (unpack t .address) (take (n + 1) (drop (unpack p .address) (x .state .image))) .0
+      (rw q at a)
       in
-      ((λ a. (and-left _ (inside o′ p n) (w .0 a), and-right (inside o t n) _ (w .0 a))), λ b. w .1 (and-both _ _ (b .0) (b .1)))
+      rw (q, w) refl
 
   -- runs outside every live extent are those outside every live block
 
@@ -232,7 +290,11 @@ module _ {s L : ℕ} (x : Configuration) (i : Invariant s L (x .state) (x .heap)
         stores = store-iff;
         fills = fill-iff;
         copies = copy-iff;
+        compares = compare-iff;
+        texts = text-iff;
         reads = load-value;
+        orders = compare-value;
+        text-counts = text-value;
         no-conflict = never 9 (λ z. omega arith) (λ z. omega arith) (λ z. omega arith);
         room = has-room;
         no-space = has-none;
@@ -293,3 +355,4 @@ hears-no-other heap (loads p width) a a′ e = refl
 hears-no-other heap (stores p width v) a a′ e = refl
 hears-no-other heap (fills p n byte) a a′ e = refl
 hears-no-other heap (copies t p n) a a′ e = refl
+hears-no-other heap (copiesText t p) a a′ e = refl

@@ -8,20 +8,22 @@ use Rattle.frame.specs.Frame.{frameNumber, frameNumberIn}
 use Rattle.frame.specs.Pointers.{unpack, pack, goodTag, reach, landed, moved}
 use Rattle.frame.specs.Tags.{wrapper, tagNumber, pointerTo, tagMatches, usedEntries, entryAt}
 use Rattle.block.specs.Bytes.{encode, decode, field, put}
+use Rattle.block.specs.Text.{textFrom, textOf}
 use Rattle.block.specs.Layout.{superblock, superblockGood, header, headerAt, wellFormed, sound}
 use Rattle.block.specs.Walk.{walkIn, walkFrom, walk, fitOf, firstFit, metOf, walkTo, countOf, countBlocks}
 use Rattle.store.specs.State.{state}
-use Rattle.store.specs.Calls.{setUpChecks, fresh, setUp, opening, entryFree, fitAnswer, allocateChecks, carved, noted, allocate, headerPlace, verified, leadsBack, located, inBody, accessed, movedAnswer, moveAnswer, move, loadAnswer, load, storeChecks, store, fillChecks, fill, copyChecks, copy, mergeEnd, mergeStart, released, freeChecks, releasedAt, freeRelease, merged, freed, free, tallyOpened, tallyCounted, tally}
+use Rattle.store.specs.Calls.{setUpChecks, fresh, setUp, opening, entryFree, fitAnswer, allocateChecks, carved, noted, allocate, headerPlace, verified, leadsBack, located, inBody, accessed, movedAnswer, moveAnswer, move, loadAnswer, load, storeChecks, store, fillChecks, fill, copyChecks, copy, textAnswer, textAt, copyTextChecks, copyText, mergeEnd, mergeStart, released, freeChecks, releasedAt, freeRelease, merged, freed, free, tallyOpened, tallyCounted, tally}
 use Rattle.store.specs.declared.counting.Usage.the-variants as usage
-use Rattle.store.specs.Step.{Call, allocates, frees, moves, loads, stores, fills, copies}
-use Rattle.history.specs.Heap.{member, ownerOf, inside, change, without, write, copied, hear}
+use Rattle.store.specs.Step.{Call, allocates, frees, moves, loads, stores, fills, copies, copiesText}
+use Rattle.history.specs.Heap.{member, ownerOf, inside, change, without, write, copied, copiedText, textCopied, hear}
 use Rattle.history.specs.History.{Configuration, begun, after, allAdmitted, known}
 
 -- an image of 128 bytes and a table, full of other bytes, set up at the slot exponent 6
 abbrev fresh6 : Configuration
 fresh6 = begun 6 (state (replicate 128 7) (replicate 60 9))
 
--- two objects; one is written through a moved pointer, copied to the other, and freed; the other takes a number of 3 bytes; some calls are refused
+-- two objects; one is written through a moved pointer, its bytes and then its text are copied to the other, and it is freed; the other takes a number of
+-- 3 bytes; some calls are refused
 abbrev pub calls : List Call
 calls =
     allocates 10 1
@@ -32,6 +34,8 @@ calls =
     ∷ stores 0x8010000000000026 8 0
     ∷ fills 0x8010000000000020 3 5
     ∷ copies 0x802A00000000003A 0x8010000000000026 4
+    ∷ copiesText 0x802A00000000003A 0x8010000000000026
+    ∷ copiesText 0x802A00000000003A 0x8010000000000020
     ∷ stores 0x802A00000000003A 3 0x070605
     ∷ loads 0x802A00000000003A 3
     ∷ loads 0x123456789 4
@@ -41,10 +45,10 @@ calls =
     ∷ frees 0x8010000000000020
     ∷ []
 
--- each of them is admitted; the abstract heap is left with the second object, which holds the number and the last byte that was copied to it; tally counts
--- that object, the two gaps around it, and its header
+-- each of them is admitted; the abstract heap is left with the second object, which holds the number and the zero byte of the text; tally counts that
+-- object, the two gaps around it, and its header
 pub admitted-calls : (allAdmitted calls fresh6 ≡ true)
-    × (after calls fresh6 .heap ≡ record { answer = 0x802A00000000003A; size = 4; pointers = 0x802A00000000003A ∷ []; bytes = 5 ∷ 6 ∷ 7 ∷ 4 ∷ [] } ∷ [])
+    × (after calls fresh6 .heap ≡ record { answer = 0x802A00000000003A; size = 4; pointers = 0x802A00000000003A ∷ []; bytes = 5 ∷ 6 ∷ 7 ∷ 0 ∷ [] } ∷ [])
     × (tally (after calls fresh6 .state) ≡ usage.Counts 1 4 92 16)
-unfolding frameNumber frameNumberIn unpack pack goodTag reach landed moved wrapper tagNumber pointerTo tagMatches usedEntries entryAt encode decode field put superblock superblockGood header headerAt wellFormed sound walkIn walkFrom walk fitOf firstFit metOf walkTo setUpChecks fresh setUp opening entryFree fitAnswer allocateChecks carved noted allocate headerPlace verified leadsBack located inBody accessed movedAnswer moveAnswer move loadAnswer load storeChecks store fillChecks fill copyChecks copy mergeEnd mergeStart released freeChecks releasedAt freeRelease merged freed free member ownerOf inside change without write copied hear after allAdmitted known countOf countBlocks tallyOpened tallyCounted tally
+unfolding frameNumber frameNumberIn unpack pack goodTag reach landed moved wrapper tagNumber pointerTo tagMatches usedEntries entryAt encode decode field put superblock superblockGood header headerAt wellFormed sound walkIn walkFrom walk fitOf firstFit metOf walkTo setUpChecks fresh setUp opening entryFree fitAnswer allocateChecks carved noted allocate headerPlace verified leadsBack located inBody accessed movedAnswer moveAnswer move loadAnswer load storeChecks store fillChecks fill copyChecks copy textFrom textOf textAnswer textAt copyTextChecks copyText mergeEnd mergeStart released freeChecks releasedAt freeRelease merged freed free member ownerOf inside change without write copied copiedText textCopied hear after allAdmitted known countOf countBlocks tallyOpened tallyCounted tally
 admitted-calls = (refl, refl, refl)

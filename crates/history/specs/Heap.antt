@@ -8,9 +8,12 @@ use lib.ListN.{take, drop, replicate}
 use lib.Dec.{leb, ltb, eqb}
 use Rattle.frame.specs.Pointers.{unpack}
 use Rattle.block.specs.Bytes.{encode, put}
+use Rattle.block.specs.Text.{textOf}
+use Rattle.block.specs.declared.text.Text.{Text}
+use Rattle.block.specs.declared.text.Text.the-variants.{Ends, Endless}
 use Rattle.store.specs.State.{returned, value}
 use Rattle.store.specs.Calls.{goodWidth}
-use Rattle.store.specs.Step.{Call, allocates, frees, moves, loads, stores, fills, copies}
+use Rattle.store.specs.Step.{Call, allocates, frees, moves, loads, stores, fills, copies, copiesText}
 use Rattle.store.specs.declared.answer.Answer.{Answer}
 
 -- A live object: allocate's answer, the size, the set of its pointers, and as many bytes as the size.
@@ -87,6 +90,20 @@ unfoldable pub copied : Option Object → ℕ → ℕ → ℕ → Heap → Heap
 copied none t p n heap = heap
 copied (some o) t p n heap = cond (inside o p n) (write (ownerOf heap t) t n (bytesAt o p n) heap) heap
 
+-- the text in the object's bytes from the pointer's address on
+abbrev pub textIn : Object → ℕ → Text
+textIn o p = textOf (drop (offset o p) (o .bytes))
+
+-- a text written through the target, as a copy of its length plus one bytes; no change where no zero byte ends it
+unfoldable pub copiedText : Text → Option Object → ℕ → ℕ → Heap → Heap
+copiedText (Ends n) o t p heap = copied o t p (n + 1) heap
+copiedText Endless o t p heap = heap
+
+-- the text of the source's object written through the target
+unfoldable pub textCopied : Option Object → ℕ → ℕ → Heap → Heap
+textCopied none t p heap = heap
+textCopied (some o) t p heap = copiedText (textIn o p) (some o) t p heap
+
 -- an answer that says accepted
 abbrev pub accepted : Answer → Bool
 accepted a = eqb (returned a) 0
@@ -101,6 +118,7 @@ hear heap (stores p width v) a =
     cond (goodWidth width && ltb v (256 ^ width)) (write (ownerOf heap p) p width (encode width v) heap) heap
 hear heap (fills p n byte) a = cond (ltb 0 n) (write (ownerOf heap p) p n (replicate n byte) heap) heap
 hear heap (copies t p n) a = cond (ltb 0 n) (copied (ownerOf heap p) t p n heap) heap
+hear heap (copiesText t p) a = textCopied (ownerOf heap p) t p heap
 
 -- the calls whose answers it looks at
 abbrev pub heard : Call → Bool
@@ -111,6 +129,7 @@ heard (loads p width) = false
 heard (stores p width v) = false
 heard (fills p n byte) = false
 heard (copies t p n) = false
+heard (copiesText t p) = false
 
 -- The heap takes nothing from any other call's answer.
 unfoldable pub HearsNoOther : Type 0

@@ -1,5 +1,5 @@
 -- Demand 3, one claim about every list of calls from a freshly set up image and table, and demand 2's part on such lists: document 01,
--- "Demand 3's list and book" and "Why a call was declined". Assumes nothing.
+-- "Demand 3's list and book" and "Why a call was declined", and document 02. Assumes nothing.
 use Prim.Native.Nat.{ℕ, _+_, _-_, _^_, _≤_, _<_}
 use mathlib.Core.Path.{_≡_}
 use mathlib.Core.Logic.{_⊎_, _↔_}
@@ -12,11 +12,13 @@ use lib.IntN.{ℤ, pos, negsuc}
 use Rattle.frame.specs.Pointers.{unpack, goodTag}
 use Rattle.frame.specs.Tags.{isSmall, entryOf}
 use Rattle.block.specs.Bytes.{decode}
+use Rattle.block.specs.Order.{compareBytes, sign}
+use Rattle.block.specs.declared.text.Text.the-variants.{Ends}
 use Rattle.block.specs.Layout.{slotExponent, extentAt, sizeAt}
-use Rattle.store.specs.State.{State, Outcome, IsAccepted, returned, value}
-use Rattle.store.specs.Calls.{setUp, allocate, load, store, free, fill, copy, goodWidth, leadsBack, headerPlace}
-use Rattle.store.specs.Step.{Call, allocates, frees, moves, loads, stores, fills, copies, step}
-use Rattle.history.specs.Heap.{Object, Heap, start, holds, ownerOf, inside, bytesAt, hear}
+use Rattle.store.specs.State.{State, Outcome, IsAccepted, returned, value, comparisonNumber, comparisonValue}
+use Rattle.store.specs.Calls.{setUp, allocate, load, store, free, fill, copy, compare, copyText, goodWidth, leadsBack, headerPlace}
+use Rattle.store.specs.Step.{Call, allocates, frees, moves, loads, stores, fills, copies, copiesText, step}
+use Rattle.history.specs.Heap.{Object, Heap, start, holds, ownerOf, inside, bytesAt, textIn, hear}
 
 -- Lists.
 
@@ -30,7 +32,7 @@ abbrev pub signed64 : ℤ → Bool
 signed64 (pos n) = ltb n (2 ^ 63)
 signed64 (negsuc n) = ltb n (2 ^ 63)
 
--- What a list may hold: arguments that are numbers of their types, and for store, fill and copy only pointers of live objects.
+-- What a list may hold: arguments that are numbers of their types, and for store, fill, copy and text copy only pointers of live objects.
 abbrev pub admitted : Heap → Call → Bool
 admitted heap (allocates size type) = ltb size (2 ^ 32) && ltb type (2 ^ 16)
 admitted heap (frees p) = ltb p (2 ^ 64)
@@ -39,6 +41,7 @@ admitted heap (loads p width) = ltb p (2 ^ 64) && ltb width (2 ^ 64)
 admitted heap (stores p width v) = known heap p && (ltb width (2 ^ 64) && ltb v (2 ^ 64))
 admitted heap (fills p n byte) = known heap p && (ltb n (2 ^ 32) && ltb byte 256)
 admitted heap (copies t p n) = known heap t && (known heap p && ltb n (2 ^ 32))
+admitted heap (copiesText t p) = known heap t && known heap p
 
 -- An image and table with the abstract heap beside them.
 pub record Configuration : Type 0 where
@@ -121,17 +124,46 @@ StoresExactly x = (width v : ℕ) → goodWidth width ≡ true → v < 256 ^ wid
 abbrev pub FillsExactly : Configuration → Type 0
 FillsExactly x = (n byte : ℕ) → 0 < n → n < 2 ^ 32 → byte < 256 → Exactly x n (λ p. fill p n byte)
 
--- a copy, when both the target's bytes and the source's lie inside their objects
+-- a claim about pointers of two live objects, which may be one
+abbrev pub EachTwo : Configuration → (Object → Object → ℕ → ℕ → Type 0) → Type 0
+EachTwo x P = (o o′ : Object) (p q : ℕ) → ownerOf (x .heap) p ≡ some o → ownerOf (x .heap) q ≡ some o′ → P o o′ p q
+
+-- n bytes from each pointer's address on lie inside its object
+abbrev pub BothInside : Object → Object → ℕ → ℕ → ℕ → Type 0
+BothInside o o′ p q n = (inside o p n ≡ true) × (inside o′ q n ≡ true)
+
+-- a copy, when both the target's bytes and the source's do
 abbrev pub CopiesExactly : Configuration → Type 0
 CopiesExactly x =
-    (o o′ : Object) (t p : ℕ) → ownerOf (x .heap) t ≡ some o → ownerOf (x .heap) p ≡ some o′ → (n : ℕ) → 0 < n → n < 2 ^ 32
-    → IsAccepted (copy t p n (x .state)) ↔ ((inside o t n ≡ true) × (inside o′ p n ≡ true))
+    EachTwo x λ o o′ t p. (n : ℕ) → 0 < n → n < 2 ^ 32 → IsAccepted (copy t p n (x .state)) ↔ BothInside o o′ t p n
+
+-- a compare, when both the left's bytes and the right's do
+abbrev pub ComparesExactly : Configuration → Type 0
+ComparesExactly x =
+    EachTwo x λ o o′ p q. (n : ℕ) → 0 < n → n < 2 ^ 32 → (comparisonNumber (compare p q n (x .state)) ≡ 0) ↔ BothInside o o′ p q n
+
+-- a text copy, when a zero byte of the source's object ends the text there, and its length plus one bytes of both do
+abbrev pub TextsExactly : Configuration → Type 0
+TextsExactly x =
+    EachTwo x λ o o′ t p.
+    IsAccepted (copyText t p (x .state)) ↔ ((n : ℕ) × (textIn o′ p ≡ Ends n) × BothInside o o′ t p (n + 1))
 
 -- an accepted load gives the heap's bytes, little-endian
 abbrev pub LoadsBytes : Configuration → Type 0
 LoadsBytes x =
     (o : Object) (p : ℕ) → ownerOf (x .heap) p ≡ some o → (width : ℕ) → goodWidth width ≡ true
     → IsAccepted (load p width (x .state)) → value (load p width (x .state) .answer) ≡ decode (bytesAt o p width)
+
+-- an accepted compare gives how the heap's bytes stand to each other
+abbrev pub ComparesBytes : Configuration → Type 0
+ComparesBytes x =
+    EachTwo x λ o o′ p q. (n : ℕ) → 0 < n → n < 2 ^ 32 → comparisonNumber (compare p q n (x .state)) ≡ 0
+    → comparisonValue (compare p q n (x .state)) ≡ sign (compareBytes (bytesAt o p n) (bytesAt o′ q n))
+
+-- an accepted text copy gives the length of the heap's text plus one
+abbrev pub TextsCounted : Configuration → Type 0
+TextsCounted x =
+    EachTwo x λ o o′ t p. (n : ℕ) → textIn o′ p ≡ Ends n → IsAccepted (copyText t p (x .state)) → value (copyText t p (x .state) .answer) ≡ n + 1
 
 -- a claim about the number that each allocate returns
 abbrev pub EachAllocate : State → (ℕ → ℕ → Type 0) → Type 0
@@ -146,13 +178,17 @@ pub record Holds (s : ℕ) (x : Configuration) : Type 0 where
   pub entries : Pairwise (x .heap) (EntriesApart s)
   pub pointers : Pairwise (x .heap) PointersApart
   pub leads : PointersLead s x
-  -- calls are accepted exactly when they should be, and a load gives what was last written
+  -- calls are accepted exactly when they should be; a load gives what was last written, and compare and text copy go by it
   pub frees : FreesExactly x
   pub loads : LoadsExactly x
   pub stores : StoresExactly x
   pub fills : FillsExactly x
   pub copies : CopiesExactly x
+  pub compares : ComparesExactly x
+  pub texts : TextsExactly x
   pub reads : LoadsBytes x
+  pub orders : ComparesBytes x
+  pub text-counts : TextsCounted x
   -- allocate never answers 9; a nonzero size is accepted exactly when some run is long enough, and gets 8 exactly when none is
   pub no-conflict : EachAllocate (x .state) (λ size r. r ≡ 9 → ⊥)
   pub room : EachAllocate (x .state) (λ size r. 0 < size → (r ≡ 0) ↔ ((a : ℕ) × FreeRun x a (16 + size)))

@@ -4,7 +4,7 @@ use Prim.Native.Nat.{ℕ, _+_, _^_, _≤_, _<_}
 use mathlib.Core.Path.{_≡_, refl, sym, ap, _∙_, subst}
 use mathlib.Core.List.{List}
 use native.Mathlib.Omega.{arith}
-use lib.IntN.{ℤ}
+use lib.IntN.{ℤ, pos}
 use lib.ListN.{length, take, drop, replicate, length-append, length-drop, length-replicate}
 use lib.Seq.{drop-at, length-take-le}
 use borrow.Author.Tests.{eq-eqb}
@@ -18,8 +18,8 @@ use Rattle.block.specs.laws.Writes.{length-put, field-put}
 use Rattle.block.specs.Layout.{slotExponent, sizeAt, extentAt}
 use Rattle.block.specs.laws.Soundness.{sound-low, sound-end, sound-live-at}
 use Rattle.block.specs.declared.header.Header.{Header}
-use Rattle.store.specs.State.{State, state, Outcome, IsAccepted, returned, value, usageNumber, liveObjects, liveBytes, freeBytes, overheadBytes}
-use Rattle.store.specs.Calls.{setUpChecks, setUp, fresh, cleared, allocateChecks, allocate, carved, noted, freeRelease, free, move, moveAnswer, load, loadAnswer, storeChecks, store, fillChecks, fill, copyChecks, copy, tally}
+use Rattle.store.specs.State.{State, state, Outcome, IsAccepted, returned, value, comparisonNumber, comparisonValue, usageNumber, liveObjects, liveBytes, freeBytes, overheadBytes}
+use Rattle.store.specs.Calls.{setUpChecks, setUp, fresh, cleared, allocateChecks, allocate, carved, noted, freeRelease, free, move, moveAnswer, load, loadAnswer, storeChecks, store, fillChecks, fill, copyChecks, copy, compare, copyTextChecks, copyText, tally}
 use Rattle.store.specs.laws.Refusals.{refused-some}
 use Rattle.store.specs.laws.SetUp.{Settable, settable-parts, set-up-declined, set-up-done, length-fresh}
 use Rattle.store.specs.laws.Opening.{Open, opening-kept}
@@ -30,8 +30,10 @@ use Rattle.store.specs.laws.Free.{Frees, free-parts, free-declined, free
 use Rattle.store.specs.laws.Store.{Stores, store-parts, store-declined, store-done}
 use Rattle.store.specs.laws.Fill.{fill-parts, fill-declined, fill-done}
 use Rattle.store.specs.laws.Copy.{Copies, copy-parts, copy-declined, copy-done}
-use Rattle.store.specs.Step.{Call, allocates, frees, moves, loads, stores, fills, copies, step}
-use Rattle.store.specs.Claims.{RefusalsKeep, KeepsShape, ShapesKept, PointsBack, LeadsBack, ReadsBack, CountsAll}
+use Rattle.store.specs.laws.Compare.{swapped-order, transitive-order}
+use Rattle.store.specs.laws.CopyText.{CopiesText, copy-text-parts, copy-text-declined, copy-text-done}
+use Rattle.store.specs.Step.{Call, allocates, frees, moves, loads, stores, fills, copies, copiesText, step}
+use Rattle.store.specs.Claims.{RefusalsKeep, KeepsShape, ShapesKept, PointsBack, LeadsBack, ReadsBack, CountsAll, ComparesInOrder}
 use Rattle.store.specs.laws.Load.{load-given, load-leaves}
 use Rattle.store.specs.laws.Move.{move-leaves}
 use Rattle.store.specs.laws.Entries.{length-noted, noted-beyond, noted-entry}
@@ -40,6 +42,8 @@ use Rattle.store.specs.declared.answer.Answer.{Answer}
 use Rattle.store.specs.declared.answer.Answer.the-variants.{Accepted, Refused}
 use Rattle.store.specs.declared.release.Release.{Release}
 use Rattle.store.specs.declared.release.Release.the-variants as release
+use Rattle.store.specs.declared.comparing.Comparison.{Comparison}
+use Rattle.store.specs.declared.comparing.Comparison.the-variants as comparison
 use Rattle.store.specs.declared.counting.Usage.{Usage}
 use Rattle.store.specs.declared.counting.Usage.the-variants as usage
 
@@ -170,6 +174,19 @@ module _ (x : State) where
           subst (Ended exponent x) (copy-done target source n x a e)
           (accepted refl (written exponent x (unpack target .address) (take n (drop a (x .image))) (omega (arith, p .to .inside))))
 
+  -- text copy
+  ended-copy-text : (target source : ℕ) → Ended exponent x (copyText target source x)
+  ended-copy-text target source = go (copyTextChecks target source x) refl
+    where
+      go : (a : Answer) → copyTextChecks target source x ≡ a → Ended exponent x (copyText target source x)
+      go (Refused r) e = subst (Ended exponent x) (copy-text-declined target source x r e) (refused refl refl)
+      go (Accepted n) e =
+          let p : CopiesText target source x n = copy-text-parts target source x n e in
+          let bytes : List ℕ = take n (drop (unpack source .address) (x .image)) in
+          let m : length bytes ≡ n = length-take-le n (drop (unpack source .address) (x .image)) (simp length-drop (omega (arith, p .bytes, p .from .inside))) in
+          subst (Ended exponent x) (copy-text-done target source x n e)
+          (accepted refl (written exponent x (unpack target .address) bytes (omega (arith, p .to .inside))))
+
   -- every call
   ended : (c : Call) → Ended exponent x (step c x)
   ended (allocates size type) = ended-allocate size type
@@ -179,6 +196,7 @@ module _ (x : State) where
   ended (stores p width v) = ended-store p width v
   ended (fills p n byte) = ended-fill p n byte
   ended (copies t p n) = ended-copy t p n
+  ended (copiesText t p) = ended-copy-text t p
 
 -- what that says of a refusal, and of every shape
 
@@ -191,6 +209,11 @@ ended-keeps s x r (accepted a k) n = absurd (n a)
 ended-shape : (s : ℕ) (x : State) (r : Outcome) → Ended s x r → KeepsShape s x (r .after)
 ended-shape s x r (refused e f) = subst (KeepsShape s x) (sym e) (kept s x)
 ended-shape s x r (accepted a k) = k
+
+-- a refused compare gives no value
+comparison-refused : (c : Comparison) → (comparisonNumber c ≡ 0 → ⊥) → comparisonValue c ≡ pos 0
+comparison-refused (comparison.Ordered o) n = absurd (n refl)
+comparison-refused (comparison.Refused r) n = refl
 
 -- a refused tally gives no values
 usage-refused : (u : Usage) → (usageNumber u ≡ 0 → ⊥) → (liveObjects u ≡ 0) × (liveBytes u ≡ 0) × (freeBytes u ≡ 0) × (overheadBytes u ≡ 0)
@@ -205,6 +228,7 @@ refusals-keep =
     record {
       set-up = λ s x n. ended-keeps s x (setUp s x) (ended-set-up s x) n;
       calls = λ c x n. ended-keeps (exponent x) x (step c x) (ended x c) n;
+      compares = λ p q n x e. comparison-refused (compare p q n x) e;
       counts = λ x n. usage-refused (tally x) n;
     }
 
@@ -308,3 +332,7 @@ reads-back p width v x e = go (storeChecks p width v x) refl
 pub counts-all : CountsAll
 unfolding CountsAll
 counts-all = tally-balanced
+
+-- compare is an order
+pub compares-in-order : ComparesInOrder
+compares-in-order = record { swapped = swapped-order; transitive = transitive-order }

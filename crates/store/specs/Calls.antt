@@ -1,5 +1,5 @@
--- What each call answers and leaves: document 01, "Calls" and "Why a call was declined". The order of the rows is the order of the tests.
--- Assumes nothing.
+-- What each call answers and leaves: document 01, "Calls" and "Why a call was declined", and document 02. The order of the rows is the order of the
+-- tests. Assumes nothing.
 use Prim.Native.Nat.{ℕ, _+_, _-_, _^_}
 use mathlib.Core.Bool.{Bool, cond, _&&_, _||_}
 use mathlib.Core.List.{List, _++_}
@@ -13,8 +13,12 @@ use Rattle.frame.specs.declared.parts.Pointer.{Pointer}
 use Rattle.frame.specs.declared.parts.Moved.{Moved}
 use Rattle.frame.specs.declared.parts.Moved.the-variants.{To, Outside}
 use Rattle.block.specs.Bytes.{encode, field, put}
+use Rattle.block.specs.Order.{compareBytes}
+use Rattle.block.specs.Text.{textOf}
 use Rattle.block.specs.Layout.{within, superblock, superblockGood, slotExponent, goodExponent, goodLength, freeHeader, liveHeader, sound, isFree, isLive, extentAt, sizeAt}
 use Rattle.block.specs.Walk.{firstFit, walkTo, countBlocks}
+use Rattle.block.specs.declared.text.Text.{Text}
+use Rattle.block.specs.declared.text.Text.the-variants.{Ends, Endless}
 use Rattle.block.specs.declared.walk.Fit.{Fit}
 use Rattle.block.specs.declared.walk.Fit.the-variants as fit
 use Rattle.block.specs.declared.walk.Met.{Met}
@@ -22,11 +26,13 @@ use Rattle.block.specs.declared.walk.Met.the-variants as met
 use Rattle.block.specs.declared.walk.Counted.{Counted}
 use Rattle.block.specs.declared.walk.Counted.the-variants as counted
 use Rattle.store.specs.State.{State, Outcome, outcome, demand, andThen, refuse, conclude}
-use Rattle.store.specs.declared.answer.Refusal.the-variants.{BadExponent, BadLength, TooFewEntries, BadSuperblock, ShortTable, Empty, Unsound, NoSpace, EntryTaken, BadTag, Dangling, Leaves, OutOfBounds, BadWidth, NotBase, TooLarge}
+use Rattle.store.specs.declared.answer.Refusal.the-variants.{BadExponent, BadLength, TooFewEntries, BadSuperblock, ShortTable, Empty, Unsound, NoSpace, EntryTaken, BadTag, Dangling, Leaves, OutOfBounds, BadWidth, NotBase, TooLarge, Unterminated}
 use Rattle.store.specs.declared.answer.Answer.{Answer}
 use Rattle.store.specs.declared.answer.Answer.the-variants.{Accepted, Refused}
 use Rattle.store.specs.declared.release.Release.{Release}
 use Rattle.store.specs.declared.release.Release.the-variants as release
+use Rattle.store.specs.declared.comparing.Comparison.{Comparison}
+use Rattle.store.specs.declared.comparing.Comparison.the-variants as comparison
 use Rattle.store.specs.declared.counting.Usage.{Usage}
 use Rattle.store.specs.declared.counting.Usage.the-variants as usage
 
@@ -201,6 +207,45 @@ unfoldable pub copy : ℕ → ℕ → ℕ → State → Outcome
 copy target source n x =
     conclude x (copyChecks target source n x) λ a.
     outcome (Accepted 0) (put (x .image) (unpack target .address) (take n (drop a (x .image)))) (x .table)
+
+-- Compare: 6, the left's 10, 11, 13, the right's, which are copy's tests of the two.
+
+-- what follows where they are passed, on the right's address
+unfoldable pub compared : Answer → List ℕ → ℕ → ℕ → Comparison
+compared (Accepted b) image a n = comparison.Ordered (compareBytes (take n (drop a image)) (take n (drop b image)))
+compared (Refused r) image a n = comparison.Refused r
+
+-- its answer: how the left's bytes stand to the right's
+unfoldable pub compare : ℕ → ℕ → ℕ → State → Comparison
+compare left right n x = compared (copyChecks left right n x) (x .image) (unpack left .address) n
+
+-- Text copy: the source's 10, 11, 13 (its first byte), 20, the target's 10, 11, 13 (all bytes).
+
+-- 20: a zero byte ends the text; the number is its length, without that byte
+unfoldable pub textAnswer : Text → Answer
+textAnswer (Ends n) = Accepted n
+textAnswer Endless = Refused Unterminated
+
+-- the bytes of the object at h, from the pointer's address to the end of the body
+abbrev pub bodyFrom : List ℕ → ℕ → Pointer → List ℕ
+bodyFrom image h p = take (h + 16 + sizeAt image h - p .address) (drop (p .address) image)
+
+-- the text at a pointer: 10, 11, 13 for its first byte, 20
+unfoldable pub textAt : ℕ → Pointer → State → Answer
+textAt s p x =
+    andThen (located s p x) λ h. demand (inBody (x .image) h p 1) OutOfBounds (textAnswer (textOf (bodyFrom (x .image) h p)))
+
+-- its tests; the number is how many bytes are copied: the text's length plus one
+unfoldable pub copyTextChecks : ℕ → ℕ → State → Answer
+copyTextChecks target source x =
+    andThen (opening x) λ s.
+    andThen (textAt s (unpack source) x) λ n. andThen (accessed s (unpack target) (n + 1) x) λ a. Accepted (n + 1)
+
+-- its outcome: the source's text and its zero byte, as they stood before, and how many bytes these are
+unfoldable pub copyText : ℕ → ℕ → State → Outcome
+copyText target source x =
+    conclude x (copyTextChecks target source x) λ n.
+    outcome (Accepted n) (put (x .image) (unpack target .address) (take n (drop (unpack source .address) (x .image)))) (x .table)
 
 -- Free: 10, 11, 15, 7.
 

@@ -1,16 +1,18 @@
--- What holds of single calls on every image and table, damaged ones too: demand 1, of demand 2 the pointer that allocate gives, read-back, and
--- the balance of tally. Assumes nothing.
+-- What holds of single calls on every image and table, damaged ones too: demand 1, of demand 2 the pointer that allocate gives, read-back, the
+-- balance of tally, and that compare is an order. Assumes nothing.
 use Prim.Native.Nat.{ℕ, _+_, _^_, _<_}
 use mathlib.Core.Path.{_≡_}
 use mathlib.Core.Bool.{true}
 use lib.ListN.{length, drop}
+use lib.IntN.{pos, negℤ}
+use lib.Signed.{leZ}
 use Rattle.frame.specs.Pointers.{unpack, pack, goodTag}
 use Rattle.frame.specs.Tags.{pointerTo, usedEntries}
 use Rattle.block.specs.Layout.{slotExponent, sizeAt}
 use Rattle.block.specs.Walk.{firstFit}
 use Rattle.block.specs.declared.walk.Fit.the-variants as fit
-use Rattle.store.specs.State.{State, IsAccepted, value, usageNumber, liveObjects, liveBytes, freeBytes, overheadBytes, Balances}
-use Rattle.store.specs.Calls.{setUp, allocate, load, store, tally, leadsBack, headerPlace, located}
+use Rattle.store.specs.State.{State, IsAccepted, value, comparisonNumber, comparisonValue, usageNumber, liveObjects, liveBytes, freeBytes, overheadBytes, Balances}
+use Rattle.store.specs.Calls.{setUp, allocate, load, store, compare, tally, leadsBack, headerPlace, located}
 use Rattle.store.specs.Step.{Call, step}
 use Rattle.store.specs.declared.answer.Answer.the-variants.{Accepted}
 
@@ -18,6 +20,7 @@ use Rattle.store.specs.declared.answer.Answer.the-variants.{Accepted}
 pub record RefusalsKeep : Type 0 where
   pub set-up : (s : ℕ) (x : State) → (IsAccepted (setUp s x) → ⊥) → (setUp s x .after ≡ x) × (value (setUp s x .answer) ≡ 0)
   pub calls : (c : Call) (x : State) → (IsAccepted (step c x) → ⊥) → (step c x .after ≡ x) × (value (step c x .answer) ≡ 0)
+  pub compares : (p q n : ℕ) (x : State) → (comparisonNumber (compare p q n x) ≡ 0 → ⊥) → comparisonValue (compare p q n x) ≡ pos 0
   pub counts :
       (x : State) → (usageNumber (tally x) ≡ 0 → ⊥)
       → (liveObjects (tally x) ≡ 0) × (liveBytes (tally x) ≡ 0) × (freeBytes (tally x) ≡ 0) × (overheadBytes (tally x) ≡ 0)
@@ -28,7 +31,7 @@ KeepsShape s x y =
     (length (y .image) ≡ length (x .image)) × (length (y .table) ≡ length (x .table))
     × (drop (usedEntries s (length (x .image))) (y .table) ≡ drop (usedEntries s (length (x .image))) (x .table))
 
--- No call changes a length, or writes a table entry beyond the used ones.
+-- No call changes a length, or writes a table entry beyond the used ones; compare and tally leave all as it was, by their definitions.
 pub record ShapesKept : Type 0 where
   pub set-up : (s : ℕ) (x : State) → KeepsShape s x (setUp s x .after)
   pub calls : (c : Call) (x : State) → KeepsShape (slotExponent (x .image)) x (step c x .after)
@@ -60,3 +63,14 @@ ReadsBack =
 -- An accepted tally counts every byte behind the superblock once: live, free or overhead.
 unfoldable pub CountsAll : Type 0
 CountsAll = (x : State) → usageNumber (tally x) ≡ 0 → Balances (length (x .image)) (tally x)
+
+-- Compare orders the bytes behind the pointers: among compares of one length on one image and table, swapping the operands of an accepted one negates
+-- its value, and "not above 0" is transitive; the compares that are not named as accepted are so.
+pub record ComparesInOrder : Type 0 where
+  pub swapped :
+      (p q n : ℕ) (x : State) → comparisonNumber (compare p q n x) ≡ 0
+      → (comparisonNumber (compare q p n x) ≡ 0) × (comparisonValue (compare q p n x) ≡ negℤ (comparisonValue (compare p q n x)))
+  pub transitive :
+      (p q r n : ℕ) (x : State) → comparisonNumber (compare p q n x) ≡ 0 → comparisonNumber (compare q r n x) ≡ 0
+      → leZ (comparisonValue (compare p q n x)) (pos 0) ≡ true → leZ (comparisonValue (compare q r n x)) (pos 0) ≡ true
+      → (comparisonNumber (compare p r n x) ≡ 0) × (leZ (comparisonValue (compare p r n x)) (pos 0) ≡ true)

@@ -1,20 +1,24 @@
 -- The marked cases of document 01, "Arithmetic by example", and those of document 02's requests, at the slot exponent 6: one theorem over one list, by
 -- computation. Assumes nothing.
-use Prim.Native.Nat.{ℕ, _-_, _^_}
+use Prim.Native.Nat.{ℕ, _+_, _-_, _^_}
 use mathlib.Core.Bool.{Bool, true, false, cond, not, _&&_}
 use mathlib.Core.List.{List, [], _∷_}
 use lib.Dec.{T, eqb}
 use lib.ListN.{replicate, getD, set}
 use lib.IntN.{ℤ, pos, negsuc}
+use lib.Signed.{leZ}
 use Rattle.frame.specs.Frame.{frameNumber, frameNumberIn}
 use Rattle.frame.specs.Pointers.{unpack, pack, goodTag, reach, landed, moved}
 use Rattle.frame.specs.Tags.{lastHeld, wrapper, isSmall, tagNumber, pointerTo, tagMatches, usedEntries, entryAt, entryOf}
 use Rattle.block.specs.Bytes.{encode, decode, field, put}
+use Rattle.block.specs.Order.{compareBytes}
+use Rattle.block.specs.Text.{textFrom, textOf}
 use Rattle.block.specs.Layout.{superblock, superblockGood, header, headerAt, wellFormed, sound, isFree, extentAt}
 use Rattle.block.specs.Walk.{walkIn, walkFrom, walk, fitOf, firstFit, countOf, countBlocks}
-use Rattle.store.specs.State.{State, state, Outcome, returned, value, usageNumber, liveObjects, liveBytes, freeBytes, overheadBytes}
-use Rattle.store.specs.Calls.{setUpChecks, fresh, setUp, opening, entryFree, fitAnswer, allocateChecks, carved, noted, allocate, headerPlace, verified, leadsBack, located, inBody, accessed, movedAnswer, moveAnswer, move, loadAnswer, load, storeChecks, store, tallyOpened, tallyCounted, tally}
+use Rattle.store.specs.State.{State, state, Outcome, returned, value, comparisonNumber, comparisonValue, usageNumber, liveObjects, liveBytes, freeBytes, overheadBytes}
+use Rattle.store.specs.Calls.{setUpChecks, fresh, setUp, opening, entryFree, fitAnswer, allocateChecks, carved, noted, allocate, headerPlace, verified, leadsBack, located, inBody, accessed, movedAnswer, moveAnswer, move, loadAnswer, load, storeChecks, store, copyChecks, compared, compare, textAnswer, textAt, copyTextChecks, copyText, tallyOpened, tallyCounted, tally}
 use Rattle.store.specs.declared.answer.Answer.{Answer}
+use Rattle.store.specs.declared.comparing.Comparison.{Comparison}
 use Rattle.store.specs.declared.counting.Usage.{Usage}
 
 -- A case: what it starts from, and what the documents say of it. An image of L bytes is set up, and the sizes `before` are allocated.
@@ -39,6 +43,10 @@ pub data Case : Type 0 where
   tallies : (L : ℕ) (before : List ℕ) (objects live free overhead : ℕ) → Case
   -- W3: with another byte at that place tally is refused by 7, and gives zeros
   damages : (L : ℕ) (before : List ℕ) (at byte : ℕ) → Case
+  -- W5: bytes are stored from a pointer on; then two runs are compared: the returned number, and the value
+  compares : (L : ℕ) (before : List ℕ) (p : ℕ) (bytes : List ℕ) (left right n number : ℕ) (value : ℤ) → Case
+  -- W5: the same, and a text is copied: the returned number, how many bytes, and what the 8 bytes from the target's address on are then, little-endian
+  texts : (L : ℕ) (before : List ℕ) (p : ℕ) (bytes : List ℕ) (target source number copied seen : ℕ) → Case
 
 -- a store set up on an image and table that were full of other bytes
 abbrev begun : ℕ → State
@@ -47,6 +55,11 @@ begun L = setUp 6 (state (replicate L 7) (replicate 400 9)) .after
 abbrev placed : List ℕ → State → State
 placed [] x = x
 placed (size ∷ sizes) x = placed sizes (allocate size 0 x .after)
+
+-- bytes stored one by one, from a pointer on
+abbrev typed : ℕ → List ℕ → State → State
+typed p [] x = x
+typed p (b ∷ bs) x = typed (p + 1) bs (store p 1 b x .after)
 
 -- the outcome of one allocation more
 abbrev further : ℕ → List ℕ → ℕ → Outcome
@@ -61,6 +74,10 @@ abbrev gives : Usage → ℕ → ℕ → ℕ → ℕ → ℕ → Bool
 gives u number objects live free overhead =
     eqb (usageNumber u) number
     && (eqb (liveObjects u) objects && (eqb (liveBytes u) live && (eqb (freeBytes u) free && eqb (overheadBytes u) overhead)))
+
+-- two signed numbers are one
+abbrev equal : ℤ → ℤ → Bool
+equal a b = leZ a b && leZ b a
 
 abbrev same : Bool → Bool → Bool
 same a b = cond a b (not b)
@@ -91,10 +108,20 @@ holds (tallies L before objects live free overhead) = gives (tally (placed befor
 holds (damages L before at byte) =
     let x : State = placed before (begun L) in
     gives (tally (state (set (x .image) at byte) (x .table))) 7 0 0 0 0
+holds (compares L before p bytes left right n number v) =
+    let c : Comparison = compare left right n (typed p bytes (placed before (begun L))) in
+    eqb (comparisonNumber c) number && equal (comparisonValue c) v
+holds (texts L before p bytes target source number copied seen) =
+    let o : Outcome = copyText target source (typed p bytes (placed before (begun L))) in
+    eqb (returned (o .answer)) number && (eqb (value (o .answer)) copied && eqb (field (o .after .image) (unpack target .address) 8) seen)
 
 abbrev pub all : List Case → Bool
 all [] = true
 all (c ∷ cs) = holds c && all cs
+
+-- a text's letters
+abbrev hello : List ℕ
+hello = 0x68 ∷ 0x65 ∷ 0x6C ∷ 0x6C ∷ 0x6F ∷ []
 
 abbrev pub cases : List Case
 cases =
@@ -131,8 +158,29 @@ cases =
     ∷ damages 64 (17 ∷ []) 16 49
     ∷ damages 64 (17 ∷ []) 20 9
     ∷ damages 64 (17 ∷ []) 24 16
+    ∷ compares 1024 (10 ∷ []) 0x8010000000000020 (0x7F ∷ 0x80 ∷ []) 0x8010000000000020 0x8010000000000021 1 0 (negsuc 0)
+    ∷ compares 1024 (10 ∷ []) 0x8010000000000020 (0x7F ∷ 0x80 ∷ []) 0x8010000000000021 0x8010000000000020 1 0 (pos 1)
+    ∷ compares 1024 (10 ∷ []) 0x8010000000000020 (1 ∷ 9 ∷ 2 ∷ 0 ∷ []) 0x8010000000000020 0x8010000000000022 2 0 (negsuc 0)
+    ∷ compares 1024 (10 ∷ []) 0x8010000000000020 (1 ∷ 2 ∷ []) 0x8010000000000020 0x8010000000000020 10 0 (pos 0)
+    ∷ compares 1024 (10 ∷ 20 ∷ []) 0x8010000000000029 (1 ∷ []) 0x8010000000000020 0x000700000000003A 9 0 (pos 0)
+    ∷ compares 1024 (10 ∷ 20 ∷ []) 0x8010000000000029 (1 ∷ []) 0x8010000000000020 0x000700000000003A 10 0 (pos 1)
+    ∷ compares 1024 (10 ∷ 20 ∷ []) 0x8010000000000029 (1 ∷ []) 0x8010000000000020 0x000700000000003A 11 13 (pos 0)
+    ∷ compares 1024 (10 ∷ 20 ∷ []) 0x8010000000000029 (1 ∷ []) 0x000700000000003A 0x8010000000000020 11 13 (pos 0)
+    ∷ compares 1024 (10 ∷ []) 0x8010000000000020 [] 0 0 0 6 (pos 0)
+    ∷ compares 1024 (10 ∷ []) 0x8010000000000020 [] 0 0x8010000000000020 1 10 (pos 0)
+    ∷ texts 1024 (10 ∷ 20 ∷ []) 0x8010000000000020 hello 0x000700000000003A 0x8010000000000020 0 6 0x0000006F6C6C6568
+    ∷ texts 1024 (10 ∷ 20 ∷ []) 0x000700000000003A (0xFF ∷ 0xFF ∷ []) 0x000700000000003A 0x8010000000000020 0 1 0xFF00
+    ∷ texts 1024 (10 ∷ 20 ∷ []) 0x000700000000003A hello 0x8010000000000024 0x000700000000003A 0 6 0x0024006F6C6C6568
+    ∷ texts 1024 (10 ∷ 20 ∷ []) 0x000700000000003A hello 0x8010000000000025 0x000700000000003A 13 0 0x0000240000000000
+    ∷ texts 1024 (10 ∷ []) 0x8010000000000020 hello 0x8010000000000022 0x8010000000000020 0 6 0x0000006F6C6C6568
+    ∷ texts 1024 (10 ∷ []) 0x8010000000000022 hello 0x8010000000000020 0x8010000000000022 0 6 0x006F006F6C6C6568
+    ∷ texts 1024 (10 ∷ []) 0x8010000000000020 hello 0x8010000000000020 0x8010000000000020 0 6 0x0000006F6C6C6568
+    ∷ texts 1024 (4 ∷ 20 ∷ []) 0x8010000000000020 (1 ∷ 2 ∷ 3 ∷ 4 ∷ []) 0x0007000000000034 0x8010000000000020 20 0 0
+    ∷ texts 1024 (4 ∷ 20 ∷ []) 0x8010000000000020 (1 ∷ 2 ∷ 3 ∷ 4 ∷ []) 0 0x8010000000000020 20 0 0x0006000300000010
+    ∷ texts 1024 (4 ∷ 20 ∷ []) 0x8010000000000020 (1 ∷ 2 ∷ 3 ∷ 4 ∷ []) 0x0007000000000034 0x8010000000000024 13 0 0
+    ∷ texts 1024 (4 ∷ []) 0x8010000000000020 [] 0 0x8010000000000020 10 0 0x0006000300000010
     ∷ []
 
 pub worked : T (all cases)
-unfolding frameNumber frameNumberIn unpack pack goodTag reach landed moved wrapper tagNumber pointerTo tagMatches usedEntries entryAt encode decode field put superblock superblockGood header headerAt wellFormed sound walkIn walkFrom walk fitOf firstFit setUpChecks fresh setUp opening entryFree fitAnswer allocateChecks carved noted allocate headerPlace verified leadsBack located inBody accessed movedAnswer moveAnswer move loadAnswer load storeChecks store countOf countBlocks tallyOpened tallyCounted tally
+unfolding frameNumber frameNumberIn unpack pack goodTag reach landed moved wrapper tagNumber pointerTo tagMatches usedEntries entryAt encode decode field put superblock superblockGood header headerAt wellFormed sound walkIn walkFrom walk fitOf firstFit setUpChecks fresh setUp opening entryFree fitAnswer allocateChecks carved noted allocate headerPlace verified leadsBack located inBody accessed movedAnswer moveAnswer move loadAnswer load storeChecks store compareBytes textFrom textOf copyChecks compared compare textAnswer textAt copyTextChecks copyText countOf countBlocks tallyOpened tallyCounted tally
 worked = tt

@@ -1,16 +1,20 @@
--- What a call is given and what it leaves: document 01, "Why a call was declined". Assumes nothing.
+-- What a call is given and what it leaves: document 01, "Why a call was declined", and document 02's further rows. Assumes nothing.
 use Prim.Native.Nat.{ℕ, _+_, _-_}
 use mathlib.Core.Path.{_≡_}
 use mathlib.Core.Bool.{Bool, cond}
 use mathlib.Core.List.{List}
+use lib.IntN.{ℤ, pos}
+use Rattle.block.specs.Order.{sign}
 use Rattle.store.specs.declared.answer.Refusal.{Refusal}
-use Rattle.store.specs.declared.answer.Refusal.the-variants.{BadExponent, BadLength, TooFewEntries, BadSuperblock, ShortTable, Empty, Unsound, NoSpace, EntryTaken, BadTag, Dangling, Leaves, OutOfBounds, BadWidth, NotBase, TooLarge}
+use Rattle.store.specs.declared.answer.Refusal.the-variants.{BadExponent, BadLength, TooFewEntries, BadSuperblock, ShortTable, Empty, Unsound, NoSpace, EntryTaken, BadTag, Dangling, Leaves, OutOfBounds, BadWidth, NotBase, TooLarge, Unterminated}
 use Rattle.store.specs.declared.answer.Answer.{Answer}
 use Rattle.store.specs.declared.answer.Answer.the-variants.{Accepted, Refused}
+use Rattle.store.specs.declared.comparing.Comparison.{Comparison}
+use Rattle.store.specs.declared.comparing.Comparison.the-variants as comparison
 use Rattle.store.specs.declared.counting.Usage.{Usage}
 use Rattle.store.specs.declared.counting.Usage.the-variants as usage
 
--- document 01's number of a refusal
+-- document 01's number of a refusal, or document 02's: 17 to 19 are a call log's
 abbrev pub refusalNumber : Refusal → ℕ
 refusalNumber BadExponent = 1
 refusalNumber BadLength = 2
@@ -28,6 +32,7 @@ refusalNumber OutOfBounds = 13
 refusalNumber BadWidth = 14
 refusalNumber NotBase = 15
 refusalNumber TooLarge = 16
+refusalNumber Unterminated = 20
 
 -- the number that a call returns: 0 where it is accepted
 abbrev pub returned : Answer → ℕ
@@ -67,6 +72,16 @@ overheadBytes (usage.Refused r) = 0
 -- live, free and overhead bytes are all bytes behind the superblock of an image of L bytes
 abbrev pub Balances : ℕ → Usage → Type 0
 Balances L u = liveBytes u + freeBytes u + overheadBytes u ≡ L - 16
+
+-- the number that compare returns: 0 where it is accepted
+abbrev pub comparisonNumber : Comparison → ℕ
+comparisonNumber (comparison.Ordered o) = 0
+comparisonNumber (comparison.Refused r) = refusalNumber r
+
+-- the value that it gives: 0 where it is refused
+abbrev pub comparisonValue : Comparison → ℤ
+comparisonValue (comparison.Ordered o) = sign o
+comparisonValue (comparison.Refused r) = pos 0
 
 -- An image with its frame table.
 pub record State : Type 0 where

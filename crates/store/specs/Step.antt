@@ -2,7 +2,7 @@
 use Prim.Native.Nat.{ℕ}
 use lib.IntN.{ℤ}
 use Rattle.store.specs.State.{State, Outcome}
-use Rattle.store.specs.Calls.{allocate, move, load, store, free, fill, copy}
+use Rattle.store.specs.Calls.{allocate, move, load, store, free, fill, copy, copyText}
 
 -- a call with its arguments
 pub data Call : Type 0 where
@@ -13,6 +13,7 @@ pub data Call : Type 0 where
   stores : (pointer width value : ℕ) → Call
   fills : (pointer n byte : ℕ) → Call
   copies : (target source n : ℕ) → Call
+  copiesText : (target source : ℕ) → Call
 
 -- what it answers and leaves
 abbrev pub step : Call → State → Outcome
@@ -23,3 +24,4 @@ step (loads p width) x = load p width x
 step (stores p width v) x = store p width v x
 step (fills p n byte) x = fill p n byte x
 step (copies t p n) x = copy t p n x
+step (copiesText t p) x = copyText t p x

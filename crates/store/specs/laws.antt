@@ -13,5 +13,7 @@ pub mod Load
 pub mod Store
 pub mod Fill
 pub mod Copy
+pub mod Compare
+pub mod CopyText
 pub mod Free
 pub mod Tally

@@ -2,7 +2,7 @@
 ghost use mathlib.Core.Path.{_≡_};
 ghost use Rattle.store.specs.State.{refusalNumber, returned, value};
 
-// Why a call was declined: document 01's rows, in their order.
+// Why a call was declined: document 01's rows, then document 02's, in their order.
 pub enum Refusal {
     BadExponent,
     BadLength,
@@ -20,6 +20,7 @@ pub enum Refusal {
     BadWidth,
     NotBase,
     TooLarge,
+    Unterminated,
 }
 
 // A number, 0 where a call has none to give; or why there is none.
@@ -29,7 +30,7 @@ pub enum Answer {
 }
 
 impl Refusal {
-    // Document 01's number.
+    // Document 01's number, or document 02's.
     pub fn number(self) -> u32
         ensures { λ n. ⌜ n ≡ refusalNumber self ⌝ }
     {
@@ -50,6 +51,7 @@ impl Refusal {
             Refusal::BadWidth => 14,
             Refusal::NotBase => 15,
             Refusal::TooLarge => 16,
+            Refusal::Unterminated => 20,
         }
     }
 }

@@ -2,6 +2,7 @@
 mod access;
 mod allocation;
 mod answer;
+mod comparing;
 mod copying;
 mod counting;
 mod entries;
@@ -10,6 +11,7 @@ mod moving;
 mod opening;
 mod release;
 mod setup;
+mod text;
 
 pub use access::fill;
 pub use access::load;
@@ -17,9 +19,12 @@ pub use access::store;
 pub use allocation::allocate;
 pub use answer::Answer;
 pub use answer::Refusal;
+pub use comparing::Comparison;
+pub use comparing::compare;
 pub use copying::copy;
 pub use counting::Usage;
 pub use counting::tally;
 pub use moving::offset;
 pub use release::free;
 pub use setup::set_up;
+pub use text::copy_text;

@@ -71,11 +71,11 @@ fn main() {
             exit(1);
         }
         Ok(counts) => {
-            println!("{counts}");
+            println!("{counts}\n{}", counts.seen);
             println!("{:.1} s", begun.elapsed().as_secs_f64());
-            let missing = counts.missing();
-            if calls >= 100_000 && !missing.is_empty() {
-                println!("never occurred: {missing:?}");
+            let (missing, unseen) = (counts.missing(), counts.seen.missing());
+            if calls >= 100_000 && !missing.is_empty() || calls >= 1_000_000 && !unseen.is_empty() {
+                println!("never occurred: {missing:?} {unseen:?}");
                 exit(1);
             }
         }

@@ -120,9 +120,9 @@ impl Generator {
         }
     }
 
-    /// A pointer that store, fill and copy may get here, and the bytes from its address to the body's end. Where it
-    /// has to be a live object's, a move may be queued before.
-    fn target(&mut self, view: &View<'_>) -> (Arg, i64) {
+    /// A pointer that store, fill, copy and text copy may get here, and the bytes from its address to the body's end. Where
+    /// it has to be a live object's, a move may be queued before.
+    pub(super) fn target(&mut self, view: &View<'_>) -> (Arg, i64) {
         if self.mode != Mode::History && self.random.percent(40) {
             return (self.pointer(view), self.random.within(1, 40) as i64);
         }

@@ -80,7 +80,7 @@ impl Generator {
     }
 
     fn use_forged(&mut self, view: &View<'_>, pointer: Arg, size: u32) {
-        match self.random.below(8) {
+        match self.random.below(11) {
             0..3 => {
                 let width = self.width();
                 self.call(Call::Load { pointer, width });
@@ -93,10 +93,20 @@ impl Generator {
             4 | 5 => {
                 self.call(Call::Free { pointer });
             }
-            _ if self.mode == Mode::History => {}
             6 => {
+                let length = self.length(i64::from(size));
+                let right = self.live_start();
+                self.call(Call::Compare { left: pointer, right, length });
+            }
+            _ if self.mode == Mode::History => {}
+            7 => {
                 let value = self.random.word();
                 self.call(Call::Store { pointer, width: 8, value });
+            }
+            8 => {
+                let other = self.live_start();
+                let (target, source) = self.random.pick(&[(pointer, other), (other, pointer)]);
+                self.call(Call::CopyText { target, source });
             }
             _ => {
                 let length = self.length(i64::from(size));

@@ -1,8 +1,8 @@
 //! Random cases. What is generated depends on the seed and on the expected store's answers, never on the tested store's.
 //!
-//! Here are the case, its buffers and its book of objects; `calls` makes one call, `pointers` the pointers for it, `forge`
-//! headers inside bodies, `misuse` wrong slices and set-ups, `damage` what is written behind the store's back; `log`
-//! makes a list of calls alone.
+//! Here are the case, its buffers and its book of objects; `calls` makes one call, `texts` those of texts, `pointers` the
+//! pointers for them, `forge` headers inside bodies, `misuse` wrong slices and set-ups, `damage` what is written behind the
+//! store's back; `log` makes a list of calls alone.
 
 mod calls;
 mod damage;
@@ -10,6 +10,7 @@ mod forge;
 pub mod log;
 mod misuse;
 mod pointers;
+mod texts;
 
 use crate::case::{Action, Arg, Buffers, Step, View};
 use crate::model;
@@ -20,7 +21,7 @@ use std::collections::VecDeque;
 /// What a case may do.
 #[derive(Clone, Copy, Debug, PartialEq, Eq)]
 enum Mode {
-    /// A history begun by set-up: store, fill and copy get only pointers of live objects.
+    /// A history begun by set-up: store, fill, copy and text copy get only pointers of live objects.
     History,
     /// Any pointer for any call, slices and tables of wrong length, set-up again.
     Hostile,
@@ -36,7 +37,7 @@ const MODES: [(u64, Mode); 3] = [(40, Mode::History), (30, Mode::Hostile), (30, 
 type Make = fn(&mut Generator, &View<'_>);
 
 /// The mix: how often in a case's ordinary course, and how often on wrong slices or damaged bytes.
-const MIX: [(u64, u64, Make); 9] = [
+const MIX: [(u64, u64, Make); 11] = [
     (33, 1, Generator::allocate),
     (12, 1, Generator::free),
     (12, 1, Generator::move_pointer),
@@ -44,6 +45,8 @@ const MIX: [(u64, u64, Make); 9] = [
     (14, 1, Generator::store),
     (6, 1, Generator::fill),
     (5, 1, Generator::copy),
+    (4, 1, Generator::compare),
+    (4, 1, Generator::copy_text),
     (2, 1, Generator::tally),
     (4, 0, Generator::forge),
 ];

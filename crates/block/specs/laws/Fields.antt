@@ -74,6 +74,10 @@ field-step [] (suc at) w = rw (take-nil w)
 field-step (b ∷ bs) zero w = refl
 field-step (b ∷ bs) (suc at) w = field-step bs at w
 
+-- a field of one byte is that byte
+pub field-one : (image : List ℕ) (at : ℕ) → field image at 1 ≡ getD image at 0
+field-one image at = omega (arith, field-step image at 0, field-zero image (suc at))
+
 -- a field in two parts: its low bytes, and the others
 pub field-add : (image : List ℕ) (v w at : ℕ) → field image at (v + w) ≡ field image at v + 256 ^ v * field image (at + v) w
 field-add image zero w at = rw (zero-add w, field-zero image at, add-zero at, one-mul (field image at w)) (omega arith)

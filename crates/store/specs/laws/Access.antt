@@ -84,14 +84,14 @@ accessed-again s p n x a bs k e =
     (omega (arith, k .low, k .address)) (omega (arith, k .high, k .address, size)))
     ∙ ap Accepted (sym (k .address))
 
--- bytes put at an address, where the test holds
-abbrev pub through : State → Bool → ℕ → List ℕ → Outcome
-through x b a bytes = cond b (outcome (Accepted 0) (put (x .image) a bytes) (x .table)) (refuse OutOfBounds x)
+-- bytes put at an address, where the test holds, with the value that the call gives
+abbrev pub through : State → ℕ → Bool → ℕ → List ℕ → Outcome
+through x v b a bytes = cond b (outcome (Accepted v) (put (x .image) a bytes) (x .table)) (refuse OutOfBounds x)
 
 -- is accepted exactly where it holds
-pub through-iff : (x : State) (b : Bool) (a : ℕ) (bytes : List ℕ) → IsAccepted (through x b a bytes) ↔ (b ≡ true)
-through-iff x true a bytes = ((λ e. refl), λ e. refl)
-through-iff x false a bytes = ((λ e. absurd (omega arith)), λ (e : false ≡ true). absurd (true-false e refl))
+pub through-iff : (x : State) (v : ℕ) (b : Bool) (a : ℕ) (bytes : List ℕ) → IsAccepted (through x v b a bytes) ↔ (b ≡ true)
+through-iff x v true a bytes = ((λ e. refl), λ e. refl)
+through-iff x v false a bytes = ((λ e. absurd (omega arith)), λ (e : false ≡ true). absurd (true-false e refl))
 
 -- a good width is 1 to 8
 pub width-range : (w : ℕ) → goodWidth w ≡ true → (1 ≤ w) × (w ≤ 8)

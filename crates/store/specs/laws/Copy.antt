@@ -83,7 +83,7 @@ module _ (s : ℕ) (x : State) (o : opening x ≡ Accepted s) where
   -- where the tests of the bytes are known
   pub copy-through : (t p n a : ℕ) (b c : Bool) → ltb 0 n ≡ true → accessed s (unpack t) n x ≡ demand b OutOfBounds (Accepted (unpack t .address))
       → accessed s (unpack p) n x ≡ demand c OutOfBounds (Accepted a)
-      → copy t p n x ≡ through x (b && c) (unpack t .address) (take n (drop a (x .image)))
+      → copy t p n x ≡ through x 0 (b && c) (unpack t .address) (take n (drop a (x .image)))
   copy-through t p n a true true l e f = sym (copy-done t p n x a (sym (copy-access x s o t p n (ltb-true 0 n l) _ e) ∙ f))
   copy-through t p n a true false l e f = sym (copy-declined t p n x OutOfBounds (sym (copy-access x s o t p n (ltb-true 0 n l) _ e) ∙ f))
   copy-through t p n a false c l e f = sym (copy-declined t p n x OutOfBounds (sym (copy-refused x s o t p n (ltb-true 0 n l) OutOfBounds e)))

@@ -71,7 +71,7 @@ fill-done word n byte x at e = rw e
 module _ (s : ℕ) (x : State) (o : opening x ≡ Accepted s) where
   -- where the test of the bytes is known
   pub fill-through : (p n byte a : ℕ) (b : Bool) → ltb 0 n ≡ true → accessed s (unpack p) n x ≡ demand b OutOfBounds (Accepted a)
-      → fill p n byte x ≡ through x b a (replicate n byte)
+      → fill p n byte x ≡ through x 0 b a (replicate n byte)
   fill-through p n byte a true l e = sym (fill-done p n byte x a (sym (fill-access x s o p n (ltb-true 0 n l)) ∙ e))
   fill-through p n byte a false l e = sym (fill-declined p n byte x OutOfBounds (sym (fill-access x s o p n (ltb-true 0 n l)) ∙ e))
 

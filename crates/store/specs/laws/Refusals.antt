@@ -7,7 +7,7 @@ use native.Mathlib.Omega.{arith}
 use Rattle.block.specs.laws.Booleans.{true-false}
 use Rattle.store.specs.State.{refusalNumber, returned, demand, andThen}
 use Rattle.store.specs.declared.answer.Refusal.{Refusal}
-use Rattle.store.specs.declared.answer.Refusal.the-variants.{BadExponent, BadLength, TooFewEntries, BadSuperblock, ShortTable, Empty, Unsound, NoSpace, EntryTaken, BadTag, Dangling, Leaves, OutOfBounds, BadWidth, NotBase, TooLarge}
+use Rattle.store.specs.declared.answer.Refusal.the-variants.{BadExponent, BadLength, TooFewEntries, BadSuperblock, ShortTable, Empty, Unsound, NoSpace, EntryTaken, BadTag, Dangling, Leaves, OutOfBounds, BadWidth, NotBase, TooLarge, Unterminated}
 use Rattle.store.specs.declared.answer.Answer.{Answer}
 use Rattle.store.specs.declared.answer.Answer.the-variants.{Accepted, Refused}
 
@@ -29,6 +29,7 @@ refusal-range OutOfBounds = (omega arith, omega arith)
 refusal-range BadWidth = (omega arith, omega arith)
 refusal-range NotBase = (omega arith, omega arith)
 refusal-range TooLarge = (omega arith, omega arith)
+refusal-range Unterminated = (omega arith, omega arith)
 
 -- no refusal has the number 0
 pub refused-some : (r : Refusal) → refusalNumber r ≡ 0 → ⊥

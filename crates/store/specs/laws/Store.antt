@@ -77,7 +77,7 @@ store-done word width v x at e = rw e
 module _ (s : ℕ) (x : State) (o : opening x ≡ Accepted s) where
   -- where the test of the bytes is known
   pub store-through : (p width v a : ℕ) (b : Bool) → goodWidth width ≡ true → ltb v (256 ^ width) ≡ true
-      → accessed s (unpack p) width x ≡ demand b OutOfBounds (Accepted a) → store p width v x ≡ through x b a (encode width v)
+      → accessed s (unpack p) width x ≡ demand b OutOfBounds (Accepted a) → store p width v x ≡ through x 0 b a (encode width v)
   store-through p width v a true g l e = sym (store-done p width v x a (sym (store-access x s o p width v g l) ∙ e))
   store-through p width v a false g l e = sym (store-declined p width v x OutOfBounds (sym (store-access x s o p width v g l) ∙ e))
 

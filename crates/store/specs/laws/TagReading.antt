@@ -22,7 +22,7 @@ use Rattle.block.specs.Bytes.{put}
 use Rattle.block.specs.Layout.{headerAt, sound, isLive, sizeAt, kindAt}
 use Rattle.block.specs.laws.Writes.{length-put}
 use Rattle.block.specs.laws.Headers.{headerAt-put-other}
-use Rattle.block.specs.laws.Soundness.{sound-same}
+use Rattle.block.specs.laws.Soundness.{sound-same, sound-end, sound-live}
 use Rattle.block.specs.declared.header.Header.{Header}
 use Rattle.store.specs.State.{State, state, demand}
 use Rattle.store.specs.Calls.{headerPlace, verified, leadsBack, located}
@@ -243,6 +243,12 @@ read-found s p x o e = go (located s p x) refl
         let w : record { header = h; size = sizeAt (x .image) h } ≡ o = cc in
         rw (← w) (record { tested = q; size-is = refl; object = located-parts s p x h q })
     go (Refused r) q = let z : _≡_ {A = ℕ} 0 1 = cc in absurd (omega arith)
+
+-- it lies in the image
+pub found-inside : {s : ℕ} {p : Pointer} {x : State} {o : Reading} → FoundAt s p x o → o .header + 16 + o .size ≤ length (x .image)
+found-inside {x = x} {o = o} f =
+    let h = f .object .header in
+    omega (arith, f .size-is, sound-live (x .image) (o .header) (h .is-sound) (h .is-live) .holds, sound-end (x .image) (o .header) (h .is-sound))
 
 -- why it found nothing
 pub read-refused : (s : ℕ) (p : Pointer) (x : State) (r : Refusal) → readTag s p x ≡ found.Refused r → located s p x ≡ Refused r

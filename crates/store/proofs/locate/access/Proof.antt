@@ -6,10 +6,9 @@ use lib.ListN.{length}
 use Rattle.frame.specs.Pointers.{InRange, unpack}
 use Rattle.frame.specs.laws.Pointers.{unpack-range}
 use Rattle.frame.specs.declared.parts.Pointer.{Pointer}
-use Rattle.block.specs.laws.Soundness.{sound-end, sound-live}
 use Rattle.store.specs.State.{State, state}
 use Rattle.store.specs.laws.Opening.{opening-parts}
-use Rattle.store.specs.laws.TagReading.{readTag, FoundAt, read-found, read-refused}
+use Rattle.store.specs.laws.TagReading.{readTag, FoundAt, read-found, found-inside, read-refused}
 use Rattle.store.specs.declared.answer.Answer.the-variants.{Accepted}
 use Rattle.store.specs.laws.Access.{not-located, below-base, past-end, within-body}
 use borrow.Author.Needs.{needs}
@@ -42,10 +41,7 @@ object c = read-found _ _ (state _ _) _ (read (at-read c) ∙ c .o .given .1)
 
 -- the object lies in the image
 inside : (c : tie.After-o) → c .o .given .0 .0 .header + 16 + c .o .given .0 .0 .size ≤ length (start (at-read c) .args .image .now)
-inside c =
-    let o = object c in
-    let h = o .object .header in
-    omega (arith, o .size-is, sound-live _ _ (h .is-sound) (h .is-live) .holds, sound-end _ _ (h .is-sound))
+inside c = found-inside (object c)
 
 -- the image is short
 short : (c : tie.After-o) → length (start (at-read c) .args .image .now) ≤ 1073741824

@@ -1,5 +1,8 @@
 //! The driver itself: it passes the model, and finds and shortens each of these faults.
 
+mod compares;
+mod texts;
+
 use cueledger_tests::case::Mismatch;
 use cueledger_tests::driver::{compare, Failure};
 use cueledger_tests::model::{self, Header, Pointer};
