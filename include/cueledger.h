@@ -19,7 +19,7 @@
  *   fill and copy also grow with the bytes that they write, compare and text copy with those that they read. Load, store
  *   and move take constant time.
  * - Stack, in bytes at most: the return address and all below it, without memmove and memset.
- *     cue_setup     48    cue_store    168    cue_compare    200
+ *     cue_setup     48    cue_store    168    cue_compare    216
  *     cue_allocate  64    cue_free     216    cue_copy_text  200
  *     cue_move       8    cue_fill     152    cue_tally       64
  *     cue_load     168    cue_copy     200

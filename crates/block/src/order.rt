@@ -1,9 +1,11 @@
 // How one run of bytes of an image stands to another of the same length.
 use super::bytes::read1;
+use super::bytes::read8;
 ghost use mathlib.Core.Path.{_≡_};
 ghost use Prim.Native.Nat.{_+_, _≤_};
 ghost use lib.ListN.{length, take, drop};
 ghost use Rattle.block.specs.Order.{compareBytes, sign, rank};
+ghost use Rattle.block.specs.laws.Order.{compareRuns, compareAfter};
 
 // By their first differing byte, unsigned.
 pub enum Ordering {
@@ -70,13 +72,28 @@ fn compare_bytes(image: &[u8], a: usize, b: usize, n: usize) -> Ordering
     Ordering::Equal
 }
 
-// How the n bytes at a stand to the n at b, 8 bytes a turn.
+// How many bytes of both runs are passed, 8 a turn, up to the first 8 that differ. Only their being the same is asked, for which no byte swap is needed.
+fn same_words(image: &[u8], a: usize, b: usize, n: usize) -> usize
+    requires { ⌜ (a + n ≤ length (now image)) × (b + n ≤ length (now image)) ⌝ }
+    ensures { λ r. ⌜ (r ≤ n) × (compareRuns (now (image .entry)) a b n ≡ compareAfter (now (image .entry)) a b n r) ⌝ }
+{
+    let mut i = 0;
+    while 8 <= n - i {
+        if read8(image, a + i) != read8(image, b + i) {
+            break;
+        }
+        i += 8;
+    }
+    i
+}
+
+// How the n bytes at a stand to the n at b: by the first 8 that differ, or by what is left of fewer.
 pub fn compare_runs(image: &[u8], a: usize, b: usize, n: usize) -> Ordering
     requires { ⌜ (a + n ≤ length (now image)) × (b + n ≤ length (now image)) ⌝ }
     ensures { λ r. ⌜ r ≡ compareBytes (take n (drop a (now (image .entry)))) (take n (drop b (now (image .entry)))) ⌝ }
 {
-    let mut i = 0;
-    while 8 <= n - i {
+    let i = same_words(image, a, b, n);
+    if 8 <= n - i {
         let x = rank8(image, a + i);
         let y = rank8(image, b + i);
         if x < y {
@@ -85,7 +102,6 @@ pub fn compare_runs(image: &[u8], a: usize, b: usize, n: usize) -> Ordering
         if y < x {
             return Ordering::Greater;
         }
-        i += 8;
     }
     compare_bytes(image, a + i, b + i, n - i)
 }

@@ -17,7 +17,7 @@ use borrow.Author.Tests.{eq-eqb, ne-eqb, eqb-true, eqb-false, lt-ltb, le-ltb, lt
 use Rattle.block.specs.Bytes.{field, Bytes}
 use Rattle.block.specs.Order.{compareBytes, sign, rank}
 use Rattle.block.specs.laws.Booleans.{byBool, true-false}
-use Rattle.block.specs.laws.Fields.{field-one}
+use Rattle.block.specs.laws.Fields.{field-one, field-step}
 use Rattle.block.specs.declared.order.Ordering.{Ordering}
 use Rattle.block.specs.declared.order.Ordering.the-variants.{Less, Equal, Greater}
 
@@ -97,6 +97,18 @@ compare-transitive (x ∷ xs) (y ∷ ys) (z ∷ zs) d e p q =
 pub rank-one : (image : List ℕ) (at : ℕ) {x : ℕ} → x ≡ field image at 1 → x ≡ rank image at 1
 unfolding rank
 rank-one image at e = omega (arith, field-one image at)
+
+-- and the same bytes have the same rank
+pub same-ranks : (image : List ℕ) → Bytes image → (w a b : ℕ) → field image a w ≡ field image b w → rank image a w ≡ rank image b w
+unfolding rank
+same-ranks image h zero a b e = refl
+same-ranks image h (suc w) a b e =
+    let both : getD image a 0 + 256 * field image (suc a) w ≡ getD image b 0 + 256 * field image (suc b) w =
+    sym (field-step image a w) ∙ e ∙ field-step image b w
+    in
+    let first : getD image a 0 ≡ getD image b 0 = omega (arith, h a, h b) in
+    let rest : rank image (suc a) w ≡ rank image (suc b) w = same-ranks image h w (suc a) (suc b) (omega (arith, h a, h b)) in
+    rw (first, rest)
 
 -- a rank in two parts: its last bytes, which are the low ones, and the others
 pub rank-add : (image : List ℕ) (v w at : ℕ) → rank image at (v + w) ≡ rank image (at + v) w + 256 ^ w * rank image at v
