@@ -1,10 +1,9 @@
 -- How one run of bytes stands to another: document 02, W5. Assumes nothing.
-use Prim.Native.Nat.{ℕ, zero, suc, _+_, _*_, _^_}
+use Prim.Native.Nat.{ℕ}
 use mathlib.Core.Bool.{true, false, cond}
 use mathlib.Core.List.{List, [], _∷_}
 use lib.Dec.{ltb, eqb}
 use lib.IntN.{ℤ, pos, negsuc}
-use lib.ListN.{getD}
 use Rattle.block.specs.declared.order.Ordering.{Ordering}
 use Rattle.block.specs.declared.order.Ordering.the-variants.{Less, Equal, Greater}
 
@@ -19,8 +18,3 @@ abbrev pub sign : Ordering → ℤ
 sign Less = negsuc 0
 sign Equal = pos 0
 sign Greater = pos 1
-
--- the number in `width` bytes at `at`, the first byte highest: of two such numbers the one whose first differing byte is lower is the lower
-unfoldable pub rank : List ℕ → ℕ → ℕ → ℕ
-rank image at zero = 0
-rank image at (suc width) = rank image (suc at) width + 256 ^ width * getD image at 0

@@ -1,9 +1,8 @@
 -- Texts, zero-terminated strings: document 02, W5. Assumes nothing.
-use Prim.Native.Nat.{ℕ, zero, suc, _+_}
-use mathlib.Core.Bool.{Bool, true, false, _||_}
+use Prim.Native.Nat.{ℕ, _+_}
+use mathlib.Core.Bool.{true, false}
 use mathlib.Core.List.{List, [], _∷_}
 use lib.Dec.{eqb}
-use lib.ListN.{getD}
 use Rattle.block.specs.declared.text.Text.{Text}
 use Rattle.block.specs.declared.text.Text.the-variants.{Ends, Endless}
 
@@ -15,8 +14,3 @@ textFrom n (b ∷ bs) = elim (eqb b 0) [ true ↦ Ends n | false ↦ textFrom (n
 -- the text at the start of a list
 unfoldable pub textOf : List ℕ → Text
 textOf bytes = textFrom 0 bytes
-
--- whether one of the `width` bytes at `at` is zero
-unfoldable pub anyZero : List ℕ → ℕ → ℕ → Bool
-anyZero image at zero = false
-anyZero image at (suc width) = eqb (getD image at 0) 0 || anyZero image (suc at) width

@@ -4,8 +4,8 @@ use super::bytes::read8;
 ghost use mathlib.Core.Path.{_≡_};
 ghost use Prim.Native.Nat.{_+_, _≤_};
 ghost use lib.ListN.{length, take, drop};
-ghost use Rattle.block.specs.Order.{compareBytes, sign, rank};
-ghost use Rattle.block.specs.laws.Order.{compareRuns, compareAfter};
+ghost use Rattle.block.specs.Order.{compareBytes, sign};
+ghost use Rattle.block.specs.laws.Order.{rank, compareRuns, compareAfter};
 
 // By their first differing byte, unsigned.
 pub enum Ordering {

@@ -3,7 +3,8 @@ use super::bytes::read1;
 ghost use mathlib.Core.Path.{_≡_};
 ghost use Prim.Native.Nat.{_+_, _-_, _≤_};
 ghost use lib.ListN.{length, take, drop};
-ghost use Rattle.block.specs.Text.{textFrom, textOf, anyZero};
+ghost use Rattle.block.specs.Text.{textFrom, textOf};
+ghost use Rattle.block.specs.laws.Text.{anyZero};
 
 // A text's length in bytes, its zero byte not counted; or that no zero byte ends it.
 pub enum Text {

@@ -15,7 +15,7 @@ use lib.Pow.{pow-add}
 use lib.Seq.{drop-cons}
 use borrow.Author.Tests.{eq-eqb, ne-eqb, eqb-true, eqb-false, lt-ltb, le-ltb, ltb-true, ltb-false}
 use Rattle.block.specs.Bytes.{field, Bytes}
-use Rattle.block.specs.Order.{compareBytes, sign, rank}
+use Rattle.block.specs.Order.{compareBytes, sign}
 use Rattle.block.specs.laws.Booleans.{byBool, true-false}
 use Rattle.block.specs.laws.Fields.{field-one, field-step}
 use Rattle.block.specs.declared.order.Ordering.{Ordering}
@@ -91,7 +91,12 @@ compare-transitive (x ∷ xs) (y ∷ ys) (z ∷ zs) d e p q =
     (first-bytes y z ys zs q))
     (first-bytes x y xs ys p)
 
--- ranks
+-- Ranks.
+
+-- the number in `width` bytes at `at`, the first byte highest: of two such numbers the one whose first differing byte is lower is the lower
+unfoldable pub rank : List ℕ → ℕ → ℕ → ℕ
+rank image at zero = 0
+rank image at (suc width) = rank image (suc at) width + 256 ^ width * getD image at 0
 
 -- one byte is the same number in either order
 pub rank-one : (image : List ℕ) (at : ℕ) {x : ℕ} → x ≡ field image at 1 → x ≡ rank image at 1

@@ -1,7 +1,7 @@
 -- Texts: their length, and a search that passes bytes without a zero among them. Assumes nothing.
 use Prim.Native.Nat.{ℕ, zero, suc, _+_, _-_, _≤_, _<_}
 use mathlib.Core.Path.{_≡_, refl, sym, ap, _∙_}
-use mathlib.Core.Bool.{false, _||_, or-false, or-assoc}
+use mathlib.Core.Bool.{Bool, false, _||_, or-false, or-assoc}
 use mathlib.Mathlib.Data.Bool.Basic.{or-eq-false-eq-eq-false-and-eq-false}
 use mathlib.Core.List.{List, [], _∷_}
 use native.Mathlib.Nat.{zero-add, suc-add, add-zero, add-suc, sub-zero}
@@ -11,7 +11,7 @@ use lib.ListN.{length, getD, take, drop}
 use lib.Seq.{drop-cons}
 use borrow.Author.Tests.{eq-eqb, ne-eqb, eqb-true, eqb-false}
 use Rattle.block.specs.Bytes.{field}
-use Rattle.block.specs.Text.{textFrom, textOf, anyZero}
+use Rattle.block.specs.Text.{textFrom, textOf}
 use Rattle.block.specs.laws.Booleans.{byBool}
 use Rattle.block.specs.laws.Fields.{field-one}
 use Rattle.block.specs.declared.text.Text.{Text}
@@ -44,7 +44,12 @@ text-from-bound n (b ∷ bs) m e =
 pub text-bound : (bs : List ℕ) (m : ℕ) → textOf bs ≡ Ends m → m < length bs
 text-bound bs m e = omega (arith, text-from-bound 0 bs m (sym (text-whole bs) ∙ e))
 
--- zero bytes
+-- Zero bytes.
+
+-- whether one of the `width` bytes at `at` is zero
+unfoldable pub anyZero : List ℕ → ℕ → ℕ → Bool
+anyZero image at zero = false
+anyZero image at (suc width) = eqb (getD image at 0) 0 || anyZero image (suc at) width
 
 -- one byte
 pub zero-one : (image : List ℕ) (at : ℕ) → anyZero image at 1 ≡ eqb (field image at 1) 0
