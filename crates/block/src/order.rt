@@ -5,7 +5,7 @@ ghost use mathlib.Core.Path.{_≡_};
 ghost use Prim.Native.Nat.{_+_, _≤_};
 ghost use lib.ListN.{length, take, drop};
 ghost use Rattle.block.specs.Order.{compareBytes, sign};
-ghost use Rattle.block.specs.laws.Order.{rank, compareRuns, compareAfter};
+ghost use Rattle.block.specs.laws.Order.{bigField, compareRuns, compareAfter};
 
 // By their first differing byte, unsigned.
 pub enum Ordering {
@@ -27,29 +27,29 @@ impl Ordering {
     }
 }
 
-// The number in the 2 bytes at `at`, the first byte highest; so for wider ones, each from two of half its width. With the low half first the compiler makes
-// one load and a byte swap of each; with the high half first it loads byte by byte.
-fn rank2(image: &[u8], at: usize) -> u64
+// The big-endian number in the 2 bytes at `at`; so for wider ones, each from two of half its width. With the low half first the compiler makes one load and
+// a byte swap of each; with the high half first it loads byte by byte.
+fn read2_be(image: &[u8], at: usize) -> u64
     requires { ⌜ at + 2 ≤ length (now image) ⌝ }
-    ensures { λ r. ⌜ r ≡ rank (now (image .entry)) at 2 ⌝ }
+    ensures { λ r. ⌜ r ≡ bigField (now (image .entry)) at 2 ⌝ }
 {
     read1(image, at + 1) + 256 * read1(image, at)
 }
 
-// The number in the 4 bytes at `at`, the first byte highest.
-fn rank4(image: &[u8], at: usize) -> u64
+// The big-endian number in the 4 bytes at `at`.
+fn read4_be(image: &[u8], at: usize) -> u64
     requires { ⌜ at + 4 ≤ length (now image) ⌝ }
-    ensures { λ r. ⌜ r ≡ rank (now (image .entry)) at 4 ⌝ }
+    ensures { λ r. ⌜ r ≡ bigField (now (image .entry)) at 4 ⌝ }
 {
-    rank2(image, at + 2) + 65536 * rank2(image, at)
+    read2_be(image, at + 2) + 65536 * read2_be(image, at)
 }
 
-// The number in the 8 bytes at `at`, the first byte highest.
-fn rank8(image: &[u8], at: usize) -> u64
+// The big-endian number in the 8 bytes at `at`.
+fn read8_be(image: &[u8], at: usize) -> u64
     requires { ⌜ at + 8 ≤ length (now image) ⌝ }
-    ensures { λ r. ⌜ r ≡ rank (now (image .entry)) at 8 ⌝ }
+    ensures { λ r. ⌜ r ≡ bigField (now (image .entry)) at 8 ⌝ }
 {
-    rank4(image, at + 4) + 4294967296 * rank4(image, at)
+    read4_be(image, at + 4) + 4294967296 * read4_be(image, at)
 }
 
 // How the n bytes at a stand to the n at b, one byte a turn: for fewer than 8.
@@ -94,8 +94,8 @@ pub fn compare_runs(image: &[u8], a: usize, b: usize, n: usize) -> Ordering
 {
     let i = same_words(image, a, b, n);
     if 8 <= n - i {
-        let x = rank8(image, a + i);
-        let y = rank8(image, b + i);
+        let x = read8_be(image, a + i);
+        let y = read8_be(image, b + i);
         if x < y {
             return Ordering::Less;
         }

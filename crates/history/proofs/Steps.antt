@@ -1,5 +1,6 @@
 -- Each call keeps the invariant, and what it answers.
--- In order: allocate; free; a changed object; move; load; store, fill and copy; text copy. Not here: what follows for a list (`Theorem`). Assumes nothing.
+-- In order: bytes inside an object; allocate; free; a changed object; move; load; store, fill and copy; text copy. Not here: what follows for a list
+-- (`Theorem`). Assumes nothing.
 use Prim.Native.Nat.{ℕ, _+_, _-_, _^_, _≤_, _<_}
 use mathlib.Core.Path.{_≡_, refl, sym, ap, _∙_, subst}
 use mathlib.Core.Bool.{true, false, cond, _&&_, and-true, and-false}
@@ -27,7 +28,7 @@ use Rattle.block.specs.declared.text.Text.{Text}
 use Rattle.block.specs.declared.text.Text.the-variants.{Ends, Endless}
 use Rattle.block.specs.Layout.{sizeAt}
 use Rattle.store.specs.State.{State, state, Outcome, outcome, returned, demand, refuse}
-use Rattle.store.specs.Calls.{entryFree, carved, noted, merged, located, movedBy, goodWidth, allocate, move, load, store, fill, copy, textAnswer, bodyFrom, textAt, copyText, free}
+use Rattle.store.specs.Calls.{entryFree, carved, noted, merged, located, movedBy, goodWidth, allocate, move, load, store, fill, copy, textAnswer, textAt, copyText, free}
 use Rattle.store.specs.laws.TagReading.{Located, located-parts}
 use Rattle.store.specs.Step.{allocates, frees, moves, loads, stores, fills, copies, copiesText}
 use Rattle.store.specs.laws.Load.{load-leaves}
@@ -485,26 +486,28 @@ module _ {s L : ℕ} {x : State} {heap : Heap} (i : Invariant s L x heap) where
       (λ t. rw t refl))
 
   module _ (t p : ℕ) (o o′ : Object) (e : ownerOf heap t ≡ some o) (f : ownerOf heap p ≡ some o′) where
+    -- what the search of the source gives
+    searched : (w : Text) → textIn o′ p ≡ w → textAt s (unpack p) x ≡ demand (inside o′ p 1) OutOfBounds (textAnswer w)
+    searched w g = text-through p o′ f ∙ ap (λ (v : Text). demand (inside o′ p 1) OutOfBounds (textAnswer v)) g
+
     -- a text that ends is copied where its length plus one bytes of both lie inside their objects
     pub copies-text : (n : ℕ) → textIn o′ p ≡ Ends n
         → copyText t p x ≡ through x (n + 1) (inside o t (n + 1) && inside o′ p (n + 1)) (unpack t .address) (take (n + 1) (drop (unpack p .address) (x .image)))
     copies-text n g =
-        let found = text-through p o′ f ∙ ap (λ (w : Text). demand (inside o′ p 1) OutOfBounds (textAnswer w)) g in
         byBool (inside o′ p 1)
         (λ u.
         rw (inside-text p o′ n f g, u, and-true (inside o t (n + 1)))
-        (copy-text-through s x (opens i) t p n (inside o t (n + 1)) ((rw u at found) ∙ sym (text-ended n)) (accesses i t o (n + 1) e)))
+        (copy-text-through s x (opens i) t p n (inside o t (n + 1)) ((rw u at (searched (Ends n) g)) ∙ sym (text-ended n)) (accesses i t o (n + 1) e)))
         (λ u.
         rw (inside-text p o′ n f g, u, and-false (inside o t (n + 1)))
-        (copy-text-refuses s x (opens i) t p OutOfBounds (rw u at found)))
+        (copy-text-refuses s x (opens i) t p OutOfBounds (rw u at (searched (Ends n) g))))
 
     -- one that does not is refused, by 13 or 20
     pub copies-no-text : textIn o′ p ≡ Endless → (r : Refusal) × (copyText t p x ≡ refuse r x)
     copies-no-text g =
-        let found = text-through p o′ f ∙ ap (λ (w : Text). demand (inside o′ p 1) OutOfBounds (textAnswer w)) g in
         byBool (inside o′ p 1)
-        (λ u. (Unterminated, copy-text-refuses s x (opens i) t p Unterminated ((rw u at found) ∙ sym text-endless)))
-        (λ u. (OutOfBounds, copy-text-refuses s x (opens i) t p OutOfBounds (rw u at found)))
+        (λ u. (Unterminated, copy-text-refuses s x (opens i) t p Unterminated ((rw u at (searched Endless g)) ∙ sym text-endless)))
+        (λ u. (OutOfBounds, copy-text-refuses s x (opens i) t p OutOfBounds (rw u at (searched Endless g))))
 
     pub copy-text-step : Invariant s L (copyText t p x .after) (hear heap (copiesText t p) (copyText t p x .answer))
     unfolding hear textCopied copiedText

@@ -14,13 +14,13 @@ use Rattle.frame.specs.Pointers.{unpack}
 use Rattle.block.specs.laws.Booleans.{and-left, and-right, and-both, true-false}
 use Rattle.block.specs.Bytes.{decode, field}
 use Rattle.block.specs.laws.Fields.{field-bytes}
-use Rattle.block.specs.Order.{compareBytes, sign}
+use Rattle.block.specs.Order.{compareBytes}
 use Rattle.block.specs.declared.order.Ordering.{Ordering}
 use Rattle.block.specs.declared.text.Text.{Text}
 use Rattle.block.specs.declared.text.Text.the-variants.{Ends, Endless}
 use Rattle.block.specs.Layout.{extentAt}
-use Rattle.store.specs.State.{State, Outcome, IsAccepted, returned, value, comparisonNumber, comparisonValue, usageNumber}
-use Rattle.store.specs.Calls.{setUp, allocate, free, copy, compare, copyText, tally, located}
+use Rattle.store.specs.State.{State, Outcome, IsAccepted, returned, comparisonNumber, usageNumber}
+use Rattle.store.specs.Calls.{setUp, allocate, free, compare, copyText, tally, located}
 use Rattle.store.specs.laws.Refusals.{demand-iff, refused-some}
 use Rattle.store.specs.Step.{Call, allocates, frees, moves, loads, stores, fills, copies, copiesText, step}
 use Rattle.store.specs.laws.Tally.{tally-counts, tally-balanced}
@@ -33,10 +33,9 @@ use Rattle.store.specs.laws.Copy.{copy-through}
 use Rattle.store.specs.laws.Compare.{bytesThrough, compare-through}
 use Rattle.store.specs.declared.answer.Answer.the-variants.{Accepted}
 use Rattle.store.specs.declared.answer.Refusal.the-variants.{OutOfBounds}
-use Rattle.store.specs.declared.comparing.Comparison.{Comparison}
 use Rattle.store.specs.declared.comparing.Comparison.the-variants as comparison
 use Rattle.store.specs.declared.counting.Usage.the-variants as usage
-use Rattle.history.specs.Heap.{Object, Heap, holds, ownerOf, inside, bytesAt, textIn, hear, HearsNoOther}
+use Rattle.history.specs.Heap.{Object, Heap, holds, ownerOf, inside, textIn, hear, HearsNoOther}
 use Rattle.history.specs.History.{known, admitted, Configuration, next, after, allAdmitted, begun, In, headerOf, FreeRun, EntriesApart, PointersApart, PointersLead, FreesExactly, LoadsExactly, StoresExactly, FillsExactly, BothInside, CopiesExactly, ComparesExactly, TextsExactly, LoadsBytes, ComparesBytes, TextsCounted, EachAllocate, Holds, Demand3}
 use Rattle.history.specs.Tidiness.{MeetsNoUnsound, NeverUnsound, Balanced, StaysBalanced, Tidy, StaysTidy}
 use Rattle.history.proofs.Gaps.{Block, extent, Layout, blocks, bodies, gaps, overheads, counts, blockAt, Clear}
@@ -178,8 +177,10 @@ module _ {s L : ℕ} (x : Configuration) (i : Invariant s L (x .state) (x .heap)
           let w : IsAccepted (copyText t p (x .state)) ↔ BothInside o o′ t p (n + 1) =
           both-iff (inside o t (n + 1)) (inside o′ p (n + 1))
           (rw (copies-text i t p o o′ e f n g) (through-iff (x .state) (n + 1) (inside o t (n + 1) && inside o′ p (n + 1)) (unpack t .address) _))
-          in
-          ((λ a. (n, g, w .0 a)), λ (b : (m : ℕ) × (textIn o′ p ≡ Ends m) × BothInside o o′ t p (m + 1)). let same : b .0 ≡ n = cc (b .1, g) in w .1 (rw same at (b .2)))
+          in (
+            (λ a. (n, g, w .0 a)),
+            λ (b : (m : ℕ) × (textIn o′ p ≡ Ends m) × BothInside o o′ t p (m + 1)). let same : b .0 ≡ n = cc (b .1, g) in w .1 (rw same at (b .2)),
+          )
       go Endless g =
           let (r, q) = copies-no-text i t p o o′ e f g in (
             (λ (a : IsAccepted (copyText t p (x .state))). absurd (refused-some r (sym (ap (λ (z : Outcome). returned (z .answer)) q) ∙ a))),

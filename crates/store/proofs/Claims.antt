@@ -183,7 +183,7 @@ module _ (x : State) where
       go (Accepted n) e =
           let p : CopiesText target source x n = copy-text-parts target source x n e in
           let bytes : List ℕ = take n (drop (unpack source .address) (x .image)) in
-          let m : length bytes ≡ n = length-take-le n (drop (unpack source .address) (x .image)) (simp length-drop (omega (arith, p .bytes, p .from .inside))) in
+          let m : length bytes ≡ n = length-take-le n (drop (unpack source .address) (x .image)) (simp length-drop (omega (arith, p .from))) in
           subst (Ended exponent x) (copy-text-done target source x n e)
           (accepted refl (written exponent x (unpack target .address) bytes (omega (arith, p .to .inside))))
 

@@ -64,8 +64,8 @@ ReadsBack =
 unfoldable pub CountsAll : Type 0
 CountsAll = (x : State) → usageNumber (tally x) ≡ 0 → Balances (length (x .image)) (tally x)
 
--- Compare orders the bytes behind the pointers: among compares of one length on one image and table, swapping the operands of an accepted one negates
--- its value, and "not above 0" is transitive; the compares that are not named as accepted are so.
+-- Compare orders the bytes behind the pointers: among accepted compares of one length on one image and table, swapping the operands negates the value, and
+-- "not above 0" is transitive. The compares that are concluded about are accepted too.
 pub record ComparesInOrder : Type 0 where
   pub swapped :
       (p q n : ℕ) (x : State) → comparisonNumber (compare p q n x) ≡ 0

@@ -57,9 +57,9 @@ placed [] x = x
 placed (size ∷ sizes) x = placed sizes (allocate size 0 x .after)
 
 -- bytes stored one by one, from a pointer on
-abbrev typed : ℕ → List ℕ → State → State
-typed p [] x = x
-typed p (b ∷ bs) x = typed (p + 1) bs (store p 1 b x .after)
+abbrev storedFrom : ℕ → List ℕ → State → State
+storedFrom p [] x = x
+storedFrom p (b ∷ bs) x = storedFrom (p + 1) bs (store p 1 b x .after)
 
 -- the outcome of one allocation more
 abbrev further : ℕ → List ℕ → ℕ → Outcome
@@ -109,10 +109,10 @@ holds (damages L before at byte) =
     let x : State = placed before (begun L) in
     gives (tally (state (set (x .image) at byte) (x .table))) 7 0 0 0 0
 holds (compares L before p bytes left right n number v) =
-    let c : Comparison = compare left right n (typed p bytes (placed before (begun L))) in
+    let c : Comparison = compare left right n (storedFrom p bytes (placed before (begun L))) in
     eqb (comparisonNumber c) number && equal (comparisonValue c) v
 holds (texts L before p bytes target source number copied seen) =
-    let o : Outcome = copyText target source (typed p bytes (placed before (begun L))) in
+    let o : Outcome = copyText target source (storedFrom p bytes (placed before (begun L))) in
     eqb (returned (o .answer)) number && (eqb (value (o .answer)) copied && eqb (field (o .after .image) (unpack target .address) 8) seen)
 
 abbrev pub all : List Case → Bool
@@ -168,6 +168,8 @@ cases =
     ∷ compares 1024 (10 ∷ 20 ∷ []) 0x8010000000000029 (1 ∷ []) 0x000700000000003A 0x8010000000000020 11 13 (pos 0)
     ∷ compares 1024 (10 ∷ []) 0x8010000000000020 [] 0 0 0 6 (pos 0)
     ∷ compares 1024 (10 ∷ []) 0x8010000000000020 [] 0 0x8010000000000020 1 10 (pos 0)
+    ∷ compares 1024 (10 ∷ []) 0x8010000000000020 [] 0x8010000000000020 0 11 13 (pos 0)
+    ∷ compares 1024 (10 ∷ []) 0x8010000000000020 [] 0 0x8010000000000020 11 10 (pos 0)
     ∷ texts 1024 (10 ∷ 20 ∷ []) 0x8010000000000020 hello 0x000700000000003A 0x8010000000000020 0 6 0x0000006F6C6C6568
     ∷ texts 1024 (10 ∷ 20 ∷ []) 0x000700000000003A (0xFF ∷ 0xFF ∷ []) 0x000700000000003A 0x8010000000000020 0 1 0xFF00
     ∷ texts 1024 (10 ∷ 20 ∷ []) 0x000700000000003A hello 0x8010000000000024 0x000700000000003A 0 6 0x0024006F6C6C6568
@@ -179,6 +181,9 @@ cases =
     ∷ texts 1024 (4 ∷ 20 ∷ []) 0x8010000000000020 (1 ∷ 2 ∷ 3 ∷ 4 ∷ []) 0 0x8010000000000020 20 0 0x0006000300000010
     ∷ texts 1024 (4 ∷ 20 ∷ []) 0x8010000000000020 (1 ∷ 2 ∷ 3 ∷ 4 ∷ []) 0x0007000000000034 0x8010000000000024 13 0 0
     ∷ texts 1024 (4 ∷ []) 0x8010000000000020 [] 0 0x8010000000000020 10 0 0x0006000300000010
+    ∷ texts 1024 (10 ∷ 20 ∷ []) 0x8010000000000020 hello 0x000700000000003A 0x8010000000000029 0 1 0
+    ∷ texts 1024 (10 ∷ []) 0x8010000000000020 hello 0x8010000000000020 0x801000000000001F 13 0 0x0000006F6C6C6568
+    ∷ texts 64 (17 ∷ []) 0x8010000000000020 (replicate 17 1) 0x8010000000000020 0x8010000000000020 20 0 0x0101010101010101
     ∷ []
 
 pub worked : T (all cases)

@@ -1,5 +1,5 @@
 -- How runs of bytes stand to each other: an order.
--- In order: by the first byte; swapped; transitive; ranks; by as many bytes as a turn of a loop compares. Assumes nothing.
+-- In order: by the first byte; swapped; transitive; big-endian numbers; by as many bytes as a turn of a loop compares. Assumes nothing.
 use Prim.Native.Nat.{ℕ, zero, suc, _+_, _-_, _*_, _^_, _≤_, _<_}
 use mathlib.Core.Path.{_≡_, refl, sym, ap, _∙_}
 use mathlib.Core.Bool.{true}
@@ -24,21 +24,24 @@ use Rattle.block.specs.declared.order.Ordering.the-variants.{Less, Equal
 -- by the first byte
 
 module _ (a b : ℕ) (rest bs : List ℕ) where
-  pub compare-same : a ≡ b → compareBytes (a ∷ rest) (b ∷ bs) ≡ compareBytes rest bs
+  compare-same : a ≡ b → compareBytes (a ∷ rest) (b ∷ bs) ≡ compareBytes rest bs
   unfolding compareBytes
   compare-same e = rw (compareBytes, eq-eqb a b e)
 
-  pub compare-less : a < b → compareBytes (a ∷ rest) (b ∷ bs) ≡ Less
+  compare-less : a < b → compareBytes (a ∷ rest) (b ∷ bs) ≡ Less
   unfolding compareBytes
   compare-less l = rw (compareBytes, ne-eqb a b (λ e. omega arith), lt-ltb a b l)
 
-  pub compare-greater : b < a → compareBytes (a ∷ rest) (b ∷ bs) ≡ Greater
+  compare-greater : b < a → compareBytes (a ∷ rest) (b ∷ bs) ≡ Greater
   unfolding compareBytes
   compare-greater l = rw (compareBytes, ne-eqb a b (λ e. omega arith), le-ltb a b (omega arith))
 
 -- by how two numbers stand to each other
-pub trichotomy : {P : Type 0} (a b : ℕ) → (a < b → P) → (a ≡ b → P) → (b < a → P) → P
-trichotomy a b l e g = byBool (eqb a b) (λ t. e (eqb-true a b t)) (λ t. byBool (ltb a b) (λ u. l (ltb-true a b u)) (λ u. g (omega (arith, ltb-false a b u, eqb-false a b t))))
+trichotomy : {P : Type 0} (a b : ℕ) → (a < b → P) → (a ≡ b → P) → (b < a → P) → P
+trichotomy a b l e g =
+    byBool (eqb a b)
+    (λ t. e (eqb-true a b t))
+    (λ t. byBool (ltb a b) (λ u. l (ltb-true a b u)) (λ u. g (omega (arith, ltb-false a b u, eqb-false a b t))))
 
 -- operands swapped
 pub compare-swapped : (xs ys : List ℕ) → sign (compareBytes ys xs) ≡ negℤ (sign (compareBytes xs ys))
@@ -56,7 +59,7 @@ compare-swapped (x ∷ xs) (y ∷ ys) =
 abbrev pub NotAbove : List ℕ → List ℕ → Type 0
 NotAbove xs ys = leZ (sign (compareBytes xs ys)) (pos 0) ≡ true
 
--- and so for runs that are not above each other
+-- transitive
 
 not-above : (xs ys : List ℕ) (o : Ordering) → compareBytes xs ys ≡ o → leZ (sign o) (pos 0) ≡ true → NotAbove xs ys
 not-above xs ys o e l = ap (λ (p : Ordering). leZ (sign p) (pos 0)) e ∙ l
@@ -69,8 +72,8 @@ first-bytes x y xs ys n =
     (λ e. inr (e, not-above xs ys _ (sym (compare-same x y xs ys e)) n))
     (λ l. absurd (true-false n (ap (λ (o : Ordering). leZ (sign o) (pos 0)) (compare-greater x y xs ys l))))
 
-less-above : (x y : ℕ) (xs ys : List ℕ) → x < y → NotAbove (x ∷ xs) (y ∷ ys)
-less-above x y xs ys l = not-above (x ∷ xs) (y ∷ ys) Less (compare-less x y xs ys l) refl
+less-not-above : (x y : ℕ) (xs ys : List ℕ) → x < y → NotAbove (x ∷ xs) (y ∷ ys)
+less-not-above x y xs ys l = not-above (x ∷ xs) (y ∷ ys) Less (compare-less x y xs ys l) refl
 
 pub compare-transitive : (xs ys zs : List ℕ) → length xs ≡ length ys → length ys ≡ length zs → NotAbove xs ys → NotAbove ys zs → NotAbove xs zs
 unfolding compareBytes
@@ -81,64 +84,66 @@ compare-transitive (x ∷ xs) (y ∷ ys) (z ∷ zs) d e p q =
     let ih = compare-transitive xs ys zs (omega arith) (omega arith) in
     ⊎-elim
     (λ (l : x < y). ⊎-elim
-    (λ (m : y < z). less-above x z xs zs (omega arith))
-    (λ (m : (y ≡ z) × NotAbove ys zs). less-above x z xs zs (omega (arith, m .0)))
+    (λ (m : y < z). less-not-above x z xs zs (omega arith))
+    (λ (m : (y ≡ z) × NotAbove ys zs). less-not-above x z xs zs (omega (arith, m .0)))
     (first-bytes y z ys zs q))
     (λ (l : (x ≡ y) × NotAbove xs ys). ⊎-elim
-    (λ (m : y < z). less-above x z xs zs (omega (arith, l .0)))
+    (λ (m : y < z). less-not-above x z xs zs (omega (arith, l .0)))
     (λ (m : (y ≡ z) × NotAbove ys zs).
     not-above (x ∷ xs) (z ∷ zs) (compareBytes xs zs) (compare-same x z xs zs (l .0 ∙ m .0)) (ih (l .1) (m .1)))
     (first-bytes y z ys zs q))
     (first-bytes x y xs ys p)
 
--- Ranks.
+-- Big-endian numbers.
 
--- the number in `width` bytes at `at`, the first byte highest: of two such numbers the one whose first differing byte is lower is the lower
-unfoldable pub rank : List ℕ → ℕ → ℕ → ℕ
-rank image at zero = 0
-rank image at (suc width) = rank image (suc at) width + 256 ^ width * getD image at 0
+-- the number in `width` bytes at `at`, big-endian: of two such numbers the one whose first differing byte is lower is the lower
+unfoldable pub bigField : List ℕ → ℕ → ℕ → ℕ
+bigField image at zero = 0
+bigField image at (suc width) = bigField image (suc at) width + 256 ^ width * getD image at 0
 
 -- one byte is the same number in either order
-pub rank-one : (image : List ℕ) (at : ℕ) {x : ℕ} → x ≡ field image at 1 → x ≡ rank image at 1
-unfolding rank
-rank-one image at e = omega (arith, field-one image at)
+pub big-one : (image : List ℕ) (at : ℕ) {x : ℕ} → x ≡ field image at 1 → x ≡ bigField image at 1
+unfolding bigField
+big-one image at e = omega (arith, field-one image at)
 
--- and the same bytes have the same rank
-pub same-ranks : (image : List ℕ) → Bytes image → (w a b : ℕ) → field image a w ≡ field image b w → rank image a w ≡ rank image b w
-unfolding rank
-same-ranks image h zero a b e = refl
-same-ranks image h (suc w) a b e =
+-- and the same bytes are the same number in either
+pub same-big : (image : List ℕ) → Bytes image → (w a b : ℕ) → field image a w ≡ field image b w → bigField image a w ≡ bigField image b w
+unfolding bigField
+same-big image h zero a b e = refl
+same-big image h (suc w) a b e =
     let both : getD image a 0 + 256 * field image (suc a) w ≡ getD image b 0 + 256 * field image (suc b) w =
     sym (field-step image a w) ∙ e ∙ field-step image b w
     in
     let first : getD image a 0 ≡ getD image b 0 = omega (arith, h a, h b) in
-    let rest : rank image (suc a) w ≡ rank image (suc b) w = same-ranks image h w (suc a) (suc b) (omega (arith, h a, h b)) in
+    let rest : bigField image (suc a) w ≡ bigField image (suc b) w = same-big image h w (suc a) (suc b) (omega (arith, h a, h b)) in
     rw (first, rest)
 
--- a rank in two parts: its last bytes, which are the low ones, and the others
-pub rank-add : (image : List ℕ) (v w at : ℕ) → rank image at (v + w) ≡ rank image (at + v) w + 256 ^ w * rank image at v
-unfolding rank
-rank-add image zero w at = rw (zero-add w, add-zero at) (omega arith)
-rank-add image (suc v) w at =
+-- a number in two parts: its last bytes, which are the low ones, and the others
+big-add : (image : List ℕ) (v w at : ℕ) → bigField image at (v + w) ≡ bigField image (at + v) w + 256 ^ w * bigField image at v
+unfolding bigField
+big-add image zero w at = rw (zero-add w, add-zero at) (omega arith)
+big-add image (suc v) w at =
     let b : ℕ = getD image at 0 in
     let high : 256 ^ (v + w) * b ≡ 256 ^ w * (256 ^ v * b) = rw (pow-add 256 v w, mul-comm (256 ^ v) (256 ^ w)) (mul-assoc (256 ^ w) (256 ^ v) b) in
-    let ih : rank image (suc at) (v + w) ≡ rank image (suc (at + v)) w + 256 ^ w * rank image (suc at) v = rw (suc-add at v) at (rank-add image v w (suc at)) in
+    let ih : bigField image (suc at) (v + w) ≡ bigField image (suc (at + v)) w + 256 ^ w * bigField image (suc at) v =
+    rw (suc-add at v) at (big-add image v w (suc at))
+    in
     rw (suc-add v w, add-suc at v, mul-add) (omega arith)
 
--- a rank of bytes is below that power of 256
-pub rank-bound : (image : List ℕ) → Bytes image → (w at : ℕ) → rank image at w < 256 ^ w
-unfolding rank
-rank-bound image h zero at = omega arith
-rank-bound image h (suc w) at = omega (arith, pow-suc 256 w, mul-le-mul-left (256 ^ w) (h at), mul-suc (256 ^ w) (getD image at 0), rank-bound image h w (suc at))
+-- a number of bytes is below that power of 256
+big-bound : (image : List ℕ) → Bytes image → (w at : ℕ) → bigField image at w < 256 ^ w
+unfolding bigField
+big-bound image h zero at = omega arith
+big-bound image h (suc w) at = omega (arith, pow-suc 256 w, mul-le-mul-left (256 ^ w) (h at), mul-suc (256 ^ w) (getD image at 0), big-bound image h w (suc at))
 
--- a rank read in two parts: `low`, its w last bytes, and `high`, the v others
-module _ (image : List ℕ) (v w at low high : ℕ) (l : low ≡ rank image (at + v) w) (h : high ≡ rank image at v) where
-  pub ranks-are : low + 256 ^ w * high ≡ rank image at (v + w)
-  ranks-are = cc (rank-add image v w at)
+-- a number read in two parts: `low`, its w last bytes, and `high`, the v others
+module _ (image : List ℕ) (v w at low high : ℕ) (l : low ≡ bigField image (at + v) w) (h : high ≡ bigField image at v) where
+  pub big-parts-are : low + 256 ^ w * high ≡ bigField image at (v + w)
+  big-parts-are = cc (big-add image v w at)
 
   -- so the sum fits that many bytes
-  pub ranks-fit : Bytes image → low + 256 ^ w * high < 256 ^ (v + w)
-  ranks-fit b = rw ranks-are (rank-bound image b (v + w) at)
+  pub big-parts-fit : Bytes image → low + 256 ^ w * high < 256 ^ (v + w)
+  big-parts-fit b = rw big-parts-are (big-bound image b (v + w) at)
 
 -- by several bytes at once
 
@@ -188,17 +193,17 @@ module _ (image : List ℕ) (a b n : ℕ) where
 
   module _ (h : Bytes image) (f : a + n ≤ length image) (g : b + n ≤ length image) where
     -- their next w bytes decide how what is left of them stands to each other
-    ranks-decide : (w i : ℕ) → i + w ≤ n
-        → Decide (rank image (a + i) w) (rank image (b + i) w) (compareAfter image a b n i) (compareAfter image a b n (i + w))
-    unfolding rank
-    ranks-decide zero i l = rw (add-zero i) (record { below = λ q. absurd (omega arith); equal = λ _. refl; above = λ q. absurd (omega arith) })
-    ranks-decide (suc w) i l =
+    big-decide : (w i : ℕ) → i + w ≤ n
+        → Decide (bigField image (a + i) w) (bigField image (b + i) w) (compareAfter image a b n i) (compareAfter image a b n (i + w))
+    unfolding bigField
+    big-decide zero i l = rw (add-zero i) (record { below = λ q. absurd (omega arith); equal = λ _. refl; above = λ q. absurd (omega arith) })
+    big-decide (suc w) i l =
         let e : n - i ≡ suc (n - suc i) = omega arith in
-        let next = rw (add-suc a i, add-suc b i) at (ranks-decide w (suc i) (omega arith)) in
+        let next = rw (add-suc a i, add-suc b i) at (big-decide w (suc i) (omega arith)) in
         rw (e, drop-cons image (a + i) 0 (omega arith), drop-cons image (b + i) 0 (omega arith), add-suc i w, ← suc-add i w)
-        (sums-decide (rank-bound image h w (suc (a + i))) (rank-bound image h w (suc (b + i))) (first-decide _ _ _ _) next)
+        (sums-decide (big-bound image h w (suc (a + i))) (big-bound image h w (suc (b + i))) (first-decide _ _ _ _) next)
 
     -- a turn of a loop: how they stand to each other, where they do so as after their first i bytes
-    pub compare-turn : (w i : ℕ) → i + w ≤ n → {x y : ℕ} → x ≡ rank image (a + i) w → y ≡ rank image (b + i) w
+    pub compare-turn : (w i : ℕ) → i + w ≤ n → {x y : ℕ} → x ≡ bigField image (a + i) w → y ≡ bigField image (b + i) w
         → compareRuns image a b n ≡ compareAfter image a b n i → Decide x y (compareRuns image a b n) (compareAfter image a b n (i + w))
-    compare-turn w i l p q e = rw (p, q, e) (ranks-decide w i l)
+    compare-turn w i l p q e = rw (p, q, e) (big-decide w i l)

@@ -19,16 +19,16 @@ use Rattle.block.specs.declared.text.Text.the-variants.{Ends, Endless}
 
 -- a text, by its first byte
 
-pub text-ends : (n b : ℕ) (bs : List ℕ) → b ≡ 0 → textFrom n (b ∷ bs) ≡ Ends n
+text-ends : (n b : ℕ) (bs : List ℕ) → b ≡ 0 → textFrom n (b ∷ bs) ≡ Ends n
 unfolding textFrom
 text-ends n b bs e = rw (textFrom, eq-eqb b 0 e)
 
-pub text-goes-on : (n b : ℕ) (bs : List ℕ) → (b ≡ 0 → ⊥) → textFrom n (b ∷ bs) ≡ textFrom (n + 1) bs
+text-goes-on : (n b : ℕ) (bs : List ℕ) → (b ≡ 0 → ⊥) → textFrom n (b ∷ bs) ≡ textFrom (n + 1) bs
 unfolding textFrom
 text-goes-on n b bs e = rw (textFrom, ne-eqb b 0 e)
 
 -- a text is the whole of what follows no byte
-pub text-whole : (bs : List ℕ) → textOf bs ≡ textFrom 0 bs
+text-whole : (bs : List ℕ) → textOf bs ≡ textFrom 0 bs
 unfolding textOf
 text-whole bs = refl
 

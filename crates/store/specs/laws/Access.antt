@@ -11,14 +11,13 @@ use borrow.Author.Tests.{leb-true, le-leb, lt-leb}
 use Rattle.frame.specs.declared.parts.Pointer.{Pointer}
 use Rattle.block.specs.laws.Booleans.{true-false, and-left, and-right}
 use Rattle.block.specs.Layout.{sizeAt}
-use Rattle.block.specs.laws.Soundness.{sound-live, sound-end}
 use Rattle.block.specs.Bytes.{put}
 use Rattle.block.specs.laws.Headers.{headerAt-put-other}
 use Rattle.block.specs.declared.header.Header.{Header}
 use Rattle.store.specs.State.{State, state, demand, Outcome, outcome, IsAccepted, refuse}
 use Rattle.store.specs.Calls.{located, inBody, accessed, goodWidth}
 use Rattle.store.specs.laws.Refusals.{demand-met, and-then-met}
-use Rattle.store.specs.laws.TagReading.{Located, located-parts, located-at, located-kept}
+use Rattle.store.specs.laws.TagReading.{Located, located-parts, located-inside, located-at, located-kept}
 use Rattle.store.specs.declared.answer.Refusal.{Refusal}
 use Rattle.store.specs.declared.answer.Refusal.the-variants.{OutOfBounds}
 use Rattle.store.specs.declared.answer.Answer.the-variants.{Accepted, Refused}
@@ -42,8 +41,7 @@ accessed-parts s p n x a e =
     let o = located-parts s p x h l in
     let low : h + 16 ≤ p .address = leb-true _ _ (and-left _ (leb (p .address + n) (h + 16 + sizeAt (x .image) h)) (b .0)) in
     let high : p .address + n ≤ h + 16 + sizeAt (x .image) h = leb-true _ _ (and-right (leb (h + 16) (p .address)) _ (b .0)) in
-    let end = sound-end (x .image) h (o .header .is-sound) in
-    let body = sound-live (x .image) h (o .header .is-sound) (o .header .is-live) .holds in
+    let inside = located-inside s p x h o in
     record { header = h; object = o; address = q; low = omega arith; high = omega arith; inside = omega arith }
 
 -- row 13, where rows 10 and 11 are passed

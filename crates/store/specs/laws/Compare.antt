@@ -13,7 +13,6 @@ use borrow.Author.Tests.{ltb-true}
 use Rattle.frame.specs.Pointers.{unpack}
 use Rattle.block.specs.Order.{compareBytes, sign}
 use Rattle.block.specs.laws.Order.{compare-swapped, compare-transitive}
-use Rattle.block.specs.declared.order.Ordering.{Ordering}
 use Rattle.store.specs.State.{State, demand, comparisonNumber, comparisonValue}
 use Rattle.store.specs.Calls.{opening, accessed, copyChecks, compared, compare}
 use Rattle.store.specs.laws.Refusals.{refused-some, demand-met, and-then-met}
@@ -42,7 +41,7 @@ module _ (p q n : ℕ) (x : State) where
   compare-done b e = rw e
 
 -- the rows of compare are passed: the n bytes through each pointer lie in its object's body
-pub record Compares (p q n : ℕ) (x : State) : Type 0 where
+record Compares (p q n : ℕ) (x : State) : Type 0 where
   pub exponent : ℕ
   pub opens : opening x ≡ Accepted exponent
   pub some : 0 < n
@@ -54,7 +53,7 @@ accessed-address : (s p n : ℕ) (x : State) (a : ℕ) → accessed s (unpack p)
 accessed-address s p n x a e = e ∙ ap Accepted (accessed-parts s (unpack p) n x a e .address)
 
 -- an accepted compare passes them
-pub compare-parts : (p q n : ℕ) (x : State) → comparisonNumber (compare p q n x) ≡ 0 → Compares p q n x
+compare-parts : (p q n : ℕ) (x : State) → comparisonNumber (compare p q n x) ≡ 0 → Compares p q n x
 unfolding copyChecks
 compare-parts p q n x e = go (copyChecks p q n x) refl
   where
@@ -73,7 +72,7 @@ compare-parts p q n x e = go (copyChecks p q n x) refl
         }
 
 -- and what it gives then
-pub compare-gives : (p q n : ℕ) (x : State) → Compares p q n x → compare p q n x ≡ comparison.Ordered (compareBytes (bytesThrough x n p) (bytesThrough x n q))
+compare-gives : (p q n : ℕ) (x : State) → Compares p q n x → compare p q n x ≡ comparison.Ordered (compareBytes (bytesThrough x n p) (bytesThrough x n q))
 compare-gives p q n x c =
     sym
     (compare-done p q n x (unpack q .address)
@@ -91,11 +90,11 @@ compare-through s x o p q n false c l e f = sym (compare-declined p q n x OutOfB
 -- An order.
 
 -- it is accepted, and its value is the sign of the bytes' order
-pub record Orders (p q n : ℕ) (x : State) : Type 0 where
+record Orders (p q n : ℕ) (x : State) : Type 0 where
   pub number : comparisonNumber (compare p q n x) ≡ 0
   pub sign-of : comparisonValue (compare p q n x) ≡ sign (compareBytes (bytesThrough x n p) (bytesThrough x n q))
 
-pub compare-orders : (p q n : ℕ) (x : State) → Compares p q n x → Orders p q n x
+compare-orders : (p q n : ℕ) (x : State) → Compares p q n x → Orders p q n x
 compare-orders p q n x c = record { number = ap comparisonNumber (compare-gives p q n x c); sign-of = ap comparisonValue (compare-gives p q n x c) }
 
 -- swapped operands, and those of two compares with one in common

@@ -1,8 +1,7 @@
 -- Text copy: its rows, what is known where they are passed, and what it leaves. Assumes nothing.
 use Prim.Native.Nat.{ℕ, _+_, _-_, _≤_, _<_}
-use mathlib.Core.Path.{_≡_, refl, sym, ap, _∙_, subst}
+use mathlib.Core.Path.{_≡_, refl, sym, ap, subst}
 use mathlib.Core.Bool.{Bool, true, false, _&&_}
-use mathlib.Core.List.{List}
 use native.Mathlib.Omega.{arith}
 use lib.Dec.{leb}
 use lib.ListN.{length, take, drop, length-take}
@@ -12,16 +11,14 @@ use Rattle.frame.specs.declared.parts.Pointer.{Pointer}
 use Rattle.block.specs.Bytes.{put}
 use Rattle.block.specs.Layout.{sizeAt}
 use Rattle.block.specs.Text.{textOf}
-use Rattle.block.specs.laws.Booleans.{and-left, and-right}
-use Rattle.block.specs.laws.Soundness.{sound-live, sound-end}
+use Rattle.block.specs.laws.Booleans.{and-right}
 use Rattle.block.specs.laws.Text.{text-bound}
 use Rattle.block.specs.declared.text.Text.{Text}
 use Rattle.block.specs.declared.text.Text.the-variants.{Ends, Endless}
 use Rattle.store.specs.State.{State, outcome, demand, refuse}
 use Rattle.store.specs.Calls.{opening, located, inBody, accessed, textAnswer, bodyFrom, textAt, copyTextChecks, copyText}
 use Rattle.store.specs.laws.Refusals.{demand-met, and-then-met}
-use Rattle.store.specs.laws.Opening.{Open, opening-parts}
-use Rattle.store.specs.laws.TagReading.{Located, located-parts}
+use Rattle.store.specs.laws.TagReading.{located-parts, located-inside}
 use Rattle.store.specs.laws.Access.{Accessed, accessed-parts, through}
 use Rattle.store.specs.declared.answer.Refusal.{Refusal}
 use Rattle.store.specs.declared.answer.Refusal.the-variants.{OutOfBounds, Unterminated}
@@ -69,33 +66,16 @@ module _ (s : ℕ) (p : Pointer) (x : State) where
     pub text-within : h + 16 ≤ p .address → p .address < h + 16 + sizeAt (x .image) h → textAnswer (textOf (bodyFrom (x .image) h p)) ≡ textAt s p x
     text-within b e = rw (text-located s p x h l, le-leb _ _ b, le-leb (p .address + 1) (h + 16 + sizeAt (x .image) h) (omega arith)) refl
 
--- rows 10, 11, 13 and 20 are passed: a text of length n and its zero byte stand in the body of an object
-pub record Reads (s : ℕ) (p : Pointer) (x : State) (n : ℕ) : Type 0 where
-  pub header : ℕ
-  pub object : Located s p x header
-  pub low : header + 16 ≤ p .address
-  pub high : p .address + (n + 1) ≤ header + 16 + sizeAt (x .image) header
-  pub inside : p .address + (n + 1) ≤ length (x .image)
-
-pub text-parts : (s : ℕ) (p : Pointer) (x : State) (n : ℕ) → textAt s p x ≡ Accepted n → Reads s p x n
+-- where rows 10, 11, 13 and 20 are passed, the text and its zero byte lie in the image
+pub text-inside : (s : ℕ) (p : Pointer) (x : State) (n : ℕ) → textAt s p x ≡ Accepted n → p .address + (n + 1) ≤ length (x .image)
 unfolding textAt inBody
-text-parts s p x n e =
+text-inside s p x n e =
     let (h, l, m) = and-then-met (located s p x) _ n e in
     let b = demand-met (inBody (x .image) h p 1) OutOfBounds _ n m in
-    let o = located-parts s p x h l in
-    let low : h + 16 ≤ p .address = leb-true _ _ (and-left _ (leb (p .address + 1) (h + 16 + sizeAt (x .image) h)) (b .0)) in
     let first : p .address + 1 ≤ h + 16 + sizeAt (x .image) h = leb-true _ _ (and-right (leb (h + 16) (p .address)) _ (b .0)) in
-    let range = text-bound (bodyFrom (x .image) h p) n (text-answered (textOf (bodyFrom (x .image) h p)) n (b .1)) in
+    let ends : n < length (bodyFrom (x .image) h p) = text-bound (bodyFrom (x .image) h p) n (text-answered (textOf (bodyFrom (x .image) h p)) n (b .1)) in
     let long : length (bodyFrom (x .image) h p) ≤ h + 16 + sizeAt (x .image) h - p .address = simp length-take (omega arith) in
-    let end = sound-end (x .image) h (o .header .is-sound) in
-    let body = sound-live (x .image) h (o .header .is-sound) (o .header .is-live) .holds in
-    record {
-      header = h;
-      object = o;
-      low = low;
-      high = omega (arith, range);
-      inside = omega (arith, range);
-    }
+    omega (arith, located-inside s p x h (located-parts s p x h l))
 
 -- The rows.
 
@@ -113,23 +93,20 @@ module _ (x : State) (s : ℕ) (e : opening x ≡ Accepted s) where
     copy-text-unread r t = rw (e, t)
 
     module _ (n : ℕ) (t : textAt s (unpack source) x ≡ Accepted n) where
-      -- then the target's 10, 11 and 13
-      pub copy-text-refused : (r : Refusal) → accessed s (unpack target) (n + 1) x ≡ Refused r → Refused r ≡ copyTextChecks target source x
+      -- then the target's 10, 11 and 13, of m bytes
+      pub copy-text-refused : (m : ℕ) → m ≡ n + 1 → (r : Refusal) → accessed s (unpack target) m x ≡ Refused r → Refused r ≡ copyTextChecks target source x
       unfolding copyTextChecks
-      copy-text-refused r a = rw (e, t, a)
+      copy-text-refused m q r a = rw (e, t, ← q, a)
 
       -- all are passed
-      pub copy-text-passed : (at : ℕ) → accessed s (unpack target) (n + 1) x ≡ Accepted at → Accepted (n + 1) ≡ copyTextChecks target source x
+      pub copy-text-passed : (m : ℕ) → m ≡ n + 1 → (at : ℕ) → accessed s (unpack target) m x ≡ Accepted at → Accepted m ≡ copyTextChecks target source x
       unfolding copyTextChecks
-      copy-text-passed at a = rw (e, t, a)
+      copy-text-passed m q at a = rw (e, t, ← q, a)
 
--- the rows of text copy are passed: n bytes, a text's length plus one, go from the source's address to the target's
+-- the rows of text copy are passed: n bytes go from the source's address, in the image, to the target's, in a body
 pub record CopiesText (target source : ℕ) (x : State) (n : ℕ) : Type 0 where
   pub exponent : ℕ
-  pub opens : Open x exponent
-  pub text : ℕ
-  pub bytes : n ≡ text + 1
-  pub from : Reads exponent (unpack source) x text
+  pub from : unpack source .address + n ≤ length (x .image)
   pub to : Accessed exponent (unpack target) n x (unpack target .address)
 
 -- an accepted text copy passes them
@@ -141,14 +118,12 @@ copy-text-parts target source x n e =
     let (b, t, w) = and-then-met (accessed s (unpack target) (k + 1) x) _ n v in
     let q : k + 1 ≡ n = cc in
     let d = accessed-parts s (unpack target) (k + 1) x b t in
-    record {
+    rw (← q)
+    (record {
       exponent = s;
-      opens = opening-parts x s o;
-      text = k;
-      bytes = sym q;
-      from = text-parts s (unpack source) x k u;
-      to = subst (λ (m : ℕ). Accessed s (unpack target) m x (unpack target .address)) q (subst (λ (c : ℕ). Accessed s (unpack target) (k + 1) x c) (d .address) d);
-    }
+      from = text-inside s (unpack source) x k u;
+      to = subst (λ (c : ℕ). Accessed s (unpack target) (k + 1) x c) (d .address) d;
+    })
 
 -- a refused text copy leaves all as it was
 pub copy-text-declined : (target source : ℕ) (x : State) (r : Refusal) → copyTextChecks target source x ≡ Refused r
@@ -169,8 +144,8 @@ module _ (s : ℕ) (x : State) (o : opening x ≡ Accepted s) (t p : ℕ) where
   pub copy-text-through : (n : ℕ) (b : Bool) → textAt s (unpack p) x ≡ Accepted n
       → accessed s (unpack t) (n + 1) x ≡ demand b OutOfBounds (Accepted (unpack t .address))
       → copyText t p x ≡ through x (n + 1) b (unpack t .address) (take (n + 1) (drop (unpack p .address) (x .image)))
-  copy-text-through n true e f = sym (copy-text-done t p x (n + 1) (sym (copy-text-passed x s o t p n e _ f)))
-  copy-text-through n false e f = sym (copy-text-declined t p x OutOfBounds (sym (copy-text-refused x s o t p n e OutOfBounds f)))
+  copy-text-through n true e f = sym (copy-text-done t p x (n + 1) (sym (copy-text-passed x s o t p n e (n + 1) refl _ f)))
+  copy-text-through n false e f = sym (copy-text-declined t p x OutOfBounds (sym (copy-text-refused x s o t p n e (n + 1) refl OutOfBounds f)))
 
   -- where there is none
   pub copy-text-refuses : (r : Refusal) → textAt s (unpack p) x ≡ Refused r → copyText t p x ≡ refuse r x

@@ -73,6 +73,12 @@ located-parts s p x h e =
           });
     }
 
+-- the object lies in the image
+pub located-inside : (s : ℕ) (p : Pointer) (x : State) (h : ℕ) → Located s p x h → h + 16 + sizeAt (x .image) h ≤ length (x .image)
+located-inside s p x h l =
+    let v = l .header in
+    omega (arith, sound-live (x .image) h (v .is-sound) (v .is-live) .holds, sound-end (x .image) h (v .is-sound))
+
 -- how row 11 is passed
 pub located-leads : (s : ℕ) (p : Pointer) (x : State) (h : ℕ) → Located s p x h → leadsBack s p x ≡ true
 unfolding leadsBack verified
@@ -246,9 +252,7 @@ read-found s p x o e = go (located s p x) refl
 
 -- it lies in the image
 pub found-inside : {s : ℕ} {p : Pointer} {x : State} {o : Reading} → FoundAt s p x o → o .header + 16 + o .size ≤ length (x .image)
-found-inside {x = x} {o = o} f =
-    let h = f .object .header in
-    omega (arith, f .size-is, sound-live (x .image) (o .header) (h .is-sound) (h .is-live) .holds, sound-end (x .image) (o .header) (h .is-sound))
+found-inside {s = s} {p = p} {x = x} {o = o} f = omega (arith, f .size-is, located-inside s p x (o .header) (f .object))
 
 -- why it found nothing
 pub read-refused : (s : ℕ) (p : Pointer) (x : State) (r : Refusal) → readTag s p x ≡ found.Refused r → located s p x ≡ Refused r

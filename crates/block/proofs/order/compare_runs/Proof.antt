@@ -1,5 +1,5 @@
 -- `block::order::compare_runs`: the same words are passed; the next word decides, or the bytes that are left. Assumes nothing.
-use mathlib.Core.Path.{_≡_, sym, _∙_}
+use mathlib.Core.Path.{sym, _∙_}
 use Prim.Native.Nat.{_+_}
 use native.Mathlib.Omega.{arith}
 use borrow.Author.Needs.{needs}
@@ -11,28 +11,28 @@ use Rattle.block.proofs.order.compare_runs.Tie as tie
 abbrev start : tie.After-same-words → tie.Start
 start c = c .before .before
 
-abbrev passed : tie.After-rank82 → tie.After-same-words
+abbrev passed : tie.After-read8-be2 → tie.After-same-words
 passed c = c .before .before .before
 
 -- the next word's numbers decide
-decide : (c : tie.After-rank82)
+decide : (c : tie.After-read8-be2)
     → let s = start (passed c) .args in
-    Decide (c .before .rank8 .result) (c .rank82 .result)
+    Decide (c .before .read8-be .result) (c .read8-be2 .result)
     (compareRuns (s .image .now) (s .a) (s .b) (s .n))
     (compareAfter (s .image .now) (s .a) (s .b) (s .n) (passed c .same-words .result + 8))
 decide c =
     let p = passed c in
     let s = start p in
     compare-turn (s .args .image .now) (s .args .a) (s .args .b) (s .args .n) (λ k. p .before .shared-slice-known .given k .fits) (s .pre .0) (s .pre .1)
-    8 (p .same-words .result) (omega (arith, c .before .before .if1 .taken)) (c .before .rank8 .ensures) (c .rank82 .ensures) (p .same-words .ensures .1)
+    8 (p .same-words .result) (omega (arith, c .before .before .if1 .taken)) (c .before .read8-be .ensures) (c .read8-be2 .ensures) (p .same-words .ensures .1)
 
 -- the 8 bytes of the first run are below those of the second
 returns : tie.Need-returns
-returns c = sym (decide (c .before) .below (c .if2 .taken))
+returns c = sym (decide (c .before) .below (omega (arith, c .if2 .taken)))
 
 -- they are above those
 returns-2 : tie.Need-returns-2
-returns-2 c = sym (decide (c .before .before) .above (c .if3 .taken))
+returns-2 c = sym (decide (c .before .before) .above (omega (arith, c .if3 .taken)))
 
 -- fewer than 8 bytes are left
 returns-3 : tie.Need-returns-3

@@ -1,9 +1,9 @@
 -- `block::order::same_words`. Invariant: the runs stand to each other as they do after their first i bytes. Measure: the bytes left. Assumes nothing.
 use mathlib.Core.Path.{_≡_, refl, sym, _∙_}
-use Prim.Native.Nat.{_+_, _-_, _≤_}
+use Prim.Native.Nat.{_-_, _≤_}
 use native.Mathlib.Omega.{arith}
 use Rattle.block.specs.Bytes.{Bytes}
-use Rattle.block.specs.laws.Order.{same-ranks, compareRuns, compareAfter, compare-start, compare-turn}
+use Rattle.block.specs.laws.Order.{same-big, compareRuns, compareAfter, compare-start, compare-turn}
 use Rattle.block.proofs.order.same_words.Statement.{statement}
 use Rattle.block.proofs.order.same_words.Tie as tie
 
@@ -31,7 +31,7 @@ loop-again c =
     let bytes : Bytes image = λ k. t .before .shared-slice-known .given k .fits in (
       omega arith,
       compare-turn image (s .args .a) (s .args .b) (s .args .n) bytes (s .pre .0) (s .pre .1) 8 (t .loop .i) (omega arith) refl refl (t .loop .inv .1) .equal
-          (same-ranks image bytes 8 _ _ (sym (c .before .before .read8 .ensures) ∙ c .if1 .left ∙ c .before .read82 .ensures)),
+          (same-big image bytes 8 _ _ (sym (c .before .before .read8 .ensures) ∙ c .if1 .left ∙ c .before .read82 .ensures)),
     )
 
 pub same-words-spec : {M : Type 1} → statement M

@@ -59,6 +59,12 @@ right-is : (c : tie.After-b) → let o = opened (at-right (c .before .before)) i
     accessed (o .s .given .0 .0) (unpack (start o .args .right)) (start o .args .length) (given o) ≡ Accepted (c .b .given .0 .0)
 right-is c = sym (c .before .before .access2 .ensures) ∙ c .b .given .1
 
+compare-runs-requires : tie.Need-compare-runs-requires
+compare-runs-requires c κs =
+    let b = c .before in
+    let a = at-right (b .before .before) in
+    (accessed-parts _ _ _ (state _ _) _ (left-is a) .inside, accessed-parts _ _ _ (state _ _) _ (right-is b) .inside)
+
 -- row 6
 returns : tie.Need-returns
 returns c = compare-declined _ _ _ (state _ _) _ (sym (copy-empty (state _ _) _ (is-open (c .before .before)) _ _ _ (c .if1 .taken)))
@@ -92,10 +98,11 @@ returns-5 c =
     let a = at-right (b .before .before) in
     let l = at-some (at-left a) in
     let args = start (at-open l) .args in
+    let image = args .image .now in
     let left : Accessed _ _ _ (given (at-open l)) _ = accessed-parts _ _ _ (state _ _) _ (left-is a) in
     ap comparison.Ordered
     (c .compare-runs .ensures
-    ∙ ap (λ (n : ℕ). compareBytes (take (args .length) (drop n (args .image .now))) (take (args .length) (drop (b .b .given .0 .0) (args .image .now)))) (left .address))
+    ∙ ap (λ (n : ℕ). compareBytes (take (args .length) (drop n image)) (take (args .length) (drop (b .b .given .0 .0) image))) (left .address))
     ∙ compare-done _ _ _ (state _ _) _ (sym (copy-access (state _ _) _ (is-open (at-open l)) _ _ _ (some l) _ (left-is a)) ∙ right-is b)
 
 pub compare-spec : {M : Type 1} → statement M
@@ -114,7 +121,7 @@ compare-spec =
     (λ c κs. is-open (opened (c .before)))
     (λ c. search needs)
     (λ c. search needs)
-    (λ c κs. (accessed-parts _ _ _ (state _ _) _ (left-is (at-right (c .before .before .before))) .inside, accessed-parts _ _ _ (state _ _) _ (right-is (c .before)) .inside))
+    compare-runs-requires
     returns-2
     returns-3
     returns-4

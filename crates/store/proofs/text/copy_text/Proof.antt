@@ -36,7 +36,7 @@ copy-within-requires : tie.Need-copy-within-requires
 copy-within-requires c κs =
     let u = c .before in
     let p = copy-text-parts _ _ (state _ _) _ (passed (at-passed u)) in
-    (omega (arith, target-is u, p .to .inside), omega (arith, source-is u, p .bytes, p .from .inside))
+    (omega (arith, target-is u, p .to .inside), omega (arith, source-is u, p .from))
 
 -- row 4, 5, 10, 11, 13 or 20
 returns : tie.Need-returns

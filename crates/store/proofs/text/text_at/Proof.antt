@@ -9,7 +9,7 @@ use Rattle.frame.specs.laws.Pointers.{unpack-range}
 use Rattle.frame.specs.declared.parts.Pointer.{Pointer}
 use Rattle.block.specs.Text.{textOf}
 use Rattle.store.specs.State.{State, state}
-use Rattle.store.specs.Calls.{textAnswer, bodyFrom, textAt}
+use Rattle.store.specs.Calls.{textAnswer, textAt}
 use Rattle.store.specs.laws.Opening.{opening-parts}
 use Rattle.store.specs.laws.TagReading.{readTag, FoundAt, read-found, found-inside, read-refused}
 use Rattle.store.specs.laws.CopyText.{text-ended, text-endless, text-unread, text-below, text-past, text-within}
@@ -76,7 +76,8 @@ returns c =
 returns-2 : tie.Need-returns-2
 returns-2 c =
     let o = c .before .before .before .before .before in
-    text-past _ _ (state _ _) _ (object o .tested) (omega (arith, address-is o, c .before .if1 .left)) (omega (arith, address-is o, object o .size-is, c .if2 .taken))
+    text-past _ _ (state _ _) _ (object o .tested) (omega (arith, address-is o, c .before .if1 .left))
+    (omega (arith, address-is o, object o .size-is, c .if2 .taken))
 
 -- row 10 or 11
 returns-3 : tie.Need-returns-3

@@ -7,7 +7,7 @@ use Rattle.frame.specs.Pointers.{unpack}
 use Rattle.store.specs.State.{state}
 use Rattle.store.specs.Calls.{opening, textAt}
 use Rattle.store.specs.laws.Opening.{opening-parts}
-use Rattle.store.specs.laws.CopyText.{text-parts, copy-text-shut, copy-text-unread, copy-text-refused, copy-text-passed}
+use Rattle.store.specs.laws.CopyText.{text-inside, copy-text-shut, copy-text-unread, copy-text-refused, copy-text-passed}
 use Rattle.store.specs.declared.answer.Answer.the-variants.{Accepted}
 use borrow.Author.Needs.{needs}
 use Rattle.store.proofs.text.text_copyable.Statement.{statement}
@@ -39,7 +39,7 @@ narrow c = opening-parts (state _ _) _ (is-open c) .high
 
 short : (c : tie.After-n) → c .n .given .0 .0 + 1 ≤ 1073741824
 short c =
-    omega (arith, text-parts _ _ (state _ _) _ (is-text c) .inside, opening-parts (state _ _) _ (is-open (at-open (at-text c))) .short)
+    omega (arith, text-inside _ _ (state _ _) _ (is-text c), opening-parts (state _ _) _ (is-open (at-open (at-text c))) .short)
 
 -- row 4 or 5
 returns : tie.Need-returns
@@ -56,14 +56,14 @@ returns-3 : tie.Need-returns-3
 returns-3 c =
     let a = c .before .before .before in
     let n = at-length a in
-    copy-text-refused (state _ _) _ (is-open (at-open (at-text n))) _ _ _ (is-text n) _ (sym (a .access .ensures) ∙ c .before .r3 .given .1)
+    copy-text-refused (state _ _) _ (is-open (at-open (at-text n))) _ _ _ (is-text n) _ (omega arith) _ (sym (a .access .ensures) ∙ c .before .r3 .given .1)
 
 -- how many bytes are copied
 returns-4 : tie.Need-returns-4
 returns-4 c =
     let a = c .before .before in
     let n = at-length a in
-    copy-text-passed (state _ _) _ (is-open (at-open (at-text n))) _ _ _ (is-text n) _ (sym (a .access .ensures) ∙ c .enum-told .given .1)
+    copy-text-passed (state _ _) _ (is-open (at-open (at-text n))) _ _ _ (is-text n) _ (omega arith) _ (sym (a .access .ensures) ∙ c .enum-told .given .1)
 
 pub text-copyable-spec : {M : Type 1} → statement M
 text-copyable-spec =
