@@ -99,7 +99,7 @@ module _ (x : State) (s : ℕ) (e : opening x ≡ Accepted s) where
       copy-text-refused m q r a = rw (e, t, ← q, a)
 
       -- all are passed
-      pub copy-text-passed : (m : ℕ) → m ≡ n + 1 → (at : ℕ) → accessed s (unpack target) m x ≡ Accepted at → Accepted m ≡ copyTextChecks target source x
+      pub copy-text-passed : (m : ℕ) → m ≡ n + 1 → (at : ℕ) → accessed s (unpack target) m x ≡ Accepted at → Accepted (n + 1) ≡ copyTextChecks target source x
       unfolding copyTextChecks
       copy-text-passed m q at a = rw (e, t, ← q, a)
 
