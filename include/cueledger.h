@@ -15,14 +15,15 @@
  *   has neither heap nor global data.
  * - One call at a time on an image and its table: no second thread, no interrupt handler in between. Calls on different
  *   images do not disturb each other.
- * - Time: allocate, free and tally walk over the blocks from the image's start and grow with their number. Setup, free,
- *   fill and copy also grow with the bytes that they write, compare and text copy with those that they read. Load, store
- *   and move take constant time.
+ * - Time: allocate, free, release and tally walk over the blocks from the image's start and grow with their number. Setup,
+ *   free, release, fill and copy also grow with the bytes that they write, compare and text copy with those that they read.
+ *   Load, store and move take constant time.
  * - Stack, in bytes at most: the return address and all below it, without memmove and memset.
- *     cue_setup     48    cue_store    168    cue_compare    216
- *     cue_allocate  64    cue_free     216    cue_copy_text  200
- *     cue_move       8    cue_fill     152    cue_tally       64
- *     cue_load     168    cue_copy     200
+ *     cue_setup         48    cue_store    168    cue_copy       200
+ *     cue_allocate      88    cue_free     216    cue_compare    216
+ *     cue_allocate_for  64    cue_release  112    cue_copy_text  200
+ *     cue_move           8    cue_fill     152    cue_tally       64
+ *     cue_load         168
  *
  * On CUE_UNSOUND something else has written into the image. Allocate and free nothing more there. Objects that their
  * pointers still reach can be loaded; save image and table for diagnosis, then set the store up afresh. */
@@ -37,9 +38,9 @@ extern "C" {
 #endif
 
 #define CUE_VERSION_MAJOR 1
-#define CUE_VERSION_MINOR 2
+#define CUE_VERSION_MINOR 3
 #define CUE_VERSION_PATCH 0
-#define CUE_VERSION "1.2.0"
+#define CUE_VERSION "1.3.0"
 
 /* 17 to 19 are a call log's (docs/FORMAT.md): the program replay prints them, and no function returns them. */
 enum cue_refusal {
@@ -60,7 +61,8 @@ enum cue_refusal {
     CUE_BAD_WIDTH = 14,      /* width outside 1..8 */
     CUE_NOT_BASE = 15,       /* free: the address is not the object's start */
     CUE_TOO_LARGE = 16,      /* store: value too large for the width */
-    CUE_UNTERMINATED = 20    /* text copy: no zero byte from the source's address to the body's end */
+    CUE_UNTERMINATED = 20,   /* text copy: no zero byte from the source's address to the body's end */
+    CUE_ENTRY_LOST = 21      /* release: an object's entry does not hold its header: the table is damaged, or another image's */
 };
 
 /* A returned number as text. */
@@ -85,6 +87,7 @@ static inline const char *cue_reason(uint32_t number)
     case CUE_NOT_BASE: return "address is not the base";
     case CUE_TOO_LARGE: return "value too large for the width";
     case CUE_UNTERMINATED: return "no zero byte up to the body's end";
+    case CUE_ENTRY_LOST: return "table entry does not hold its header";
     default: return "no refusal has this number";
     }
 }
@@ -115,6 +118,10 @@ uint32_t cue_setup(uint8_t *image, size_t image_len, uint64_t *table, size_t tab
  * Refusals, in order: 4, 5, 6, then 7 or 8 as the walk ends, 9. */
 uint32_t cue_allocate(uint8_t *image, size_t image_len, uint64_t *table, size_t table_len, uint32_t size, uint16_t type, uint64_t *pointer);
 
+/* The same for a cue, whose objects cue_release frees together. cue_allocate is for cue 0.
+ * Refusals: those of cue_allocate. */
+uint32_t cue_allocate_for(uint8_t *image, size_t image_len, uint64_t *table, size_t table_len, uint32_t size, uint16_t type, uint32_t cue, uint64_t *pointer);
+
 /* Adds a signed distance to the pointer's address, inside its slot or frame. The tag stays; no header is read.
  * Refusals, in order: 4, 5, 10, 12. */
 uint32_t cue_move(const uint8_t *image, size_t image_len, const uint64_t *table, size_t table_len, uint64_t pointer, int64_t distance, uint64_t *moved);
@@ -130,6 +137,11 @@ uint32_t cue_store(uint8_t *image, size_t image_len, const uint64_t *table, size
 /* Frees the object whose base the pointer is, merges with free neighbours, zeroes the rest and the table entry.
  * Refusals, in order: 4, 5, 10, 11, 15, 7 (also where the walk from 16 misses the header, or the next one is unsound). */
 uint32_t cue_free(uint8_t *image, size_t image_len, uint64_t *table, size_t table_len, uint64_t pointer);
+
+/* Frees all objects of a cue and gives how many, 0 where it has none; image and table are as if each had been freed by
+ * cue_free, in address order.
+ * Refusals, in order: 4, 5, 7 (wherever in the image), 21. */
+uint32_t cue_release(uint8_t *image, size_t image_len, uint64_t *table, size_t table_len, uint32_t cue, uint64_t *count);
 
 /* Sets length bytes to one value.
  * Refusals, in order: 4, 5, 6, 10, 11, 13. */

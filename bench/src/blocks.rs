@@ -22,7 +22,7 @@ impl Layout {
         let mut lent = Lent::new(end + self.free, self.slot_exponent);
         // as allocate would leave them, without its walk for each; table entries are left out, no walk reads them
         for block in lent.image[16..end].chunks_exact_mut(self.extent) {
-            block[..16].copy_from_slice(&Header::live(self.extent as u64, 1, self.extent as u32 - 16).bytes());
+            block[..16].copy_from_slice(&Header::live(self.extent as u64, 1, self.extent as u32 - 16, 0).bytes());
         }
         lent.image[end..end + 16].copy_from_slice(&Header::free(self.free as u64).bytes());
         lent

@@ -1,7 +1,9 @@
-//! The two that are compared: the library, by its exports, and the model of documents 01 and 02.
+//! The two that are compared: the library, by its exports, and the model of documents 01 and 02, which releases in a single
+//! pass.
 
 use cueledger::ffi;
 use cueledger_tests::model::{self, Answer, CompareAnswer, TallyAnswer};
+use cueledger_tests::single_pass;
 
 /// An image and its table.
 #[derive(Clone)]
@@ -30,6 +32,7 @@ pub trait Calls {
     fn load(lent: &Lent, pointer: u64, width: u64) -> Answer;
     fn store(lent: &mut Lent, pointer: u64, width: u64, value: u64) -> Answer;
     fn free(lent: &mut Lent, pointer: u64) -> Answer;
+    fn release(lent: &mut Lent, cue: u32) -> Answer;
     fn fill(lent: &mut Lent, pointer: u64, length: u32, value: u8) -> Answer;
     fn copy(lent: &mut Lent, target: u64, source: u64, length: u32) -> Answer;
     fn compare(lent: &Lent, left: u64, right: u64, length: u32) -> CompareAnswer;
@@ -95,6 +98,10 @@ impl Calls for Library {
         export!(cue_free, lent, as_mut_ptr, as_mut_ptr, pointer;).map(nothing)
     }
 
+    fn release(lent: &mut Lent, cue: u32) -> Answer {
+        export!(cue_release, lent, as_mut_ptr, as_mut_ptr, cue; count).map(first)
+    }
+
     fn fill(lent: &mut Lent, pointer: u64, length: u32, value: u8) -> Answer {
         export!(cue_fill, lent, as_mut_ptr, as_ptr, pointer, length, value;).map(nothing)
     }
@@ -149,6 +156,10 @@ impl Calls for Model {
 
     fn free(lent: &mut Lent, pointer: u64) -> Answer {
         model::free(&mut lent.image, &mut lent.table, pointer)
+    }
+
+    fn release(lent: &mut Lent, cue: u32) -> Answer {
+        single_pass::release(&mut lent.image, &mut lent.table, cue)
     }
 
     fn fill(lent: &mut Lent, pointer: u64, length: u32, value: u8) -> Answer {

@@ -12,6 +12,7 @@ mod logs;
 mod measure;
 mod memory;
 mod refused;
+mod releases;
 mod texts;
 mod tree;
 
@@ -33,6 +34,7 @@ fn main() {
     // the longest images do not fit the second-level cache, and the third is shared with other programs: more rounds
     bench.for_each_line = 3 * for_each_line;
     blocks::many(&mut bench);
+    releases::measure(&mut bench);
     bench.for_each_line = for_each_line;
     bulk::measure(&mut bench);
     texts::measure(&mut bench);

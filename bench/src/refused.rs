@@ -53,7 +53,10 @@ pub fn measure(bench: &mut Bench) {
     refused!(bench, lent, "load, bad width", 14, |C, lent| C::load(lent, small, 9));
     refused!(bench, lent, "free, not the base", 15, |C, lent| C::free(lent, small + 8));
     refused!(bench, lent, "store, value too large", 16, |C, lent| C::store(lent, small, 1, 256));
+    lent.table.fill(0);
+    refused!(bench, lent, "release, entry lost", 21, |C, lent| C::release(lent, 0));
     lent.image[16] ^= 1;
+    refused!(bench, lent, "release, first header unsound", 7, |C, lent| C::release(lent, 0));
     refused!(bench, lent, "tally, first header unsound", 7, |C, lent| C::tally(lent));
     lent.image[0] ^= 1;
     refused!(bench, lent, "load, bad superblock", 4, |C, lent| C::load(lent, small, 8));

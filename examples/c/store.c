@@ -22,7 +22,7 @@ static void report(const char *call, uint32_t number)
 
 int main(void)
 {
-    uint64_t record, name, moved, value, objects, live_bytes, free_bytes, overhead_bytes;
+    uint64_t record, name, buffer, moved, value, objects, live_bytes, free_bytes, overhead_bytes;
     int64_t order;
 
     report("set up", cue_setup(STORE, SLOT_EXPONENT));
@@ -67,6 +67,14 @@ int main(void)
     report("copy the text to the record", cue_copy_text(STORE, record, name, &value));
     printf("%" PRIu64 " bytes\n", value);
     report("free the name", cue_free(STORE, name));
+
+    report("allocate 100 for cue 12", cue_allocate_for(STORE, 100, 9, 12, &buffer));
+    report("allocate 2000 for cue 12", cue_allocate_for(STORE, 2000, 9, 12, &buffer)); /* large-framed: longer than a slot */
+    report("release cue 12", cue_release(STORE, 12, &value));
+    printf("%" PRIu64 " objects\n", value);
+    report("load from the larger", cue_load(STORE, buffer, 1, &value));
+    report("release cue 12 again", cue_release(STORE, 12, &value));
+    printf("%" PRIu64 " objects\n", value);
 
     report("tally", cue_tally(STORE, &objects, &live_bytes, &free_bytes, &overhead_bytes));
     printf("objects %" PRIu64 ", live bytes %" PRIu64 ", free bytes %" PRIu64 ", overhead bytes %" PRIu64 "\n", objects, live_bytes, free_bytes, overhead_bytes);

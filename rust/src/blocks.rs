@@ -27,11 +27,13 @@ pub struct Block {
     pub type_number: u16,
     /// Bytes of the object; 0 for a free block.
     pub size: u32,
+    /// The cue that the object was allocated for; 0 for a free block.
+    pub cue: u32,
 }
 
 /// A header that no sound image has: where a walk over the blocks ends.
 ///
-/// Allocate, free and tally answer [`Refusal::Unsound`] when they meet it.
+/// Allocate, free, release and tally answer [`Refusal::Unsound`] when they meet it.
 #[derive(Clone, Copy, Debug, PartialEq, Eq, Hash)]
 pub struct UnsoundHeader {
     /// Where the header starts in the image.
@@ -58,16 +60,16 @@ impl From<UnsoundHeader> for Refusal {
 /// is walked without a panic.
 ///
 /// ```
-/// use cueledger::{Blocks, Kind, Refusal, Store, UnsoundHeader};
+/// use cueledger::{Block, Blocks, Kind, Refusal, Store, UnsoundHeader};
 ///
 /// let mut image = [0u8; 1024];
 /// let mut table = [0u64; Store::table_entries(1024, 9)];
 /// let mut store = Store::set_up(&mut image, &mut table, 9)?;
-/// store.allocate(10, 7)?;
+/// store.allocate_for(10, 7, 12)?;
 ///
 /// let blocks: Vec<_> = store.blocks().collect::<Result<_, _>>()?;
-/// assert_eq!((blocks[0].place, blocks[0].extent, blocks[0].kind, blocks[0].type_number, blocks[0].size), (16, 26, Kind::Live, 7, 10));
-/// assert_eq!((blocks[1].place, blocks[1].extent, blocks[1].kind), (42, 982, Kind::Free));
+/// assert_eq!(blocks[0], Block { place: 16, extent: 26, kind: Kind::Live, type_number: 7, size: 10, cue: 12 });
+/// assert_eq!(blocks[1], Block { place: 42, extent: 982, kind: Kind::Free, type_number: 0, size: 0, cue: 0 });
 ///
 /// image[42 + 4] = 9; // no kind
 /// let mut damaged = Blocks::new(&image);
@@ -100,16 +102,16 @@ impl<'a> Blocks<'a> {
     fn sound(&self) -> Option<Block> {
         let rest = self.image.get(self.place..)?;
         let header: &[u8; HEADER] = rest.first_chunk()?;
-        let [e0, e1, e2, e3, k0, k1, t0, t1, s0, s1, s2, s3, last @ ..] = *header;
+        let [e0, e1, e2, e3, k0, k1, t0, t1, s0, s1, s2, s3, c0, c1, c2, c3] = *header;
         let (extent, size) = (u32::from_le_bytes([e0, e1, e2, e3]), u32::from_le_bytes([s0, s1, s2, s3]));
-        let type_number = u16::from_le_bytes([t0, t1]);
+        let (type_number, cue) = (u16::from_le_bytes([t0, t1]), u32::from_le_bytes([c0, c1, c2, c3]));
         let kind = match u16::from_le_bytes([k0, k1]) {
-            1 if type_number == 0 && size == 0 => Kind::Free,
+            1 if type_number == 0 && size == 0 && cue == 0 => Kind::Free,
             2 if size >= 1 && (16..=31).contains(&(i64::from(extent) - i64::from(size))) => Kind::Live,
             _ => return None,
         };
         let inside = extent as usize >= HEADER && extent as usize <= rest.len();
-        (inside && last == [0; 4]).then_some(Block { place: self.place, extent, kind, type_number, size })
+        inside.then_some(Block { place: self.place, extent, kind, type_number, size, cue })
     }
 }
 

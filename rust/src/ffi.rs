@@ -8,10 +8,12 @@
 extern "C" {
     pub fn cue_setup(image: *mut u8, image_len: usize, table: *mut u64, table_len: usize, slot_exponent: u32) -> u32;
     pub fn cue_allocate(image: *mut u8, image_len: usize, table: *mut u64, table_len: usize, size: u32, r#type: u16, pointer: *mut u64) -> u32;
+    pub fn cue_allocate_for(image: *mut u8, image_len: usize, table: *mut u64, table_len: usize, size: u32, r#type: u16, cue: u32, pointer: *mut u64) -> u32;
     pub fn cue_move(image: *const u8, image_len: usize, table: *const u64, table_len: usize, pointer: u64, distance: i64, moved: *mut u64) -> u32;
     pub fn cue_load(image: *const u8, image_len: usize, table: *const u64, table_len: usize, pointer: u64, width: u64, value: *mut u64) -> u32;
     pub fn cue_store(image: *mut u8, image_len: usize, table: *const u64, table_len: usize, pointer: u64, width: u64, value: u64) -> u32;
     pub fn cue_free(image: *mut u8, image_len: usize, table: *mut u64, table_len: usize, pointer: u64) -> u32;
+    pub fn cue_release(image: *mut u8, image_len: usize, table: *mut u64, table_len: usize, cue: u32, count: *mut u64) -> u32;
     pub fn cue_fill(image: *mut u8, image_len: usize, table: *const u64, table_len: usize, pointer: u64, length: u32, value: u8) -> u32;
     pub fn cue_copy(image: *mut u8, image_len: usize, table: *const u64, table_len: usize, target: u64, source: u64, length: u32) -> u32;
     pub fn cue_compare(image: *const u8, image_len: usize, table: *const u64, table_len: usize, left: u64, right: u64, length: u32, order: *mut i64) -> u32;

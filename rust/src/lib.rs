@@ -20,6 +20,11 @@
 //!
 //! store.free(record)?;
 //! assert_eq!(store.load(record, Width::One), Err(Refusal::Dangling));
+//!
+//! for size in [10, 20] {
+//!     store.allocate_for(size, 7, 12)?;
+//! }
+//! assert_eq!(store.release(12), Ok(2)); // all objects of cue 12
 //! # Ok::<(), Refusal>(())
 //! ```
 #![no_std]

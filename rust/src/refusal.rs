@@ -49,11 +49,15 @@ pub enum Refusal {
     TooLarge = 16,
     /// 20, text copy: no byte from the source's address to the end of its body is zero.
     Unterminated = 20,
+    /// 21, release: the table entry of a large-framed object of the cue does not hold the place of its header.
+    ///
+    /// Something else has written into the table, or it is another image's.
+    EntryLost = 21,
 }
 
 impl Refusal {
     /// Every refusal, in the order of its number.
-    pub const ALL: [Refusal; 17] = [
+    pub const ALL: [Refusal; 18] = [
         Refusal::BadExponent,
         Refusal::BadLength,
         Refusal::TooFewEntries,
@@ -71,9 +75,10 @@ impl Refusal {
         Refusal::NotBase,
         Refusal::TooLarge,
         Refusal::Unterminated,
+        Refusal::EntryLost,
     ];
 
-    /// The number that the exports return: 1 to 16, or 20. 17 to 19 are a call log's.
+    /// The number that the exports return: 1 to 16, 20 or 21. 17 to 19 are a call log's.
     ///
     /// ```
     /// # use cueledger::Refusal;
@@ -94,7 +99,7 @@ impl Refusal {
     pub const fn from_number(number: u32) -> Option<Refusal> {
         let place = match number {
             1..=16 => number - 1,
-            20 => number - 4,
+            20..=21 => number - 4,
             _ => return None,
         };
         Some(Self::ALL[place as usize])
@@ -125,6 +130,7 @@ impl Refusal {
             Refusal::NotBase => "address is not the base",
             Refusal::TooLarge => "value too large for the width",
             Refusal::Unterminated => "no zero byte up to the body's end",
+            Refusal::EntryLost => "table entry does not hold its header",
         }
     }
 }
@@ -148,6 +154,6 @@ mod tests {
         for number in (0..300).chain([u32::MAX]) {
             assert_eq!(Refusal::from_number(number).map(Refusal::number), numbers.contains(&number).then_some(number));
         }
-        assert!([0, 17, 18, 19, 21].iter().all(|&number| Refusal::from_number(number).is_none()));
+        assert!([0, 17, 18, 19, 22].iter().all(|&number| Refusal::from_number(number).is_none()));
     }
 }

@@ -159,6 +159,28 @@ impl<'a> Store<'a> {
         answer(number, pointer.into())
     }
 
+    /// Allocates as [`allocate`](Store::allocate) does, for a cue: [`release`](Store::release) frees all objects of a cue together.
+    /// `allocate` is the same for cue 0.
+    ///
+    /// Refused as `allocate`.
+    ///
+    /// ```
+    /// # use cueledger::{Refusal, Store};
+    /// # let (mut image, mut table) = ([0u8; 1024], [0u64; Store::table_entries(1024, 9)]);
+    /// let mut store = Store::set_up(&mut image, &mut table, 9)?;
+    /// assert_eq!(store.allocate_for(10, 7, 12)?.address(), 32);
+    /// assert_eq!(store.blocks().next().unwrap()?.cue, 12);
+    /// # Ok::<(), Refusal>(())
+    /// ```
+    #[inline]
+    pub fn allocate_for(&mut self, size: u32, type_number: u16, cue: u32) -> Result<Pointer, Refusal> {
+        let mut pointer = 0;
+        let (image, table) = (&mut *self.image, &mut *self.table);
+        // SAFETY: as in `allocate`.
+        let number = unsafe { ffi::cue_allocate_for(image.as_mut_ptr(), image.len(), table.as_mut_ptr(), table.len(), size, type_number, cue, &mut pointer) };
+        answer(number, pointer.into())
+    }
+
     /// Moves a pointer by a signed distance (C: `cue_move`). The tag stays; no header is read.
     ///
     /// The new address must be in the pointer's slot or frame, not necessarily in its object.
@@ -249,6 +271,33 @@ impl<'a> Store<'a> {
         // SAFETY: as in `set_up`.
         let number = unsafe { ffi::cue_free(self.image.as_mut_ptr(), self.image.len(), self.table.as_mut_ptr(), self.table.len(), pointer.into()) };
         answer(number, ())
+    }
+
+    /// Frees all objects of a cue and gives how many: none where no object carries it.
+    ///
+    /// Image and table are then as if each had been [freed](Store::free), in the order of their addresses. Cue 0 is that of the
+    /// objects of [`allocate`](Store::allocate).
+    ///
+    /// Refused with, in this order: [`Unsound`](Refusal::Unsound), wherever in the image; [`EntryLost`](Refusal::EntryLost). Neither
+    /// occurs where only these calls have written.
+    ///
+    /// ```
+    /// # use cueledger::{Refusal, Store, Width};
+    /// # let (mut image, mut table) = ([0u8; 1024], [0u64; Store::table_entries(1024, 9)]);
+    /// let mut store = Store::set_up(&mut image, &mut table, 9)?;
+    /// let [first, other, second] = [store.allocate_for(10, 7, 12)?, store.allocate(10, 7)?, store.allocate_for(20, 7, 12)?];
+    /// assert_eq!(store.release(12), Ok(2));
+    /// assert_eq!([first, second].map(|buffer| store.load(buffer, Width::One)), [Err(Refusal::Dangling); 2]);
+    /// assert_eq!(store.load(other, Width::One), Ok(0));
+    /// assert_eq!(store.release(12), Ok(0));
+    /// # Ok::<(), Refusal>(())
+    /// ```
+    #[inline]
+    pub fn release(&mut self, cue: u32) -> Result<u64, Refusal> {
+        let mut count = 0;
+        // SAFETY: as in `set_up`; `count` is a local of its own.
+        let number = unsafe { ffi::cue_release(self.image.as_mut_ptr(), self.image.len(), self.table.as_mut_ptr(), self.table.len(), cue, &mut count) };
+        answer(number, count)
     }
 
     /// Sets `length` bytes to `value`.

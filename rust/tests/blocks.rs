@@ -1,15 +1,18 @@
 //! The iterator over blocks against the proved tally, on sound and damaged images.
 
-use cueledger::{Blocks, Kind, Refusal, Store, Tally, UnsoundHeader};
+use cueledger::{Block, Blocks, Kind, Refusal, Store, Tally, UnsoundHeader};
 
 const LEN: usize = 192;
 const EXPONENT: u32 = 6;
+
+/// Of the last object.
+const CUE: u32 = 0x0304_0506;
 
 /// An image with live and free blocks, and its table.
 fn sample() -> ([u8; LEN], [u64; Store::table_entries(LEN, EXPONENT)]) {
     let (mut image, mut table) = ([0; LEN], [0; Store::table_entries(LEN, EXPONENT)]);
     let mut store = Store::set_up(&mut image, &mut table, EXPONENT).unwrap();
-    let [_, freed, _] = [10, 20, 30].map(|size| store.allocate(size, 0x0102).unwrap());
+    let [_, freed, _] = [(10, 0), (20, 1), (30, CUE)].map(|(size, cue)| store.allocate_for(size, 0x0102, cue).unwrap());
     store.free(freed).unwrap();
     (image, table)
 }
@@ -35,8 +38,10 @@ fn counted(image: &[u8]) -> Result<Tally, Refusal> {
 #[test]
 fn fields() {
     let (image, _) = sample();
-    let blocks: Vec<_> = Blocks::new(&image).map(|block| block.unwrap()).map(|b| (b.place, b.extent, b.kind, b.type_number, b.size)).collect();
-    assert_eq!(blocks, [(16, 26, Kind::Live, 0x0102, 10), (42, 36, Kind::Free, 0, 0), (78, 46, Kind::Live, 0x0102, 30), (124, 68, Kind::Free, 0, 0)]);
+    let blocks: Vec<_> = Blocks::new(&image).map(|block| block.unwrap()).collect();
+    let free = |place, extent| Block { place, extent, kind: Kind::Free, type_number: 0, size: 0, cue: 0 };
+    let live = |place, extent, size, cue| Block { place, extent, kind: Kind::Live, type_number: 0x0102, size, cue };
+    assert_eq!(blocks, [live(16, 26, 10, 0), free(42, 36), live(78, 46, 30, CUE), free(124, 68)]);
 }
 
 #[test]
@@ -53,6 +58,26 @@ fn every_damaged_byte() {
         }
     }
     assert!(refused > 0);
+}
+
+/// The last four bytes of a header are a live block's cue, and zero in a free one.
+#[test]
+fn last_bytes() {
+    let (sound, mut table) = sample();
+    for (place, cue) in [(16, Some(0)), (42, None), (78, Some(CUE)), (124, None)] {
+        for flip in [1, 1 << 8, 1 << 31, u32::MAX] {
+            let (mut image, mut entries) = (sound, table);
+            let last = cue.unwrap_or(0) ^ flip;
+            image[place + 12..place + 16].copy_from_slice(&last.to_le_bytes());
+            let found = Blocks::new(&image).find(|block| block.is_ok_and(|block| block.place == place) || block.is_err()).unwrap();
+            assert_eq!(found.map(|block| block.cue), cue.map(|_| last).ok_or(UnsoundHeader { place }));
+            let released = Store::open(&mut image, &mut entries).unwrap().release(last);
+            assert_eq!(released, cue.map(|_| 1).ok_or(Refusal::Unsound));
+        }
+    }
+    let mut image = sound;
+    assert_eq!(Store::open(&mut image, &mut table).unwrap().release(CUE), Ok(1));
+    assert!(Blocks::new(&image).all(|block| block.unwrap().cue == 0));
 }
 
 #[test]

@@ -4,7 +4,7 @@ use crate::counts::Counts;
 use crate::model::{self, Pointer};
 use crate::random::Random;
 use crate::store::{Access, Answer, Call, Store};
-use std::collections::HashMap;
+use std::collections::{BTreeMap, HashMap};
 use std::fmt;
 
 /// Where a step takes a number from. Steps are named by their number in the list as it was generated, so that a
@@ -68,7 +68,7 @@ pub struct Buffers {
     pub lent_image: usize,
     pub lent_table: usize,
     pub content: u64,
-    /// A history begun by set-up, on which 9 never occurs and tally is accepted.
+    /// A history begun by set-up, on which 9 never occurs, tally is accepted and release takes out the heap's objects.
     pub history: bool,
 }
 
@@ -91,6 +91,7 @@ pub enum Mismatch {
     Unbalanced,
     NotNegated,
     NotTheText,
+    NotTheHeaps,
 }
 
 impl fmt::Display for Mismatch {
@@ -106,6 +107,7 @@ impl fmt::Display for Mismatch {
             Mismatch::Unbalanced => write!(f, "the expected store's live, free and overhead bytes are not all bytes behind the superblock"),
             Mismatch::NotNegated => write!(f, "the expected store's order is not negated when the operands are swapped"),
             Mismatch::NotTheText => write!(f, "the expected store wrote something else than the source's bytes up to the first zero byte"),
+            Mismatch::NotTheHeaps => write!(f, "the expected store's release is not the single frees of the heap's objects of its cue"),
         }
     }
 }
@@ -156,6 +158,8 @@ pub struct Run<'a, A, B> {
     history: bool,
     /// The history has begun: its set-up was accepted, and not taken out of the list.
     begun: bool,
+    /// The live objects of a begun history by address: allocate's answer and the cue.
+    heap: BTreeMap<u64, (u64, u32)>,
     answers: Answers,
 }
 
@@ -175,6 +179,7 @@ impl<'a, A: Store, B: Store> Run<'a, A, B> {
             lent_table: buffers.lent_table,
             history: buffers.history,
             begun: false,
+            heap: BTreeMap::new(),
             answers: Answers { slot_exponent: 6, pointers: HashMap::new() },
         }
     }
@@ -275,6 +280,10 @@ impl<'a, A: Store, B: Store> Run<'a, A, B> {
             }
             _ => {}
         }
+        if self.begun && !self.hear(call, &expected) {
+            return Err(Mismatch::NotTheHeaps);
+        }
+        let e = &self.expected;
         if expected.accepted() && kind.access == Access::Writes {
             self.before.0.copy_from_slice(&e.image);
             self.before.1.copy_from_slice(&e.table);
@@ -297,12 +306,41 @@ impl<'a, A: Store, B: Store> Run<'a, A, B> {
             if let Call::SetUp { slot_exponent } = call {
                 self.answers.slot_exponent = slot_exponent;
                 self.begun = self.history;
+                self.heap.clear();
             }
-            if matches!(call, Call::Allocate { .. } | Call::Move { .. }) {
+            if matches!(call, Call::Allocate { .. } | Call::AllocateFor { .. } | Call::Move { .. }) {
                 self.answers.pointers.insert(number, expected.values[0]);
             }
         }
         Ok(expected)
+    }
+
+    /// Keeps the heap; whether a release is accepted and has done what single frees of the heap's objects do.
+    fn hear(&mut self, call: Call<u64>, answer: &Answer) -> bool {
+        match call {
+            Call::Allocate { .. } if answer.accepted() => self.add(answer.values[0], 0),
+            Call::AllocateFor { cue, .. } if answer.accepted() => self.add(answer.values[0], cue),
+            Call::Free { pointer } => {
+                let place = Pointer::unpack(pointer).address;
+                if self.heap.get(&place).is_some_and(|object| object.0 == pointer) {
+                    self.heap.remove(&place);
+                }
+            }
+            Call::Release { cue } => {
+                let (mut image, mut table) = self.before.clone();
+                let mut free = |pointer| self.expected.store.call(&mut image[..self.lent_image], &mut table[..self.lent_table], Call::Free { pointer });
+                let objects: Vec<u64> = self.heap.values().filter(|object| object.1 == cue).map(|object| object.0).collect();
+                self.heap.retain(|_, object| object.1 != cue);
+                let freed = objects.iter().all(|&pointer| free(pointer).accepted());
+                return freed && *answer == Answer::new(0, [objects.len() as u64]) && image == self.expected.image && table == self.expected.table;
+            }
+            _ => {}
+        }
+        true
+    }
+
+    fn add(&mut self, pointer: u64, cue: u32) {
+        self.heap.insert(Pointer::unpack(pointer).address, (pointer, cue));
     }
 }
 

@@ -1,7 +1,7 @@
 //! What occurred in a comparison, and what did not.
 
 use crate::seen::Seen;
-use crate::store::{Answer, Call, KINDS, ROWS};
+use crate::store::{Answer, Call, Kind, KINDS, ROWS};
 use cueledger::Refusal;
 use std::fmt;
 
@@ -56,16 +56,21 @@ impl Counts {
     }
 }
 
+/// Of a call's column.
+fn width(kind: &Kind) -> usize {
+    10.max(kind.name.len() + 2)
+}
+
 /// A table, a row for each answer and a column for each call, and the rest below it.
 impl fmt::Display for Counts {
     fn fmt(&self, f: &mut fmt::Formatter<'_>) -> fmt::Result {
         write!(f, "{:>8}", "answer")?;
-        KINDS.iter().try_for_each(|kind| write!(f, "{:>10}", kind.name))?;
+        KINDS.iter().try_for_each(|kind| write!(f, "{:>width$}", kind.name, width = width(kind)))?;
         writeln!(f, "{:>11}", "all")?;
         for row in (0..=ROWS).filter(|&row| row == 0 || Refusal::from_number(row as u32).is_some()) {
             write!(f, "{:>8}", if row == 0 { "accepted".to_string() } else { row.to_string() })?;
-            for answers in &self.by_call {
-                write!(f, "{:>10}", if answers[row] == 0 { ".".to_string() } else { answers[row].to_string() })?;
+            for (kind, answers) in KINDS.iter().zip(&self.by_call) {
+                write!(f, "{:>width$}", if answers[row] == 0 { ".".to_string() } else { answers[row].to_string() }, width = width(kind))?;
             }
             writeln!(f, "{:>11}", self.by_call.iter().map(|answers| answers[row]).sum::<u64>())?;
         }

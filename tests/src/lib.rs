@@ -3,7 +3,8 @@
 //!
 //! `model` is the documents; `store` the trait that model and library share; `case` a list of calls and damages, and
 //! how it is run on two stores at once; `generate` makes random lists; `counts` and `seen` say what occurred in them;
-//! `shrink` shortens one that fails; `driver` puts them together. `log` is the call log.
+//! `shrink` shortens one that fails; `driver` puts them together. `single_pass` is another model of release, `log` the
+//! call log.
 
 pub mod case;
 pub mod counts;
@@ -15,6 +16,7 @@ pub mod model;
 pub mod random;
 pub mod seen;
 pub mod shrink;
+pub mod single_pass;
 pub mod store;
 
 /// What a test tells, not by println, which the test harness keeps back.

@@ -21,10 +21,12 @@ fn answered(image: &mut [u8], table: &mut [u64], call: Call<Pointer>) -> Result<
     let value = match call {
         Call::SetUp { .. } => unreachable!(),
         Call::Allocate { size, type_number } => store.allocate(size, type_number)?.into(),
+        Call::AllocateFor { size, type_number, cue } => store.allocate_for(size, type_number, cue)?.into(),
         Call::Move { pointer, distance } => store.offset(pointer, distance)?.into(),
         Call::Load { pointer, width } => store.load(pointer, Width::try_from(width)?)?,
         Call::Store { pointer, width, value } => store.store(pointer, Width::try_from(width)?, value).map(|()| 0)?,
         Call::Free { pointer } => store.free(pointer).map(|()| 0)?,
+        Call::Release { cue } => store.release(cue)?,
         Call::Fill { pointer, length, value } => store.fill(pointer, length, value).map(|()| 0)?,
         Call::Copy { target, source, length } => store.copy(target, source, length).map(|()| 0)?,
         Call::Compare { left, right, length } => store.compare(left, right, length)? as i64 as u64,
@@ -52,6 +54,10 @@ impl Store for Exports {
                     let refusal = ffi::cue_allocate(bytes, n, entries, m, size, type_number, &mut v);
                     Answer::new(refusal, [v])
                 }
+                Call::AllocateFor { size, type_number, cue } => {
+                    let refusal = ffi::cue_allocate_for(bytes, n, entries, m, size, type_number, cue, &mut v);
+                    Answer::new(refusal, [v])
+                }
                 Call::Move { pointer, distance } => {
                     let refusal = ffi::cue_move(bytes, n, entries, m, pointer, distance, &mut v);
                     Answer::new(refusal, [v])
@@ -62,6 +68,10 @@ impl Store for Exports {
                 }
                 Call::Store { pointer, width, value } => Answer::new(ffi::cue_store(bytes, n, entries, m, pointer, width, value), []),
                 Call::Free { pointer } => Answer::new(ffi::cue_free(bytes, n, entries, m, pointer), []),
+                Call::Release { cue } => {
+                    let refusal = ffi::cue_release(bytes, n, entries, m, cue, &mut v);
+                    Answer::new(refusal, [v])
+                }
                 Call::Fill { pointer, length, value } => Answer::new(ffi::cue_fill(bytes, n, entries, m, pointer, length, value), []),
                 Call::Copy { target, source, length } => Answer::new(ffi::cue_copy(bytes, n, entries, m, target, source, length), []),
                 Call::Compare { left, right, length } => {

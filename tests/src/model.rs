@@ -40,22 +40,23 @@ pub struct Header {
     pub kind: u16,
     pub type_number: u16,
     pub size: u32,
-    pub zero: u32,
+    /// A live block's cue number; zero in a free block and in the superblock.
+    pub last: u32,
 }
 
 impl Header {
     pub fn free(extent: u64) -> Header {
-        Header { extent: extent as u32, kind: FREE, type_number: 0, size: 0, zero: 0 }
+        Header { extent: extent as u32, kind: FREE, type_number: 0, size: 0, last: 0 }
     }
 
-    pub fn live(extent: u64, type_number: u16, size: u32) -> Header {
-        Header { extent: extent as u32, kind: LIVE, type_number, size, zero: 0 }
+    pub fn live(extent: u64, type_number: u16, size: u32, cue: u32) -> Header {
+        Header { extent: extent as u32, kind: LIVE, type_number, size, last: cue }
     }
 
     /// The sixteen bytes at `at`, which must be inside the image.
     pub fn read(image: &[u8], at: u64) -> Header {
         let bytes = &image[at as usize..at as usize + 16];
-        Header { extent: le32(bytes, 0), kind: le16(bytes, 4), type_number: le16(bytes, 6), size: le32(bytes, 8), zero: le32(bytes, 12) }
+        Header { extent: le32(bytes, 0), kind: le16(bytes, 4), type_number: le16(bytes, 6), size: le32(bytes, 8), last: le32(bytes, 12) }
     }
 
     pub fn bytes(self) -> [u8; 16] {
@@ -64,7 +65,7 @@ impl Header {
         bytes[4..6].copy_from_slice(&self.kind.to_le_bytes());
         bytes[6..8].copy_from_slice(&self.type_number.to_le_bytes());
         bytes[8..12].copy_from_slice(&self.size.to_le_bytes());
-        bytes[12..16].copy_from_slice(&self.zero.to_le_bytes());
+        bytes[12..16].copy_from_slice(&self.last.to_le_bytes());
         bytes
     }
 
@@ -72,12 +73,17 @@ impl Header {
         image[at as usize..at as usize + 16].copy_from_slice(&self.bytes());
     }
 
-    fn is_free(self) -> bool {
+    pub fn is_free(self) -> bool {
         self.kind == FREE
     }
 
-    fn is_live(self) -> bool {
+    pub fn is_live(self) -> bool {
         self.kind == LIVE
+    }
+
+    /// Whether it is an object's that carries the cue.
+    pub fn carries(self, cue: u32) -> bool {
+        self.is_live() && self.last == cue
     }
 }
 
@@ -89,15 +95,25 @@ pub fn sound(image: &[u8], h: u64) -> Option<Header> {
     }
     let header = Header::read(image, h);
     let (extent, size) = (u64::from(header.extent), u64::from(header.size));
-    if extent < HEADER || extent > length - h || header.zero != 0 {
+    if extent < HEADER || extent > length - h {
         return None;
     }
     let fits_kind = match header.kind {
-        FREE => header.type_number == 0 && size == 0,
+        FREE => header.type_number == 0 && size == 0 && header.last == 0,
         LIVE => size >= 1 && HEADER + size <= extent && extent <= 31 + size,
         _ => false,
     };
     fits_kind.then_some(header)
+}
+
+/// The blocks with the places of their headers, up to the image's end or to an unsound header. The image as for `sound`.
+pub fn blocks(image: &[u8]) -> impl Iterator<Item = (u64, Header)> + '_ {
+    let mut at = SUPERBLOCK;
+    std::iter::from_fn(move || {
+        let block = (at, sound(image, at)?);
+        at += u64::from(block.1.extent);
+        Some(block)
+    })
 }
 
 // ---- frames, tags, pointers
@@ -177,7 +193,7 @@ pub fn open(image: &[u8], table: &[u64]) -> Result<u32, u32> {
     let length = image.len() as u64;
     let lead = Header::read(image, 0);
     let (s, stated) = (u32::from(lead.type_number), u64::from(lead.size));
-    let laid_out = lead.extent == 16 && lead.kind == 3 && lead.zero == 0;
+    let laid_out = lead.extent == 16 && lead.kind == 3 && lead.last == 0;
     if !laid_out || !(6..=15).contains(&s) || !(64..=MAX_LENGTH).contains(&stated) || stated != length {
         return Err(4);
     }
@@ -241,13 +257,17 @@ pub fn set_up(image: &mut [u8], table: &mut [u64], s: u32) -> Answer {
         return Err(3);
     }
     image.fill(0);
-    Header { extent: 16, kind: 3, type_number: s as u16, size: length as u32, zero: 0 }.write(image, 0);
+    Header { extent: 16, kind: 3, type_number: s as u16, size: length as u32, last: 0 }.write(image, 0);
     Header::free(length - SUPERBLOCK).write(image, SUPERBLOCK);
     table[..used as usize].fill(0);
     Ok(0)
 }
 
 pub fn allocate(image: &mut [u8], table: &mut [u64], size: u32, type_number: u16) -> Answer {
+    allocate_for(image, table, size, type_number, 0)
+}
+
+pub fn allocate_for(image: &mut [u8], table: &mut [u64], size: u32, type_number: u16, cue: u32) -> Answer {
     let s = open(image, table)?;
     if size == 0 {
         return Err(6);
@@ -274,9 +294,9 @@ pub fn allocate(image: &mut [u8], table: &mut [u64], size: u32, type_number: u16
         *held = h;
     }
     if extent - need < HEADER {
-        Header::live(extent, type_number, size).write(image, h);
+        Header::live(extent, type_number, size, cue).write(image, h);
     } else {
-        Header::live(need, type_number, size).write(image, h);
+        Header::live(need, type_number, size, cue).write(image, h);
         Header::free(extent - need).write(image, h + need);
     }
     Ok(pointer.pack())
@@ -361,6 +381,33 @@ pub fn free(image: &mut [u8], table: &mut [u64], pointer: u64) -> Answer {
         table[entry(s, p.tag as u32, h) as usize] = 0;
     }
     Ok(0)
+}
+
+/// The objects that carry the cue: the places of their headers, and their pointers; 7.
+fn carriers(image: &[u8], s: u32, cue: u32) -> Result<Vec<(u64, Pointer)>, u32> {
+    let mut carriers = Vec::new();
+    let mut at = SUPERBLOCK;
+    while at != image.len() as u64 {
+        let header = sound(image, at).ok_or(7u32)?;
+        if header.carries(cue) {
+            carriers.push((at, Pointer::to(s, at, u64::from(header.size))));
+        }
+        at += u64::from(header.extent);
+    }
+    Ok(carriers)
+}
+
+/// Document 02's sentence itself: the objects freed singly, in address order.
+pub fn release(image: &mut [u8], table: &mut [u64], cue: u32) -> Answer {
+    let s = open(image, table)?;
+    let carriers = carriers(image, s, cue)?;
+    if carriers.iter().any(|&(h, pointer)| !pointer.small && table[entry(s, pointer.tag as u32, h) as usize] != h) {
+        return Err(21);
+    }
+    for (h, pointer) in &carriers {
+        free(image, table, pointer.pack()).unwrap_or_else(|row| panic!("the object at {h} is not freed: {row}"));
+    }
+    Ok(carriers.len() as u64)
 }
 
 pub fn fill(image: &mut [u8], table: &[u64], pointer: u64, length: u32, value: u8) -> Answer {

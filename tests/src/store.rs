@@ -73,10 +73,12 @@ macro_rules! calls {
 calls! {
     SetUp "set-up" Writes [1 2 3] { ; slot_exponent: u32 }
     Allocate "allocate" Writes [4 5 6 7 8 9] { ; size: u32, type_number: u16 }
+    AllocateFor "allocate for" Writes [4 5 6 7 8 9] { ; size: u32, type_number: u16, cue: u32 }
     Move "move" Reads [4 5 10 12] { pointer; distance: i64 }
     Load "load" Reads [4 5 14 10 11 13] { pointer; width: u64 }
     Store "store" Writes [4 5 14 16 10 11 13] { pointer; width: u64, value: u64 }
     Free "free" Writes [4 5 10 11 15 7] { pointer; }
+    Release "release" Writes [4 5 7 21] { ; cue: u32 }
     Fill "fill" Writes [4 5 6 10 11 13] { pointer; length: u32, value: u8 }
     Copy "copy" Writes [4 5 6 10 11 13] { target source; length: u32 }
     Compare "compare" Reads [4 5 6 10 11 13] { left right; length: u32 }
@@ -150,10 +152,12 @@ impl Store for Model {
         match call {
             Call::SetUp { slot_exponent } => model::set_up(image, table, slot_exponent).into(),
             Call::Allocate { size, type_number } => model::allocate(image, table, size, type_number).into(),
+            Call::AllocateFor { size, type_number, cue } => model::allocate_for(image, table, size, type_number, cue).into(),
             Call::Move { pointer, distance } => model::offset(image, table, pointer, distance).into(),
             Call::Load { pointer, width } => model::load(image, table, pointer, width).into(),
             Call::Store { pointer, width, value } => model::store(image, table, pointer, width, value).into(),
             Call::Free { pointer } => model::free(image, table, pointer).into(),
+            Call::Release { cue } => model::release(image, table, cue).into(),
             Call::Fill { pointer, length, value } => model::fill(image, table, pointer, length, value).into(),
             Call::Copy { target, source, length } => model::copy(image, table, target, source, length).into(),
             Call::Compare { left, right, length } => model::compare(image, table, left, right, length).map(|order| order as u64).into(),

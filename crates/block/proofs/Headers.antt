@@ -11,7 +11,7 @@ use Rattle.block.specs.Bytes.{encode, put}
 use Rattle.block.specs.laws.Fields.{length-encode}
 use Rattle.block.specs.laws.Writes.{put-append}
 use Rattle.block.specs.laws.Booleans.{byBool}
-use Rattle.block.specs.Layout.{headerAt, extentAt, kindAt, typeAt, sizeAt, wellFormed, sound}
+use Rattle.block.specs.Layout.{extentAt, kindAt, typeAt, sizeAt, cueAt, wellFormed, sound}
 use Rattle.block.specs.laws.Soundness.{sound-by}
 
 -- five fields of 4, 2, 2, 4 and 4 bytes, written one behind the other: the form of a superblock and of a header
@@ -53,9 +53,9 @@ module _ (image : List ℕ) (h : ℕ) (low : 16 ≤ h) (room : h + 16 ≤ length
       → sound image h
       ≡ leb 16 (extentAt image h)
       && leb (extentAt image h) (length image - h)
-      && eqb (headerAt image h .last) 0
       && eqb (typeAt image h) 0
       && eqb (sizeAt image h) 0
+      && eqb (cueAt image h) 0
   unfolding wellFormed
   free-by k = sound-by image h low room ∙ (simp (inside, eq-eqb _ _ k, and-assoc))
 
@@ -63,7 +63,6 @@ module _ (image : List ℕ) (h : ℕ) (low : 16 ≤ h) (room : h + 16 ≤ length
   pub live-by : kindAt image h ≡ 2
       → sound image h
       ≡ leb (extentAt image h) (length image - h)
-      && eqb (headerAt image h .last) 0
       && leb 1 (sizeAt image h)
       && leb (16 + sizeAt image h) (extentAt image h)
       && leb (extentAt image h) (31 + sizeAt image h)

@@ -1,6 +1,6 @@
 -- What the proofs of several functions use.
 mod Runs
 mod Headers
-mod Turns
+mod Counting
 -- Demand 2.
 pub mod Claims

@@ -9,7 +9,7 @@ use Rattle.block.specs.Order.{compareBytes}
 use Rattle.block.specs.Text.{textFrom, textOf}
 use Rattle.block.specs.Layout.{superblock, superblockGood, header, freeHeader, liveHeader, headerAt, wellFormed, sound}
 use Rattle.block.specs.laws.Superblock.{opened}
-use Rattle.block.specs.Walk.{walkIn, walkFrom, walk, fitOf, firstFit, metOf, walkTo, countOf, countBlocks}
+use Rattle.block.specs.Walk.{walkIn, walkFrom, walk, fitOf, firstFit, metOf, walkTo, countOf, countBlocks, unsound, ended, walkCue}
 use Rattle.block.specs.declared.order.Ordering.the-variants as ordering
 use Rattle.block.specs.declared.text.Text.the-variants as text
 use Rattle.block.specs.declared.superblock.Opened.the-variants as opening
@@ -17,11 +17,11 @@ use Rattle.block.specs.declared.walk.Fit.the-variants as fit
 use Rattle.block.specs.declared.walk.Met.the-variants as met
 use Rattle.block.specs.declared.walk.Counted.the-variants as counted
 
--- live blocks at 16 and 42 of sizes 10 and 20, and a free one from 78 to the end
+-- live blocks at 16 and 42 of sizes 10 and 20 and of cues 0 and 2^32 - 1, and a free one from 78 to the end
 image : List ℕ
 image =
     superblock 6 1024
-    ++ (liveHeader 26 1 10 ++ (replicate 10 7 ++ (liveHeader 36 2 20 ++ (replicate 20 8 ++ (freeHeader 946 ++ replicate 930 0)))))
+    ++ (liveHeader 26 1 10 0 ++ (replicate 10 7 ++ (liveHeader 36 2 20 0xFFFFFFFF ++ (replicate 20 8 ++ (freeHeader 946 ++ replicate 930 0)))))
 
 -- the same with an extent at 42 that is too short
 damaged : List ℕ
@@ -51,6 +51,14 @@ meets = (refl, refl, refl, refl)
 counts : (countBlocks image ≡ counted.Counts (record { objects = 2; live = 30; free = 946; overhead = 32 })) × (countBlocks damaged ≡ counted.Unsound)
 unfolding image damaged superblock header encode decode field put headerAt wellFormed sound walkIn walkFrom walk countOf countBlocks
 counts = (refl, refl)
+
+-- a cue's blocks are found among the others, whatever the four bytes say; a free header with a cue is unsound
+cues :
+    (walkCue 0xFFFFFFFF image ≡ ended (42 ∷ [])) × (walkCue 0 image ≡ ended (16 ∷ [])) × (walkCue 1 image ≡ ended [])
+    × (walkCue 0 (put image 28 (encode 4 0xFFFFFFFF)) ≡ ended []) × (walkCue 0xFFFFFFFF (put image 28 (encode 4 0xFFFFFFFF)) ≡ ended (16 ∷ 42 ∷ []))
+    × (walkCue 0 (put image 90 (encode 4 1)) ≡ unsound 78)
+unfolding image superblock header encode decode field put headerAt wellFormed sound walkIn walkFrom walk walkCue
+cues = (refl, refl, refl, refl, refl, refl)
 
 -- equal runs; bytes have no sign; the first difference decides, whatever a later one says
 compares :

@@ -1,4 +1,4 @@
--- The superblock and the block headers of an image: document 01, "The image and its lead-in" and "Blocks". Assumes nothing.
+-- The superblock and the block headers of an image: document 01, "The image and its lead-in" and "Blocks"; the cue: document 02, W6. Assumes nothing.
 use Prim.Native.Nat.{ℕ, _+_, _^_}
 use mathlib.Core.Bool.{Bool, cond, _&&_}
 use mathlib.Core.List.{List, _++_}
@@ -36,21 +36,21 @@ superblockGood image =
     && (goodExponent (slotExponent image)
     && (goodLength (field image 8 4) && (eqb (field image 8 4) (length image) && eqb (field image 12 4) 0)))))
 
--- the 16 bytes of a block header: extent (header included), kind, type number, raw size, zero
-unfoldable pub header : ℕ → ℕ → ℕ → ℕ → List ℕ
-header extent kind type size = encode 4 extent ++ (encode 2 kind ++ (encode 2 type ++ (encode 4 size ++ encode 4 0)))
+-- the 16 bytes of a block header: extent (header included), kind, type number, raw size, cue number
+unfoldable pub header : ℕ → ℕ → ℕ → ℕ → ℕ → List ℕ
+header extent kind type size cue = encode 4 extent ++ (encode 2 kind ++ (encode 2 type ++ (encode 4 size ++ encode 4 cue)))
 
 -- the header bytes of a free block
 abbrev pub freeHeader : ℕ → List ℕ
-freeHeader extent = header extent 1 0 0
+freeHeader extent = header extent 1 0 0 0
 
 -- the header bytes of a live block
-abbrev pub liveHeader : ℕ → ℕ → ℕ → List ℕ
-liveHeader extent type size = header extent 2 type size
+abbrev pub liveHeader : ℕ → ℕ → ℕ → ℕ → List ℕ
+liveHeader extent type size cue = header extent 2 type size cue
 
 -- the fields that such header bytes hold
-abbrev pub fields : ℕ → ℕ → ℕ → ℕ → Header
-fields extent kind type size = record { extent = extent; kind = kind; ty = type; size = size; last = 0 }
+abbrev pub fields : ℕ → ℕ → ℕ → ℕ → ℕ → Header
+fields extent kind type size cue = record { extent = extent; kind = kind; ty = type; size = size; cue = cue }
 
 -- the fields of the header at h
 unfoldable pub headerAt : List ℕ → ℕ → Header
@@ -60,7 +60,7 @@ headerAt image h =
       kind = field image (h + 4) 2;
       ty = field image (h + 6) 2;
       size = field image (h + 8) 4;
-      last = field image (h + 12) 4;
+      cue = field image (h + 12) 4;
     }
 
 -- bytes from the header at h to the next one
@@ -79,6 +79,10 @@ typeAt image h = headerAt image h .ty
 abbrev pub sizeAt : List ℕ → ℕ → ℕ
 sizeAt image h = headerAt image h .size
 
+-- the number of the cue that a live block belongs to
+abbrev pub cueAt : List ℕ → ℕ → ℕ
+cueAt image h = headerAt image h .cue
+
 -- whether the header at h is of a free block
 abbrev pub isFree : List ℕ → ℕ → Bool
 isFree image h = eqb (kindAt image h) 1
@@ -87,18 +91,18 @@ isFree image h = eqb (kindAt image h) 1
 abbrev pub isLive : List ℕ → ℕ → Bool
 isLive image h = eqb (kindAt image h) 2
 
--- a free block has type and size 0
+-- a free block has type, size and cue 0
 abbrev pub freeFormed : Header → Bool
-freeFormed d = eqb (d .ty) 0 && eqb (d .size) 0
+freeFormed d = eqb (d .ty) 0 && (eqb (d .size) 0 && eqb (d .cue) 0)
 
--- a live block has kind 2, a size of at least 1, and an extent of its header and size and at most 15 bytes more
+-- a live block has kind 2, a size of at least 1, and an extent of its header and size and at most 15 bytes more; its cue may be any
 abbrev pub liveFormed : Header → Bool
 liveFormed d = eqb (d .kind) 2 && (leb 1 (d .size) && (leb (16 + d .size) (d .extent) && leb (d .extent) (31 + d .size)))
 
 -- whether the header d is as it must be at h in an image of L bytes
 unfoldable pub wellFormed : ℕ → ℕ → Header → Bool
 wellFormed L h d =
-    leb 16 (d .extent) && (leb (h + d .extent) L && (eqb (d .last) 0 && cond (eqb (d .kind) 1) (freeFormed d) (liveFormed d)))
+    leb 16 (d .extent) && (leb (h + d .extent) L && cond (eqb (d .kind) 1) (freeFormed d) (liveFormed d))
 
 -- whether a sound header stands at h
 unfoldable pub sound : List ℕ → ℕ → Bool

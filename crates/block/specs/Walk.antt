@@ -1,8 +1,9 @@
--- The walk over the blocks of an image, from 16 on, from block to block by their extents: document 01, "Calls"; the counts: document 02, W3. Assumes nothing.
+-- The walk over the blocks of an image, from 16 on, from block to block by their extents: document 01, "Calls"; the counts and the
+-- objects of a cue: document 02, W3 and W6. Assumes nothing.
 use Prim.Native.Nat.{ℕ, zero, suc, _+_, _-_, _≤_, _<_}
 use mathlib.Core.Path.{_≡_}
 use mathlib.Core.Bool.{Bool, true, false, cond, _&&_}
-use mathlib.Core.List.{List}
+use mathlib.Core.List.{List, [], _∷_, _++_}
 use lib.ListN.{length}
 use lib.Dec.{leb, eqb}
 use Rattle.block.specs.Layout.{headerAt, extentAt, isFree, sound}
@@ -106,6 +107,18 @@ countOf (ended a) = counted.Counts a
 -- the counts of an image's blocks, or that a header is unsound
 unfoldable pub countBlocks : List ℕ → Counted
 countBlocks image = countOf (walk counting image noCounts)
+
+-- a live block of the cue
+abbrev pub isOfCue : ℕ → Header → Bool
+isOfCue cue d = eqb (d .kind) 2 && eqb (d .cue) cue
+
+-- every block is passed; what is gathered is the places of the cue's live blocks, in the order of their addresses
+abbrev pub gathering : ℕ → Search (List ℕ)
+gathering cue = record { stops = λ h d. false; passes = λ a h d. cond (isOfCue cue d) (a ++ (h ∷ [])) a }
+
+-- the walk that gathers them
+unfoldable pub walkCue : ℕ → List ℕ → Walked (List ℕ)
+walkCue cue image = walk (gathering cue) image []
 
 -- a place that the walk comes to
 pub data OnWalk (image : List ℕ) : ℕ → Type 0 where

@@ -11,6 +11,8 @@ pub mod Headers
 pub mod Soundness
 -- walks
 pub mod Walks
+pub mod Turns
 pub mod FirstFit
 pub mod WalkTo
 pub mod Counting
+pub mod Gathering

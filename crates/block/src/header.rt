@@ -7,16 +7,16 @@ ghost use mathlib.Core.Path.{_≡_};
 ghost use Prim.Native.Nat.{_+_, _≤_};
 ghost use lib.ListN.{length};
 ghost use Rattle.block.specs.Bytes.{put};
-ghost use Rattle.block.specs.Layout.{header, freeHeader, liveHeader, headerAt, extentAt, kindAt, typeAt, sizeAt, sound};
+ghost use Rattle.block.specs.Layout.{header, freeHeader, liveHeader, headerAt, extentAt, kindAt, typeAt, sizeAt, cueAt, sound};
 ghost use Rattle.block.specs.laws.Soundness.{examined};
 
-// A block header's fields. `last` is the four bytes that must be zero.
+// A block header's fields.
 pub struct Header {
     pub extent: u64,
     pub kind: u64,
     pub ty: u64,
     pub size: u64,
-    pub last: u64,
+    pub cue: u64,
 }
 
 // What stands at a place: a sound header, or none.
@@ -57,6 +57,14 @@ pub fn size_at(image: &[u8], h: usize) -> u64
     read4(image, h + 8)
 }
 
+// The number of its cue.
+fn cue_at(image: &[u8], h: usize) -> u64
+    requires { ⌜ h + 16 ≤ length (now image) ⌝ }
+    ensures { λ r. ⌜ r ≡ cueAt (now (image .entry)) h ⌝ }
+{
+    read4(image, h + 12)
+}
+
 // The fields of the header at h.
 pub fn read_header(image: &[u8], h: usize) -> Header
     requires { ⌜ h + 16 ≤ length (now image) ⌝ }
@@ -66,13 +74,13 @@ pub fn read_header(image: &[u8], h: usize) -> Header
     let kind = kind_at(image, h);
     let ty = type_at(image, h);
     let size = size_at(image, h);
-    let last = read4(image, h + 12);
+    let cue = cue_at(image, h);
     Header {
         extent,
         kind,
         ty,
         size,
-        last,
+        cue,
     }
 }
 
@@ -84,8 +92,8 @@ fn free_sound(image: &[u8], h: usize, extent: u64) -> bool
     let room = (image.len() - h) as u64;
     let ty = type_at(image, h);
     let size = size_at(image, h);
-    let last = read4(image, h + 12);
-    (16 <= extent) & (extent <= room) & (last == 0) & (ty == 0) & (size == 0)
+    let cue = cue_at(image, h);
+    (16 <= extent) & (extent <= room) & (ty == 0) & (size == 0) & (cue == 0)
 }
 
 // Whether the header at h, of a live block, is sound. An extent that holds header and size is at least 16.
@@ -95,8 +103,7 @@ fn live_sound(image: &[u8], h: usize, extent: u64) -> bool
 {
     let room = (image.len() - h) as u64;
     let size = size_at(image, h);
-    let last = read4(image, h + 12);
-    (extent <= room) & (last == 0) & (1 <= size) & (16 + size <= extent) & (extent <= 31 + size)
+    (extent <= room) & (1 <= size) & (16 + size <= extent) & (extent <= 31 + size)
 }
 
 // Whether the header at h is sound. A walk waits for the extent, so it is read before the branch.
@@ -136,15 +143,15 @@ pub fn examine(image: &[u8], h: u64) -> Examined
 }
 
 // Writes a header at h.
-fn write_header(image: &mut [u8], h: usize, extent: u64, kind: u64, ty: u64, size: u64)
+fn write_header(image: &mut [u8], h: usize, extent: u64, kind: u64, ty: u64, size: u64, cue: u64)
     requires { ⌜ h + 16 ≤ length (now image) ⌝ }
-    ensures { λ _. ⌜ now (image .exit) ≡ put (now (image .entry)) h (header extent kind ty size) ⌝ }
+    ensures { λ _. ⌜ now (image .exit) ≡ put (now (image .entry)) h (header extent kind ty size cue) ⌝ }
 {
     write4(image, h, extent);
     write2(image, h + 4, kind);
     write2(image, h + 6, ty);
     write4(image, h + 8, size);
-    write4(image, h + 12, 0);
+    write4(image, h + 12, cue);
 }
 
 // Writes the header of a free block at h.
@@ -152,13 +159,13 @@ pub fn write_free(image: &mut [u8], h: usize, extent: u64)
     requires { ⌜ h + 16 ≤ length (now image) ⌝ }
     ensures { λ _. ⌜ now (image .exit) ≡ put (now (image .entry)) h (freeHeader extent) ⌝ }
 {
-    write_header(image, h, extent, 1, 0, 0);
+    write_header(image, h, extent, 1, 0, 0, 0);
 }
 
 // Writes the header of a live block at h.
-pub fn write_live(image: &mut [u8], h: usize, extent: u64, ty: u64, size: u64)
+pub fn write_live(image: &mut [u8], h: usize, extent: u64, ty: u64, size: u64, cue: u64)
     requires { ⌜ h + 16 ≤ length (now image) ⌝ }
-    ensures { λ _. ⌜ now (image .exit) ≡ put (now (image .entry)) h (liveHeader extent ty size) ⌝ }
+    ensures { λ _. ⌜ now (image .exit) ≡ put (now (image .entry)) h (liveHeader extent ty size cue) ⌝ }
 {
-    write_header(image, h, extent, 2, ty, size);
+    write_header(image, h, extent, 2, ty, size, cue);
 }

@@ -2,7 +2,7 @@
 // given through a pointer is 0 where it is refused.
 ghost use mathlib.Core.Path.{_≡_};
 ghost use Rattle.store.specs.State.{state};
-ghost use Rattle.store.specs.Calls.{setUp, allocate, move, load, store, free, fill, copy, compare, copyText, tally};
+ghost use Rattle.store.specs.Calls.{setUp, allocate, allocateFor, move, load, store, free, fill, copy, compare, copyText, releaseCue, tally};
 ghost use Rattle.capi.specs.Exports.{left, leftBy, export, exported, compared, exportedComparison, tallied, exportedUsage};
 use store::Usage;
 
@@ -15,7 +15,7 @@ pub extern "C" fn cue_setup(image: &mut [u8], table: &mut [u64], exponent: u32) 
     a.returned()
 }
 
-// A new object; its tagged base goes to `pointer`.
+// A new object for no cue, which is cue 0; its tagged base goes to `pointer`.
 #[no_mangle]
 pub extern "C" fn cue_allocate(
     image: &mut [u8],
@@ -26,7 +26,22 @@ pub extern "C" fn cue_allocate(
 ) -> u32
     ensures { λ r. ⌜ export r (now (pointer .exit)) (now (image .exit)) (now (table .exit)) ≡ exported (allocate size ty (state (now (image .entry)) (now (table .entry)))) ⌝ }
 {
-    let a = store::allocate(image, table, size, ty);
+    cue_allocate_for(image, table, size, ty, 0, pointer)
+}
+
+// A new object for the cue; its tagged base goes to `pointer`.
+#[no_mangle]
+pub extern "C" fn cue_allocate_for(
+    image: &mut [u8],
+    table: &mut [u64],
+    size: u32,
+    ty: u16,
+    cue: u32,
+    pointer: &mut u64,
+) -> u32
+    ensures { λ r. ⌜ export r (now (pointer .exit)) (now (image .exit)) (now (table .exit)) ≡ exported (allocateFor size ty cue (state (now (image .entry)) (now (table .entry)))) ⌝ }
+{
+    let a = store::allocate_for(image, table, size, ty, cue);
     *pointer = a.value();
     a.returned()
 }
@@ -84,6 +99,16 @@ pub extern "C" fn cue_free(image: &mut [u8], table: &mut [u64], pointer: u64) ->
     ensures { λ r. ⌜ left r (now (image .exit)) (now (table .exit)) ≡ leftBy (free pointer (state (now (image .entry)) (now (table .entry)))) ⌝ }
 {
     let a = store::free(image, table, pointer);
+    a.returned()
+}
+
+// Ends the lives of all objects of the cue; how many they were goes to `count`.
+#[no_mangle]
+pub extern "C" fn cue_release(image: &mut [u8], table: &mut [u64], cue: u32, count: &mut u64) -> u32
+    ensures { λ r. ⌜ export r (now (count .exit)) (now (image .exit)) (now (table .exit)) ≡ exported (releaseCue cue (state (now (image .entry)) (now (table .entry)))) ⌝ }
+{
+    let a = store::release_cue(image, table, cue);
+    *count = a.value();
     a.returned()
 }
 

@@ -200,6 +200,32 @@ pub fn fresh(run: Run) -> Run {
     first(run, 33, 8, 0)
 }
 
+// Four buffers for two cues, one behind the other; the first has its line.
+fn two_cues(run: Run) -> Run {
+    heading(b"Cases: buffers of 10, 20, 32 and 1 bytes for the cues 7, 9, 7 and 9");
+    let run = lend(run, 1024, 384).quietly(Call::SetUp(6));
+    let run = run.make(Call::AllocateFor(10, 7), BYTES, 0, TEN | 32);
+    let run = run.quietly(Call::AllocateFor(20, 9));
+    let run = run.quietly(Call::AllocateFor(32, 7));
+    run.quietly(Call::AllocateFor(1, 9))
+}
+
+// Releases of both cues, and of one that has no object left; then of a buffer whose entry is lost, and with an unsound header behind it: refusals 21
+// and 7.
+pub fn cues(run: Run) -> Run {
+    let run = two_cues(run).make(Call::Release(7), NUMBER, 0, 2);
+    let run = run.tally(0, 2, 21, 955, 32);
+    let run = run.make(Call::Release(7), NUMBER, 0, 0);
+    let run = run.make(Call::Release(9), NUMBER, 0, 2);
+    let run = run.tally(0, 0, 0, 1008, 0);
+    heading(b"Cases: a buffer of 32 bytes for the cue 9, from 16 to 63, its entry zeroed");
+    let mut run = run.quietly(Call::AllocateFor(32, 9));
+    run.table[0] = 0;
+    let mut run = run.make(Call::Release(9), NUMBER, 21, 0);
+    run.image[68] = 9;
+    run.make(Call::Release(9), NUMBER, 7, 0)
+}
+
 // An entry that is taken, a header place near 2^64, and an unsound header: refusals 9, 11 and 7.
 pub fn damaged(run: Run) -> Run {
     let mut run = lend(run, 1024, 384).quietly(Call::SetUp(6));

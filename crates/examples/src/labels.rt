@@ -1,5 +1,5 @@
 // The first column of each call's line: 32 places, in the order of the calls.
-pub const LABELS: [u8; 3616] = *b"set up                          \
+pub const LABELS: [u8; 3872] = *b"set up                          \
 10 bytes                        \
 20 bytes                        \
 32 bytes                        \
@@ -108,6 +108,14 @@ tally: 15 bytes are spare       \
 32, from 64 bytes               \
 tally                           \
 33, from 64 bytes               \
+allocate 10 for cue 7           \
+release 7                       \
+tally                           \
+release 7 again                 \
+release 9                       \
+tally                           \
+release 9                       \
+release 9, kind 9 at 64         \
 allocate 32                     \
 load through entry 0            \
 allocate 10                     \

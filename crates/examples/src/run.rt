@@ -15,8 +15,12 @@ pub enum Call {
     SetUp(u32),
     // Size; the type is 1.
     Allocate(u32),
+    // Size, cue; the type is 1.
+    AllocateFor(u32, u32),
     // Pointer.
     Free(u64),
+    // Cue.
+    Release(u32),
     // Pointer, distance.
     Move(u64, i64),
     // Pointer, width.
@@ -36,7 +40,9 @@ fn called(call: Call, image: &mut [u8], table: &mut [u64]) -> Answer {
     match call {
         Call::SetUp(s) => store::set_up(image, table, s),
         Call::Allocate(size) => store::allocate(image, table, size, 1),
+        Call::AllocateFor(size, cue) => store::allocate_for(image, table, size, 1, cue),
         Call::Free(p) => store::free(image, table, p),
+        Call::Release(cue) => store::release_cue(image, table, cue),
         Call::Move(p, distance) => store::offset(image, table, p, distance),
         Call::Load(p, width) => store::load(image, table, p, width),
         Call::Store(p, width, value) => store::store(image, table, p, width, value),

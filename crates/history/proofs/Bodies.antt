@@ -19,8 +19,8 @@ module _ (image : List ℕ) (k g : ℕ) (b : Block) (m : Layout) (p : Part image
   drop-body i le =
       sym (drop-drop i (k + g + 16) image)
       ∙ ap (drop i)
-      (step-drop image (k + g) (liveHeader (extent b) (b .type) (length (b .body))) (b .body ++ (zeros (b .spare) ++ render m)) 16
-      (block-cut image k g b m p) (length-header (extent b) 2 (b .type) (length (b .body))))
+      (step-drop image (k + g) (liveHeader (extent b) (b .type) (length (b .body)) (b .cue)) (b .body ++ (zeros (b .spare) ++ render m)) 16
+      (block-cut image k g b m p) (length-header (extent b) 2 (b .type) (length (b .body)) (b .cue)))
       ∙ drop-append-le i (b .body) (zeros (b .spare) ++ render m) le
 
   -- bytes of the body, read in the image
@@ -34,8 +34,8 @@ split-three l i n = sym (rw (← drop-drop n i l, take-append-drop n (drop i l))
 
 -- the same bytes, cut at the body's i-th byte and cut at the block's ends
 regroup : (P R : List ℕ) (b : Block) (i : ℕ) (v : List ℕ) → i + length v ≤ length (b .body)
-    → (P ++ (liveHeader (extent b) (b .type) (length (b .body)) ++ take i (b .body))) ++ (v ++ (drop (i + length v) (b .body) ++ (zeros (b .spare) ++ R)))
-    ≡ P ++ ((liveHeader (extent b) (b .type) (length (b .body)) ++ (put (b .body) i v ++ zeros (b .spare))) ++ R)
+    → (P ++ (liveHeader (extent b) (b .type) (length (b .body)) (b .cue) ++ take i (b .body))) ++ (v ++ (drop (i + length v) (b .body) ++ (zeros (b .spare) ++ R)))
+    ≡ P ++ ((liveHeader (extent b) (b .type) (length (b .body)) (b .cue) ++ (put (b .body) i v ++ zeros (b .spare))) ++ R)
 regroup P R b i v le = rw (put-parts (b .body) i v (drop (i + length v) (b .body)) (length v) refl le refl) (simp append-assoc)
 
 -- bytes put into a block's body, where the image is in parts
@@ -43,7 +43,7 @@ put-block : (P R : List ℕ) (t : ℕ) (b : Block) (i : ℕ) (v : List ℕ) → 
     → put (P ++ (blockBytes b ++ R)) (t + 16 + i) v ≡ P ++ (blockBytes (patched b i v) ++ R)
 unfolding blockBytes
 put-block P R t b i v e le =
-    let H : List ℕ = liveHeader (extent b) (b .type) (length (b .body)) in
+    let H : List ℕ = liveHeader (extent b) (b .type) (length (b .body)) (b .cue) in
     let old : List ℕ = take (length v) (drop i (b .body)) in
     let rest : List ℕ = drop (i + length v) (b .body) ++ (zeros (b .spare) ++ R) in
     let a : P ++ ((H ++ (b .body ++ zeros (b .spare))) ++ R) ≡ (P ++ (H ++ take i (b .body))) ++ (old ++ rest) =
@@ -71,7 +71,7 @@ pub patched-length : (b : Block) (i : ℕ) (v : List ℕ) → i + length v ≤ l
 patched-length b i v le = length-put (b .body) i v le
 
 pub patched-ok : (b : Block) (i : ℕ) (v : List ℕ) → i + length v ≤ length (b .body) → BlockOk b → BlockOk (patched b i v)
-patched-ok b i v le k = record { type-fits = k .type-fits; some-byte = omega (arith, patched-length b i v le, k .some-byte); tight = k .tight }
+patched-ok b i v le k = record { type-fits = k .type-fits; cue-fits = k .cue-fits; some-byte = omega (arith, patched-length b i v le, k .some-byte); tight = k .tight }
 
 module _ (image : List ℕ) (l : Layout) (k g : ℕ) (b : Block) (m : Layout) (f : Focus image l k (item g b m)) (i : ℕ) (v : List ℕ)
     (le : i + length v ≤ length (b .body)) where

@@ -1,20 +1,18 @@
 -- What a count of the blocks finds on an image with a layout. Assumes nothing.
-use Prim.Native.Nat.{ℕ, zero, suc, _+_}
+use Prim.Native.Nat.{ℕ, _+_}
 use mathlib.Core.Path.{_≡_, refl, sym, ap, _∙_}
 use mathlib.Core.List.{List}
 use native.Mathlib.Omega.{arith}
-use native.Mathlib.Nat.{add-zero}
-use lib.ListN.{length}
 use Rattle.block.specs.Layout.{fields}
 use Rattle.block.specs.Walk.{ended, walkFrom, noCounts, withLive, withFree, counting, countBlocks}
-use Rattle.block.specs.laws.Walks.{walk-begins, walk-ended, walk-next}
+use Rattle.block.specs.laws.Walks.{walk-begins, walk-ended}
 use Rattle.block.specs.laws.Counting.{same-counts, count-is}
-use Rattle.block.specs.declared.header.Header.{Header}
 use Rattle.block.specs.declared.walk.Counts.{Counts}
 use Rattle.block.specs.declared.walk.Counted.the-variants as counted
-use Rattle.history.proofs.Gaps.{Block, extent, Layout, last, item, counts, Placed}
+use Rattle.history.proofs.Gaps.{extent, headed, Layout, last, item, counts, Placed}
 use Rattle.history.proofs.Looks.{gap}
-use Rattle.history.proofs.Rendered.{Part, gap-header, gap-sound, block-header, block-sound, part-next}
+use Rattle.history.proofs.Rendered.{Part, part-next}
+use Rattle.history.proofs.Walking.{pass-gap, pass-block}
 use Rattle.history.proofs.Focus.{focus-whole}
 
 -- two counts, added up
@@ -23,32 +21,20 @@ plus a b = record { objects = a .objects + b .objects; live = a .live + b .live;
 
 -- past a gap, its free block is counted, if there is one
 count-gap : (image : List ℕ) (h : ℕ) (l : Layout) (a : Counts) → Part image h l
-    → walkFrom counting image a h ≡ walkFrom counting image (withFree a (fields (gap l) 1 0 0)) (h + gap l)
-count-gap image h l a p = go (gap l) refl
-  where
-    go : (g : ℕ) → gap l ≡ g → walkFrom counting image a h ≡ walkFrom counting image (withFree a (fields (gap l) 1 0 0)) (h + gap l)
-    go zero e = rw (e, add-zero (a .free), add-zero h) refl
-    go (suc g) e =
-        walk-next counting image a h (gap-sound image h l p (omega arith)) refl
-        ∙ ap (λ (d : Header). walkFrom counting image (counting .passes a h d) (h + d .extent)) (gap-header image h l p (omega arith))
-
--- past the block behind it, the block
-count-block : (image : List ℕ) (h g : ℕ) (b : Block) (l : Layout) (a : Counts) → Part image h (item g b l)
-    → walkFrom counting image a (h + g) ≡ walkFrom counting image (withLive a (fields (extent b) 2 (b .type) (length (b .body)))) (h + g + extent b)
-count-block image h g b l a p =
-    walk-next counting image a (h + g) (block-sound image h g b l p) refl
-    ∙ ap (λ (d : Header). walkFrom counting image (counting .passes a (h + g) d) (h + g + d .extent)) (block-header image h g b l p)
+    → walkFrom counting image a h ≡ walkFrom counting image (withFree a (fields (gap l) 1 0 0 0)) (h + gap l)
+count-gap image h l a p =
+    pass-gap counting (λ k d. refl) image h l a (withFree a (fields (gap l) 1 0 0 0)) p (λ e. same-counts refl refl (omega arith) refl) refl
 
 -- from h on, all of the layout
 count-from : (image : List ℕ) (h : ℕ) (l : Layout) (a : Counts) → Part image h l → walkFrom counting image a h ≡ ended (plus a (counts l))
 count-from image h (last g) a p =
     count-gap image h (last g) a p
-    ∙ walk-ended counting image (withFree a (fields g 1 0 0)) (h + g) (p .whole)
+    ∙ walk-ended counting image (withFree a (fields g 1 0 0 0)) (h + g) (p .whole)
     ∙ ap ended (same-counts (omega arith) (omega arith) refl (omega arith))
 count-from image h (item g b l) a p =
-    let c : Counts = withLive (withFree a (fields g 1 0 0)) (fields (extent b) 2 (b .type) (length (b .body))) in
+    let c : Counts = withLive (withFree a (fields g 1 0 0 0)) (headed b) in
     count-gap image h (item g b l) a p
-    ∙ count-block image h g b l (withFree a (fields g 1 0 0)) p
+    ∙ pass-block counting (λ k d. refl) image h g b l (withFree a (fields g 1 0 0 0)) p
     ∙ count-from image (h + g + extent b) l c (part-next image h g b l p)
     ∙ ap ended (same-counts (omega arith) (omega arith) (omega arith) (omega arith))
 

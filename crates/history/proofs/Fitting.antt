@@ -1,4 +1,4 @@
--- A new block in a gap that has room for it, and what first fit finds.
+-- A new block in cue a gap that has room for it, and what first fit finds.
 -- In order: the layout with the new block; its bytes; the carved image; first fit. Assumes nothing.
 use Prim.Native.Nat.{ℕ, _+_, _-_, _^_, _≤_, _<_}
 use mathlib.Core.Path.{_≡_, refl, sym, ap, _∙_}
@@ -51,28 +51,28 @@ left-ok : (n g : ℕ) → GapOk (left n g)
 unfolding left
 left-ok n g = byBool (ltb (g - (16 + n)) 16) (λ p. rw p tt) (λ p. rw p (gap-ok (g - (16 + n)) (ltb-false (g - (16 + n)) 16 p)))
 
--- the new block in a gap of g bytes
-abbrev pub new : ℕ → ℕ → ℕ → Block
-new n type g = record { type = type; body = zeros n; spare = over n g }
+-- the new block in cue a gap of g bytes
+abbrev pub new : ℕ → ℕ → ℕ → ℕ → Block
+new n type cue g = record { type = type; cue = cue; body = zeros n; spare = over n g }
 
 -- the layout with it in the first gap
-abbrev pub placed-in : ℕ → ℕ → Layout → Layout
-placed-in n type l = item 0 (new n type (gap l)) (regap (left n (gap l)) l)
+abbrev pub placed-in : ℕ → ℕ → ℕ → Layout → Layout
+placed-in n type cue l = item 0 (new n type cue (gap l)) (regap (left n (gap l)) l)
 
-new-extent : (n type g : ℕ) → extent (new n type g) ≡ 16 + (n + over n g)
-new-extent n type g = simp length-replicate
+new-extent : (n type cue g : ℕ) → extent (new n type cue g) ≡ 16 + (n + over n g)
+new-extent n type cue g = simp length-replicate
 
-new-ok : (n type g : ℕ) → 1 ≤ n → type < 2 ^ 16 → BlockOk (new n type g)
-new-ok n type g a b = record { type-fits = b; some-byte = simp length-replicate a; tight = over-tight n g }
+new-ok : (n type cue g : ℕ) → 1 ≤ n → type < 2 ^ 16 → cue < 2 ^ 32 → BlockOk (new n type cue g)
+new-ok n type cue g a b c = record { type-fits = b; cue-fits = c; some-byte = simp length-replicate a; tight = over-tight n g }
 
-new-bytes : (n type g : ℕ) → blockBytes (new n type g) ≡ liveHeader (16 + (n + over n g)) type n ++ (zeros n ++ zeros (over n g))
+new-bytes : (n type cue g : ℕ) → blockBytes (new n type cue g) ≡ liveHeader (16 + (n + over n g)) type n cue ++ (zeros n ++ zeros (over n g))
 unfolding blockBytes
-new-bytes n type g = simp length-replicate
+new-bytes n type cue g = simp length-replicate
 
-render-placed : (n type : ℕ) (l : Layout)
-    → render (placed-in n type l)
-    ≡ liveHeader (16 + (n + over n (gap l))) type n ++ (zeros n ++ (zeros (over n (gap l)) ++ (gapBytes (left n (gap l)) ++ after l)))
-render-placed n type l = rw (gap-none, new-bytes n type (gap l), render-regap (left n (gap l)) l) (simp append-assoc)
+render-placed : (n type cue : ℕ) (l : Layout)
+    → render (placed-in n type cue l)
+    ≡ liveHeader (16 + (n + over n (gap l))) type n cue ++ (zeros n ++ (zeros (over n (gap l)) ++ (gapBytes (left n (gap l)) ++ after l)))
+render-placed n type cue l = rw (gap-none, new-bytes n type cue (gap l), render-regap (left n (gap l)) l) (simp append-assoc)
 
 -- bytes
 
@@ -89,10 +89,10 @@ put-two p o₁ z o₂ q b₁ b₂ h k e₁ e₂ e₃ e₄ =
     (simp append-assoc)
 
 -- the rest of the gap becomes a free block
-carve-part : (P A : List ℕ) (h g n type : ℕ) → length P ≡ h → 32 + n ≤ g
-    → put (put (P ++ (freeHeader g ++ (zeros (g - 16) ++ A))) h (liveHeader (16 + n) type n)) (h + (16 + n)) (freeHeader (g - (16 + n)))
-    ≡ P ++ (liveHeader (16 + (n + 0)) type n ++ (zeros n ++ (gapBytes (g - (16 + n)) ++ A)))
-carve-part P A h g n type e le =
+carve-part : (P A : List ℕ) (h g n type cue : ℕ) → length P ≡ h → 32 + n ≤ g
+    → put (put (P ++ (freeHeader g ++ (zeros (g - 16) ++ A))) h (liveHeader (16 + n) type n cue)) (h + (16 + n)) (freeHeader (g - (16 + n)))
+    ≡ P ++ (liveHeader (16 + (n + 0)) type n cue ++ (zeros n ++ (gapBytes (g - (16 + n)) ++ A)))
+carve-part P A h g n type cue e le =
     let z : zeros (g - 16) ≡ zeros n ++ (zeros 16 ++ zeros (g - (16 + n) - 16)) =
     zeros-split (g - 16) n (16 + (g - (16 + n) - 16)) (omega arith)
     ∙ ap (λ (l : List ℕ). zeros n ++ l) (zeros-split (16 + (g - (16 + n) - 16)) 16 (g - (16 + n) - 16) refl)
@@ -101,7 +101,7 @@ carve-part P A h g n type e le =
       z,
       append-assoc,
       append-assoc,
-      put-two P (freeHeader g) (zeros n) (zeros 16) (zeros (g - (16 + n) - 16) ++ A) (liveHeader (16 + n) type n) (freeHeader (g - (16 + n))) h (16 + n) e
+      put-two P (freeHeader g) (zeros n) (zeros 16) (zeros (g - (16 + n) - 16) ++ A) (liveHeader (16 + n) type n cue) (freeHeader (g - (16 + n))) h (16 + n) e
           (simp length-header) (simp (length-header, length-replicate)) (simp length-header),
       gap-some (g - (16 + n)) (omega arith),
       add-zero,
@@ -109,19 +109,19 @@ carve-part P A h g n type e le =
     )
 
 -- the rest of the gap is too short for a header
-carve-whole : (P A : List ℕ) (h g n type : ℕ) → length P ≡ h → 16 + n ≤ g
-    → put (P ++ (freeHeader g ++ (zeros (g - 16) ++ A))) h (liveHeader g type n)
-    ≡ P ++ (liveHeader (16 + (n + (g - (16 + n)))) type n ++ (zeros n ++ (zeros (g - (16 + n)) ++ A)))
-carve-whole P A h g n type e le =
+carve-whole : (P A : List ℕ) (h g n type cue : ℕ) → length P ≡ h → 16 + n ≤ g
+    → put (P ++ (freeHeader g ++ (zeros (g - 16) ++ A))) h (liveHeader g type n cue)
+    ≡ P ++ (liveHeader (16 + (n + (g - (16 + n)))) type n cue ++ (zeros n ++ (zeros (g - (16 + n)) ++ A)))
+carve-whole P A h g n type cue e le =
     let z : zeros (g - 16) ≡ zeros n ++ zeros (g - (16 + n)) = zeros-split (g - 16) n (g - (16 + n)) (omega arith) in
     let y : 16 + (n + (g - (16 + n))) ≡ g = omega arith in
-    rw (put-at P (freeHeader g) (zeros (g - 16) ++ A) (liveHeader g type n) h e (simp length-header), y, z, append-assoc)
+    rw (put-at P (freeHeader g) (zeros (g - 16) ++ A) (liveHeader g type n cue) h e (simp length-header), y, z, append-assoc)
 
--- the carved image is the layout's with the new block
-carve-bytes : (image : List ℕ) (h : ℕ) (l : Layout) → Part image h l → (n type : ℕ) → 16 + n ≤ gap l
-    → carved image h n type ≡ take h image ++ render (placed-in n type l)
+-- the carved image is the layout's cue with the new block
+carve-bytes : (image : List ℕ) (h : ℕ) (l : Layout) → Part image h l → (n type cue : ℕ) → 16 + n ≤ gap l
+    → carved image h n type cue ≡ take h image ++ render (placed-in n type cue l)
 unfolding left over
-carve-bytes image h l p n type le =
+carve-bytes image h l p n type cue le =
     let x : extentAt image h ≡ gap l = gap-extent image h l p (omega arith) in
     let c : image ≡ take h image ++ (freeHeader (gap l) ++ (zeros (gap l - 16) ++ after l)) =
     sym (take-append-drop h image) ∙ ap (λ (q : List ℕ). take h image ++ q) (gap-cut image h l p (omega arith))
@@ -129,31 +129,31 @@ carve-bytes image h l p n type le =
     let s : length (take h image) ≡ h = length-take-le h image (omega (arith, p .whole)) in
     byBool (ltb (gap l - (16 + n)) 16)
     (λ t.
-    carved-whole image h n type (gap l) (sym x) (ltb-true (gap l - (16 + n)) 16 t)
-    ∙ rw (render-placed n type l, t, gap-none)
-    (ap (λ (q : List ℕ). put q h (liveHeader (gap l) type n)) c ∙ carve-whole (take h image) (after l) h (gap l) n type s le))
+    carved-whole image h n type cue (gap l) (sym x) (ltb-true (gap l - (16 + n)) 16 t)
+    ∙ rw (render-placed n type cue l, t, gap-none)
+    (ap (λ (q : List ℕ). put q h (liveHeader (gap l) type n cue)) c ∙ carve-whole (take h image) (after l) h (gap l) n type cue s le))
     (λ t.
-    carved-rest image h n type (gap l) (sym x) (ltb-false (gap l - (16 + n)) 16 t)
-    ∙ rw (render-placed n type l, t)
-    (ap (λ (q : List ℕ). put (put q h (liveHeader (16 + n) type n)) (h + (16 + n)) (freeHeader (gap l - (16 + n)))) c
-    ∙ carve-part (take h image) (after l) h (gap l) n type s (omega (arith, ltb-false (gap l - (16 + n)) 16 t))))
+    carved-rest image h n type cue (gap l) (sym x) (ltb-false (gap l - (16 + n)) 16 t)
+    ∙ rw (render-placed n type cue l, t)
+    (ap (λ (q : List ℕ). put (put q h (liveHeader (16 + n) type n cue)) (h + (16 + n)) (freeHeader (gap l - (16 + n)))) c
+    ∙ carve-part (take h image) (after l) h (gap l) n type cue s (omega (arith, ltb-false (gap l - (16 + n)) 16 t))))
 
 -- the layout with the new block
 
-module _ (image : List ℕ) (l : Layout) (k : ℕ) (m : Layout) (f : Focus image l k m) (n type : ℕ) (le : 16 + n ≤ gap m) where
-  pub carve-remade : 1 ≤ n → type < 2 ^ 16 → Remade image (carved image k n type) (f .fill (placed-in n type m))
-  carve-remade pos fits =
-      focus-remade image l k m f (placed-in n type m)
-      (tt, new-ok n type (gap m) pos fits, regap-ok (left n (gap m)) m (left-ok n (gap m)) (f .part .good))
-      (omega (arith, new-extent n type (gap m), regap-size (left n (gap m)) m, over-left n (gap m) le))
-      (carved image k n type) (carve-bytes image k m (f .part) n type le)
+module _ (image : List ℕ) (l : Layout) (k : ℕ) (m : Layout) (f : Focus image l k m) (n type cue : ℕ) (le : 16 + n ≤ gap m) where
+  pub carve-remade : 1 ≤ n → type < 2 ^ 16 → cue < 2 ^ 32 → Remade image (carved image k n type cue) (f .fill (placed-in n type cue m))
+  carve-remade pos fits cue-fits =
+      focus-remade image l k m f (placed-in n type cue m)
+      (tt, new-ok n type cue (gap m) pos fits cue-fits, regap-ok (left n (gap m)) m (left-ok n (gap m)) (f .part .good))
+      (omega (arith, new-extent n type cue (gap m), regap-size (left n (gap m)) m, over-left n (gap m) le))
+      (carved image k n type cue) (carve-bytes image k m (f .part) n type cue le)
 
-  pub carve-looks : (j : ℕ) → lookup k (placed-in n type m) j ≡ cond (eqb j k) (some (new n type (gap m))) (lookup k m j)
+  pub carve-looks : (j : ℕ) → lookup k (placed-in n type cue m) j ≡ cond (eqb j k) (some (new n type cue (gap m))) (lookup k m j)
   unfolding lookup
   carve-looks j =
       rw (
         add-zero k,
-        look-regap k (k + extent (new n type (gap m))) (left n (gap m)) m j (omega (arith, new-extent n type (gap m), over-left n (gap m) le)),
+        look-regap k (k + extent (new n type cue (gap m))) (left n (gap m)) m j (omega (arith, new-extent n type cue (gap m), over-left n (gap m) le)),
       )
 
   -- no block stood at that place

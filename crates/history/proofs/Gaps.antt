@@ -8,18 +8,24 @@ use mathlib.Core.Option.{Option, none, some}
 use lib.ListN.{length, take, drop, replicate}
 use lib.Dec.{eqb}
 use Rattle.block.specs.Bytes.{put}
-use Rattle.block.specs.Layout.{freeHeader, liveHeader}
+use Rattle.block.specs.Layout.{freeHeader, liveHeader, fields}
+use Rattle.block.specs.declared.header.Header.{Header}
 use Rattle.block.specs.declared.walk.Counts.{Counts}
 
--- A live block: its type number, its body and how many bytes lie unused behind that.
+-- A live block: its type number, its cue, its body and how many bytes lie unused behind that.
 pub record Block : Type 0 where
   pub type : ℕ
+  pub cue : ℕ
   pub body : List ℕ
   pub spare : ℕ
 
 -- bytes of a block, header included
 abbrev pub extent : Block → ℕ
 extent b = 16 + (length (b .body) + b .spare)
+
+-- the fields of its header
+abbrev pub headed : Block → Header
+headed b = fields (extent b) 2 (b .type) (length (b .body)) (b .cue)
 
 -- The gap before each live block, and the gap behind the last one.
 pub data Layout : Type 0 where
@@ -35,7 +41,7 @@ gapBytes zero = []
 gapBytes (suc g) = freeHeader (suc g) ++ zeros (suc g - 16)
 
 unfoldable pub blockBytes : Block → List ℕ
-blockBytes b = liveHeader (extent b) (b .type) (length (b .body)) ++ (b .body ++ zeros (b .spare))
+blockBytes b = liveHeader (extent b) (b .type) (length (b .body)) (b .cue) ++ (b .body ++ zeros (b .spare))
 
 -- the bytes behind the superblock
 abbrev pub render : Layout → List ℕ
@@ -77,6 +83,7 @@ GapOk (suc g) = 16 ≤ suc g
 
 pub record BlockOk (b : Block) : Type 0 where
   pub type-fits : b .type < 2 ^ 16
+  pub cue-fits : b .cue < 2 ^ 32
   pub some-byte : 1 ≤ length (b .body)
   pub tight : b .spare ≤ 15
 
@@ -114,4 +121,4 @@ pub record Clear (image : List ℕ) (l : Layout) (a n : ℕ) : Type 0 where
 
 -- the block with bytes of its body replaced
 abbrev pub patched : Block → ℕ → List ℕ → Block
-patched b i bytes = record { type = b .type; body = put (b .body) i bytes; spare = b .spare }
+patched b i bytes = record { type = b .type; cue = b .cue; body = put (b .body) i bytes; spare = b .spare }

@@ -1,5 +1,6 @@
 -- Laws of the abstract heap, by header places.
--- In order: the object at a place; owners; one object more, changed, less. Not here: image and table. Assumes nothing.
+-- In order: the object at a place; owners; one object more, changed, less; the objects that pass a test; how many there are. Not here: image and table.
+-- Assumes nothing.
 use Prim.Native.Nat.{ℕ, zero, suc, _-_, _<_}
 use mathlib.Core.Path.{_≡_, refl, sym, ap, _∙_}
 use mathlib.Core.Bool.{Bool, true, false, cond}
@@ -12,7 +13,7 @@ use lib.Dec.{eqb}
 use borrow.Author.Tests.{eq-eqb, ne-eqb, eqb-true, eqb-false}
 use Rattle.block.specs.laws.Booleans.{byBool}
 use Rattle.frame.specs.Pointers.{unpack}
-use Rattle.history.specs.Heap.{Object, Heap, holds, ownerOf, change, without}
+use Rattle.history.specs.Heap.{Object, Heap, holds, ownerOf, change, without, passing}
 use Rattle.history.specs.History.{In, Pairwise, headerOf, known}
 
 -- the first object with its header at k
@@ -237,3 +238,60 @@ without-nobody [] p n = refl
 without-nobody (x ∷ xs) p n =
     rw (ne-eqb (x .answer) p (n x (List·Memᴰ·head refl)))
     (ap (λ (r : Heap). x ∷ r) (without-nobody xs p (λ o m. n o (List·Memᴰ·tail m))))
+
+-- The objects that pass a test.
+
+-- whether an object that was found is one of them
+abbrev pub passes : (Object → Bool) → Option Object → Bool
+passes test none = false
+passes test (some o) = test o
+
+find-passing : (test : Object → Bool) (heap : Heap) (k : ℕ) → Distinct heap → find (passing test heap) k ≡ cond (passes test (find heap k)) (find heap k) none
+unfolding find passing
+find-passing test [] k d = refl
+find-passing test (x ∷ xs) k d =
+    byBool (eqb k (headerOf x))
+    (λ t. byBool (test x)
+    (λ u. rw (u, t, u))
+    (λ u. rw (u, t, u) (find-passing test xs k (d .1) ∙ rw (ap (find xs) (eqb-true k (headerOf x) t) ∙ d .0))))
+    (λ t. byBool (test x) (λ u. rw (u, t) (find-passing test xs k (d .1))) (λ u. rw (u, t) (find-passing test xs k (d .1))))
+
+-- the same, for what was found
+pub found-passing : (test : Object → Bool) (heap : Heap) (k : ℕ) (r : Option Object) → Distinct heap → find heap k ≡ r
+    → find (passing test heap) k ≡ cond (passes test r) r none
+found-passing test heap k r d e = find-passing test heap k d ∙ ap (λ (q : Option Object). cond (passes test q) q none) e
+
+pub distinct-passing : (test : Object → Bool) (heap : Heap) → Distinct heap → Distinct (passing test heap)
+unfolding passing
+distinct-passing test [] d = tt
+distinct-passing test (x ∷ xs) d =
+    byBool (test x)
+    (λ u. rw u (find-passing test xs (headerOf x) (d .1) ∙ rw (d .0), distinct-passing test xs (d .1)))
+    (λ u. rw u (distinct-passing test xs (d .1)))
+
+-- Two lists of the same objects are of one length.
+
+-- one object less
+length-without : (heap : Heap) (o : Object) → find heap (headerOf o) ≡ some o → length heap ≡ suc (length (without heap (o .answer)))
+unfolding find without
+length-without [] o e = absurd (none-some {o = o} refl e)
+length-without (x ∷ xs) o e =
+    byBool (eqb (x .answer) (o .answer))
+    (λ t. rw t)
+    (λ t. byBool (eqb (headerOf o) (headerOf x))
+    (λ u. let w : x ≡ o = cc in absurd (eqb-false (x .answer) (o .answer) t (ap (λ (z : Object). z .answer) w)))
+    (λ u. rw t (ap suc (length-without xs o (rw u at e)))))
+
+pub same-count : (heap new : Heap) → Distinct heap → Distinct new → ((k : ℕ) → find heap k ≡ find new k) → length heap ≡ length new
+unfolding find
+same-count [] [] d d′ e = refl
+same-count [] (x ∷ xs) d d′ e = absurd (none-some {o = x} refl (e (headerOf x) ∙ find-here x xs (headerOf x) refl))
+same-count (o ∷ os) new d d′ e =
+    let there : find new (headerOf o) ≡ some o = sym (e (headerOf o)) ∙ find-here o os (headerOf o) refl in
+    let rest : (k : ℕ) → find os k ≡ find (without new (o .answer)) k =
+    λ k.
+    byBool (eqb k (headerOf o))
+    (λ t. (ap (find os) (eqb-true k (headerOf o) t) ∙ d .0) ∙ sym (find-without new o k d′ there ∙ rw t))
+    (λ t. sym (find-there o os k (eqb-false k (headerOf o) t)) ∙ e k ∙ sym (find-without new o k d′ there ∙ rw t))
+    in
+    ap suc (same-count os (without new (o .answer)) (d .1) (distinct-without new (o .answer) d′) rest) ∙ sym (length-without new o there)

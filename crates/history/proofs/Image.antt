@@ -8,14 +8,14 @@ use native.Mathlib.Omega.{arith}
 use lib.ListN.{length, take, drop, replicate, getD}
 use lib.Dec.{eqb}
 use Rattle.block.specs.Bytes.{put}
-use Rattle.block.specs.Layout.{fields, headerAt, sound, isFree, isLive, extentAt, sizeAt}
+use Rattle.block.specs.Layout.{headerAt, sound, isFree, isLive, extentAt, sizeAt}
 use Rattle.block.specs.Walk.{firstFit, walkTo, countBlocks, OnWalk}
 use Rattle.block.specs.declared.walk.Fit.the-variants as fit
 use Rattle.block.specs.declared.walk.Counted.the-variants as counted
 use Rattle.store.specs.Calls.{fresh, carved, released, merged}
 use Rattle.store.specs.declared.answer.Refusal.the-variants.{Unsound}
 use Rattle.store.specs.declared.release.Release.the-variants as release
-use Rattle.history.proofs.Gaps.{Block, extent, Layout, last, item, blockAt, BlockOk, counts, Placed, Remade, Clear, patched}
+use Rattle.history.proofs.Gaps.{Block, extent, headed, Layout, last, item, blockAt, BlockOk, counts, Placed, Remade, Clear, patched}
 use Rattle.history.proofs.Looks.{gap, regap, look-apart, look-swap}
 use Rattle.history.proofs.Rendered.{block-header, block-sound}
 use Rattle.history.proofs.Focus.{Focus, Found, found, find, standing}
@@ -29,7 +29,7 @@ use Rattle.history.proofs.Freeing.{joined, free-merges, free-remade, fr
 -- a live block of the layout, in the image
 pub record LiveAt (image : List ℕ) (h : ℕ) (b : Block) : Type 0 where
   pub is-sound : sound image h ≡ true
-  pub header : headerAt image h ≡ fields (extent b) 2 (b .type) (length (b .body))
+  pub header : headerAt image h ≡ headed b
   pub low : 16 ≤ h
   pub high : h + extent b ≤ length image
   pub okay : BlockOk b
@@ -79,37 +79,39 @@ write-body image l h b p e i bytes f = go h (find image l h b p e)
         }
 
 -- first fit finds a gap, or there is no clear run; on a layout it never meets an unsound header
-pub record Carved (image : List ℕ) (l : Layout) (n type h : ℕ) : Type 0 where
+pub record Carved (image : List ℕ) (l : Layout) (n type cue h : ℕ) : Type 0 where
   pub found : firstFit image (16 + n) ≡ fit.At h
   pub clear : Clear image l h (16 + n)
   pub vacant : blockAt l h ≡ none
   pub block : Block
   pub zeroed : block .body ≡ replicate n 0
+  pub for-cue : block .cue ≡ cue
   pub next : Layout
-  pub remade : Remade image (carved image h n type) next
+  pub remade : Remade image (carved image h n type cue) next
   pub looks : (k : ℕ) → blockAt next k ≡ cond (eqb k h) (some block) (blockAt l k)
 
-pub data Fitted (image : List ℕ) (l : Layout) (n type : ℕ) : Type 0 where
-  room : (h : ℕ) → Carved image l n type h → Fitted image l n type
-  full : firstFit image (16 + n) ≡ fit.End → ((a : ℕ) → Clear image l a (16 + n) → ⊥) → Fitted image l n type
+pub data Fitted (image : List ℕ) (l : Layout) (n type cue : ℕ) : Type 0 where
+  room : (h : ℕ) → Carved image l n type cue h → Fitted image l n type cue
+  full : firstFit image (16 + n) ≡ fit.End → ((a : ℕ) → Clear image l a (16 + n) → ⊥) → Fitted image l n type cue
 
-pub fitted : (image : List ℕ) (l : Layout) → Placed image l → (n type : ℕ) → 1 ≤ n → type < 2 ^ 16 → Fitted image l n type
-fitted image l p n type least fits = go (first-fit image l p (16 + n) (omega arith))
+pub fitted : (image : List ℕ) (l : Layout) → Placed image l → (n type cue : ℕ) → 1 ≤ n → type < 2 ^ 16 → cue < 2 ^ 32 → Fitted image l n type cue
+fitted image l p n type cue least fits cue-fits = go (first-fit image l p (16 + n) (omega arith))
   where
-    go : FirstFit image l (16 + n) → Fitted image l n type
+    go : FirstFit image l (16 + n) → Fitted image l n type cue
     go (at h e r) =
         let m : Layout = r .rest in
         let f : Focus image l h m = r .focus in
         room h
         (record {
           found = e;
-          clear = carve-clear image l h m f n type (r .room);
-          vacant = carve-vacant image l h m f n type (r .room);
-          block = new n type (gap m);
+          clear = carve-clear image l h m f n type cue (r .room);
+          vacant = carve-vacant image l h m f n type cue (r .room);
+          block = new n type cue (gap m);
           zeroed = refl;
-          next = f .fill (placed-in n type m);
-          remade = carve-remade image l h m f n type (r .room) least fits;
-          looks = f .looks (placed-in n type m) h (some (new n type (gap m))) (omega arith) (carve-looks image l h m f n type (r .room));
+          for-cue = refl;
+          next = f .fill (placed-in n type cue m);
+          remade = carve-remade image l h m f n type cue (r .room) least fits cue-fits;
+          looks = f .looks (placed-in n type cue m) h (some (new n type cue (gap m))) (omega arith) (carve-looks image l h m f n type cue (r .room));
         })
     go (nowhere e c) = full e c
 

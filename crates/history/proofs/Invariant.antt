@@ -1,5 +1,5 @@
 -- What holds of image, table and abstract heap between any two calls of a list.
--- In order: the invariant; a live object in the image; what pointers lead to; set-up. Not here: that each call keeps it (`Steps`). Assumes nothing.
+-- In order: the invariant; a live object in the image; what pointers lead to; another list of the objects; set-up. Not here: that each call keeps it (`Steps`). Assumes nothing.
 use Prim.Native.Nat.{ℕ, _+_, _-_, _^_, _≤_}
 use mathlib.Core.Path.{_≡_, refl, sym, ap, _∙_, subst}
 use mathlib.Core.Bool.{Bool, true, false, cond}
@@ -11,7 +11,7 @@ use borrow.Author.Tests.{eq-eqb}
 use Rattle.frame.specs.Pointers.{unpack, pack, goodTag}
 use Rattle.frame.specs.Tags.{pointerTo, usedEntries}
 use Rattle.frame.specs.laws.Objects.{PointerOf, unpack-address, own-pointer}
-use Rattle.block.specs.Layout.{superblock, superblockGood, slotExponent, isLive, extentAt, sizeAt}
+use Rattle.block.specs.Layout.{superblock, superblockGood, slotExponent, isLive, extentAt, sizeAt, cueAt}
 use Rattle.block.specs.laws.Superblock.{superblock-front, exponent-front}
 use Rattle.block.specs.declared.header.Header.{Header}
 use Rattle.store.specs.State.{State, state, demand}
@@ -27,7 +27,7 @@ use Rattle.history.specs.History.{headerOf}
 use Rattle.history.proofs.Gaps.{Block, extent, Layout, last, lookup, blockAt, Placed, Remade}
 use Rattle.history.proofs.Image.{LiveAt, live-at, apart, placed-fresh}
 use Rattle.history.proofs.Heap.{find, Distinct, Owned, owned}
-use Rattle.history.proofs.Table.{nobody, Tabled, Ranged}
+use Rattle.history.proofs.Table.{nobody, Tabled, Ranged, other-heap}
 
 -- what no call changes: the slot exponent and the image's length
 pub record Shape (s L : ℕ) : Type 0 where
@@ -42,15 +42,17 @@ pub record Fine (s k : ℕ) (o : Object) : Type 0 where
   pub counted : length (o .bytes) ≡ o .size
   pub good : (p : ℕ) → holds o p ≡ true → PointerOf s k (o .size) p
 
--- what a block and an object must share
+-- what a block and an object must share: the cue and the bytes
+pub data Content : Type 0 where
+  content : (cue : ℕ) (bytes : List ℕ) → Content
 
-abbrev pub bodyIn : Option Block → Option (List ℕ)
-bodyIn none = none
-bodyIn (some b) = some (b .body)
+abbrev pub blockContent : Option Block → Option Content
+blockContent none = none
+blockContent (some b) = some (content (b .cue) (b .body))
 
-abbrev pub bytesIn : Option Object → Option (List ℕ)
-bytesIn none = none
-bytesIn (some o) = some (o .bytes)
+abbrev pub objectContent : Option Object → Option Content
+objectContent none = none
+objectContent (some o) = some (content (o .cue) (o .bytes))
 
 -- the image is a superblock and a layout, whose live blocks are the heap's objects
 pub record Laid (s L : ℕ) (image : List ℕ) (heap : Heap) : Type 0 where
@@ -59,7 +61,7 @@ pub record Laid (s L : ℕ) (image : List ℕ) (heap : Heap) : Type 0 where
   pub front : take 16 image ≡ superblock s L
   pub layout : Layout
   pub placed : Placed image layout
-  pub agree : (k : ℕ) → bodyIn (blockAt layout k) ≡ bytesIn (find heap k)
+  pub agree : (k : ℕ) → blockContent (blockAt layout k) ≡ objectContent (find heap k)
   pub fine : (k : ℕ) (o : Object) → find heap k ≡ some o → Fine s k o
   pub distinct : Distinct heap
 
@@ -70,13 +72,15 @@ pub record Invariant (s L : ℕ) (x : State) (heap : Heap) : Type 0 where
 
 -- A live object in the image.
 
--- its block there, its size and extent, and that it lies in the image
+-- its block there, its size, cue and extent, and that it lies in the image
 pub record Known (s L : ℕ) (image : List ℕ) (heap : Heap) (i : Laid s L image heap) (k : ℕ) (o : Object) : Type 0 where
   pub block : Block
   pub there : blockAt (i .layout) k ≡ some block
   pub body : block .body ≡ o .bytes
+  pub cue : block .cue ≡ o .cue
   pub live : LiveAt image k block
   pub size : sizeAt image k ≡ o .size
+  pub cue-is : cueAt image k ≡ o .cue
   pub extent-is : extentAt image k ≡ extent block
   pub is-live : isLive image k ≡ true
   pub high : k + 16 + o .size ≤ L
@@ -91,6 +95,7 @@ module _ {s L : ℕ} {image : List ℕ} {heap : Heap} (i : Laid s L image heap) 
       go none f = let z : _≡_ {A = ℕ} 0 1 = cc (i .agree k) in absurd (omega arith)
       go (some b) f =
           let body : b .body ≡ o .bytes = cc (i .agree k) in
+          let cue : b .cue ≡ o .cue = cc (i .agree k) in
           let live : LiveAt image k b = live-at image (i .layout) k b (i .placed) f in
           let n : length (b .body) ≡ o .size = ap length body ∙ i .fine k o e .counted in
           let high : k + 16 + o .size ≤ L = omega (arith, live .high, i .long) in
@@ -99,8 +104,10 @@ module _ {s L : ℕ} {image : List ℕ} {heap : Heap} (i : Laid s L image heap) 
             block = b;
             there = f;
             body = body;
+            cue = cue;
             live = live;
             size = ap (λ (d : Header). d .size) (live .header) ∙ n;
+            cue-is = ap (λ (d : Header). d .cue) (live .header) ∙ cue;
             extent-is = ap (λ (d : Header). d .extent) (live .header);
             is-live = eq-eqb _ _ (ap (λ (d : Header). d .kind) (live .header));
             high = high;
@@ -109,12 +116,12 @@ module _ {s L : ℕ} {image : List ℕ} {heap : Heap} (i : Laid s L image heap) 
           }
 
   -- a live block of the layout is an object
-  pub object-of : (k : ℕ) (b : Block) → blockAt (i .layout) k ≡ some b → (o : Object) × (find heap k ≡ some o) × (o .bytes ≡ b .body)
+  pub object-of : (k : ℕ) (b : Block) → blockAt (i .layout) k ≡ some b → (o : Object) × (find heap k ≡ some o) × (o .cue ≡ b .cue) × (o .bytes ≡ b .body)
   object-of k b e = go (find heap k) refl
     where
-      go : (r : Option Object) → find heap k ≡ r → (o : Object) × (find heap k ≡ some o) × (o .bytes ≡ b .body)
+      go : (r : Option Object) → find heap k ≡ r → (o : Object) × (find heap k ≡ some o) × (o .cue ≡ b .cue) × (o .bytes ≡ b .body)
       go none f = let z : _≡_ {A = ℕ} 0 1 = cc (i .agree k) in absurd (omega arith)
-      go (some o) f = (o, f, cc (i .agree k))
+      go (some o) f = (o, f, cc (i .agree k), cc (i .agree k))
 
   -- where no block stands, no object does
   pub no-object : (k : ℕ) → blockAt (i .layout) k ≡ none → find heap k ≡ none
@@ -151,7 +158,7 @@ module _ {s L : ℕ} {image : List ℕ} {heap : Heap} (i : Laid s L image heap) 
       (exponent-front s L (drop 16 image) (omega (arith, i .shape .exponent-high)))
 
   -- another image with the same superblock, for another heap
-  pub relaid : {image′ : List ℕ} {next : Layout} (new : Heap) → Remade image image′ next → ((k : ℕ) → bodyIn (blockAt next k) ≡ bytesIn (find new k))
+  pub relaid : {image′ : List ℕ} {next : Layout} (new : Heap) → Remade image image′ next → ((k : ℕ) → blockContent (blockAt next k) ≡ objectContent (find new k))
       → ((k : ℕ) (o : Object) → find new k ≡ some o → Fine s k o) → Distinct new → Laid s L image′ new
   relaid {next = next} new m a f d =
       record {
@@ -166,7 +173,7 @@ module _ {s L : ℕ} {image : List ℕ} {heap : Heap} (i : Laid s L image heap) 
       }
 
 -- two agreeing changes agree
-pub agree-cond : (b : Bool) (x x′ : Option Block) (y y′ : Option Object) → bodyIn x ≡ bytesIn y → bodyIn x′ ≡ bytesIn y′ → bodyIn (cond b x x′) ≡ bytesIn (cond b y y′)
+pub agree-cond : (b : Bool) (x x′ : Option Block) (y y′ : Option Object) → blockContent x ≡ objectContent y → blockContent x′ ≡ objectContent y′ → blockContent (cond b x x′) ≡ objectContent (cond b y y′)
 agree-cond true x x′ y y′ e f = e
 agree-cond false x x′ y y′ e f = f
 
@@ -224,6 +231,18 @@ module _ {s L : ℕ} {x : State} {heap : Heap} (i : Invariant s L x heap) where
   accesses p o n e =
       let q = known (i .laid) (headerOf o) o (owned heap p o (i .laid .distinct) e .found) in
       accessed-at s (unpack p) n x (headerOf o) (owner-leads p o e) ∙ rw (q .size, ← q .begins) refl
+
+-- The objects are listed in another way.
+
+pub relisted : {s L : ℕ} {x : State} {heap : Heap} → Invariant s L x heap → (new : Heap) → Distinct new → ((k : ℕ) → find heap k ≡ find new k)
+    → Invariant s L x new
+relisted {s} {L} {x} {heap} i new d same =
+    record {
+      laid =
+          relaid (i .laid) new (record { placed = i .laid .placed; same-length = refl; same-front = refl })
+          (λ k. i .laid .agree k ∙ ap objectContent (same k)) (λ k o e. i .laid .fine k o (same k ∙ e)) d;
+      tabled = other-heap s L heap new (x .table) (i .tabled) same;
+    }
 
 -- Set-up.
 

@@ -5,7 +5,9 @@ mod Rendered
 mod Focus
 mod Bodies
 mod Places
+mod Walking
 mod Counting
+mod Gathering
 mod Fresh
 mod Fitting
 mod Freeing
@@ -16,4 +18,5 @@ mod Table
 -- demand 3
 mod Invariant
 mod Steps
+mod Releases
 pub mod Theorem

@@ -39,7 +39,7 @@ gap-zero image h l p wide i low high =
     let e : h + i ≡ h + 16 + (i - 16) = omega arith in
     ap (λ (n : ℕ). getD image n 0) e
     ∙ zero-at image (h + 16) (gap l - 16) (after l)
-    (step-drop image h (freeHeader (gap l)) (zeros (gap l - 16) ++ after l) 16 (gap-cut image h l p wide) (length-header (gap l) 1 0 0))
+    (step-drop image h (freeHeader (gap l)) (zeros (gap l - 16) ++ after l) 16 (gap-cut image h l p wide) (length-header (gap l) 1 0 0 0))
     (i - 16) (omega arith)
 
 -- behind the body of a block

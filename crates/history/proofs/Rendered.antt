@@ -13,7 +13,7 @@ use Rattle.block.specs.declared.header.Header.{Header}
 use Rattle.block.specs.Layout.{fields, freeHeader, liveHeader, headerAt, extentAt, sizeAt, sound, isFree, isLive}
 use Rattle.block.specs.laws.Headers.{length-header, headerAt-drop}
 use Rattle.block.specs.laws.Soundness.{sound-free-at, sound-live-at}
-use Rattle.history.proofs.Gaps.{Block, extent, Layout, last, item, zeros, gapBytes, blockBytes, render, size, GapOk, Ok}
+use Rattle.history.proofs.Gaps.{Block, extent, headed, Layout, last, item, zeros, gapBytes, blockBytes, render, size, GapOk, Ok}
 use Rattle.history.proofs.Looks.{gap, regap, gap-long, gap-of-ok, gap-le}
 
 -- gaps and blocks in bytes
@@ -87,10 +87,16 @@ module _ (image : List ℕ) (h : ℕ) (l : Layout) (p : Part image h l) where
   pub gap-cut : 1 ≤ gap l → drop h image ≡ freeHeader (gap l) ++ (zeros (gap l - 16) ++ after l)
   gap-cut wide = part-gap ∙ rw (gap-some (gap l) wide, append-assoc)
 
-  pub gap-header : 1 ≤ gap l → headerAt image h ≡ fields (gap l) 1 0 0
+  pub gap-header : 1 ≤ gap l → headerAt image h ≡ fields (gap l) 1 0 0 0
   gap-header wide =
-      headerAt-drop image h (gap l) 1 0 0 _ (gap-cut wide)
-      (record { extent-fits = omega (arith, gap-le l, p .whole, p .short); kind-fits = omega arith; type-fits = omega arith; size-fits = omega arith })
+      headerAt-drop image h (gap l) 1 0 0 0 _ (gap-cut wide)
+      (record {
+        extent-fits = omega (arith, gap-le l, p .whole, p .short);
+        kind-fits = omega arith;
+        type-fits = omega arith;
+        size-fits = omega arith;
+        cue-fits = omega arith;
+      })
 
   pub gap-sound : 1 ≤ gap l → sound image h ≡ true
   gap-sound wide =
@@ -107,23 +113,24 @@ module _ (image : List ℕ) (h : ℕ) (l : Layout) (p : Part image h l) where
 
 module _ (image : List ℕ) (h g : ℕ) (b : Block) (l : Layout) (p : Part image h (item g b l)) where
   -- the first block: its bytes, its header, and what that says
-  pub block-cut : drop (h + g) image ≡ liveHeader (extent b) (b .type) (length (b .body)) ++ (b .body ++ (zeros (b .spare) ++ render l))
+  pub block-cut : drop (h + g) image ≡ liveHeader (extent b) (b .type) (length (b .body)) (b .cue) ++ (b .body ++ (zeros (b .spare) ++ render l))
   unfolding blockBytes
   block-cut = part-after image h (item g b l) p ∙ simp append-assoc
 
-  pub block-header : headerAt image (h + g) ≡ fields (extent b) 2 (b .type) (length (b .body))
+  pub block-header : headerAt image (h + g) ≡ headed b
   block-header =
-      headerAt-drop image (h + g) (extent b) 2 (b .type) (length (b .body)) _ block-cut
+      headerAt-drop image (h + g) (extent b) 2 (b .type) (length (b .body)) (b .cue) _ block-cut
       (record {
         extent-fits = omega (arith, p .whole, p .short);
         kind-fits = omega arith;
         type-fits = p .good .1 .type-fits;
         size-fits = omega (arith, p .whole, p .short);
+        cue-fits = p .good .1 .cue-fits;
       })
 
   pub block-sound : sound image (h + g) ≡ true
   block-sound =
-      sound-live-at image (h + g) (extent b) (b .type) (length (b .body)) block-header (omega (arith, p .low)) (omega (arith, p .whole))
+      sound-live-at image (h + g) (extent b) (b .type) (length (b .body)) (b .cue) block-header (omega (arith, p .low)) (omega (arith, p .whole))
       (p .good .1 .some-byte) (omega arith) (omega (arith, p .good .1 .tight))
 
   pub block-not-free : isFree image (h + g) ≡ false

@@ -11,7 +11,7 @@ use lib.ListN.{length, take, drop, replicate, length-replicate, length-drop}
 use lib.Seq.{length-take-le, take-all}
 use lib.Dec.{leb, ltb, eqb}
 use lib.IntN.{ℤ}
-use borrow.Author.Tests.{eqb-true, eqb-false, leb-true, le-leb, ltb-true}
+use borrow.Author.Tests.{eq-eqb, eqb-true, eqb-false, leb-true, le-leb, ltb-true}
 use Rattle.frame.specs.Pointers.{unpack, pack, goodTag, reach, moved}
 use Rattle.frame.specs.Tags.{pointerTo}
 use Rattle.frame.specs.laws.Objects.{unpack-address, own-pointer, moved-pointer, own-again}
@@ -28,12 +28,12 @@ use Rattle.block.specs.declared.text.Text.{Text}
 use Rattle.block.specs.declared.text.Text.the-variants.{Ends, Endless}
 use Rattle.block.specs.Layout.{sizeAt}
 use Rattle.store.specs.State.{State, state, Outcome, outcome, returned, demand, refuse}
-use Rattle.store.specs.Calls.{entryFree, carved, noted, merged, located, movedBy, goodWidth, allocate, move, load, store, fill, copy, textAnswer, textAt, copyText, free}
+use Rattle.store.specs.Calls.{entryHolds, carved, noted, merged, located, movedBy, goodWidth, allocateFor, move, load, store, fill, copy, textAnswer, textAt, copyText, free}
 use Rattle.store.specs.laws.TagReading.{Located, located-parts}
-use Rattle.store.specs.Step.{allocates, frees, moves, loads, stores, fills, copies, copiesText}
+use Rattle.store.specs.Step.{frees, moves, loads, stores, fills, copies, copiesText, allocatesFor}
 use Rattle.store.specs.laws.Load.{load-leaves}
 use Rattle.store.specs.laws.Move.{moved-bad, moved-out, moved-in, move-outcome}
-use Rattle.store.specs.laws.Entries.{entry-is-free}
+use Rattle.store.specs.laws.Entries.{entry-holds}
 use Rattle.store.specs.laws.Access.{through}
 use Rattle.store.specs.laws.Allocate.{allocate-refuses-empty, allocate-refuses-full, allocate-at}
 use Rattle.store.specs.laws.Store.{store-through, store-refuses-width, store-refuses-large}
@@ -51,7 +51,7 @@ use Rattle.history.proofs.Gaps.{Block, Layout, blockAt, Remade, Clear, 
 use Rattle.history.proofs.Image.{read-body, Rewritten, write-body, Carved, Fitted, room, full, fitted, Freed, freed, not-freed}
 use Rattle.history.proofs.Heap.{find, none-some, some-same, find-place, find-in, in-find, Owned, owned, find-append, distinct-append, find-change, distinct-change, change-nobody, find-without, distinct-without, without-nobody}
 use Rattle.history.proofs.Table.{Tabled, added, entry-zero, gone, same-table}
-use Rattle.history.proofs.Invariant.{Fine, Laid, Invariant, bodyIn, bytesIn, known, object-of, no-object, ranged, exponent-is, relaid, agree-cond, opens, answer-leads, owner-leads, accesses}
+use Rattle.history.proofs.Invariant.{Fine, content, Laid, Invariant, blockContent, objectContent, known, object-of, no-object, ranged, exponent-is, relaid, agree-cond, opens, answer-leads, owner-leads, accesses}
 
 -- every object is fine after one is put in or changed
 fine-cond : (s : ℕ) (heap new : Heap) (h : ℕ) (o : Object) → ((k : ℕ) → find new k ≡ cond (eqb k h) (some o) (find heap k)) → Fine s h o
@@ -77,16 +77,16 @@ in-range o p n low high = and-both _ _ (le-leb _ _ low) (le-leb _ _ high)
 -- Allocate.
 
 -- how allocate ends: size 0, no clear run, or a new object
-pub data Allocated (s L : ℕ) (x : State) (heap : Heap) (i : Invariant s L x heap) (size type : ℕ) : Type 0 where
-  empty : ltb 0 size ≡ false → allocate size type x ≡ refuse Empty x → Allocated s L x heap i size type
+pub data Allocated (s L : ℕ) (x : State) (heap : Heap) (i : Invariant s L x heap) (size type cue : ℕ) : Type 0 where
+  empty : ltb 0 size ≡ false → allocateFor size type cue x ≡ refuse Empty x → Allocated s L x heap i size type cue
   no-room :
-      allocate size type x ≡ refuse NoSpace x → ((a : ℕ) → Clear (x .image) (i .laid .layout) a (16 + size) → ⊥)
-      → Allocated s L x heap i size type
+      allocateFor size type cue x ≡ refuse NoSpace x → ((a : ℕ) → Clear (x .image) (i .laid .layout) a (16 + size) → ⊥)
+      → Allocated s L x heap i size type cue
   given :
       (h : ℕ) → Clear (x .image) (i .laid .layout) h (16 + size)
-      → allocate size type x ≡ outcome (Accepted (pack (pointerTo s h size))) (carved (x .image) h size type) (noted s h size h (x .table))
-      → Invariant s L (state (carved (x .image) h size type) (noted s h size h (x .table))) (heap ++ (newObject (pack (pointerTo s h size)) size ∷ []))
-      → Allocated s L x heap i size type
+      → allocateFor size type cue x ≡ outcome (Accepted (pack (pointerTo s h size))) (carved (x .image) h size type cue) (noted s h size h (x .table))
+      → Invariant s L (state (carved (x .image) h size type cue) (noted s h size h (x .table))) (heap ++ (newObject (pack (pointerTo s h size)) size cue ∷ []))
+      → Allocated s L x heap i size type cue
 
 -- Free.
 
@@ -103,9 +103,9 @@ pub data Freeing (s L : ℕ) (x : State) (heap : Heap) (p : ℕ) : Type 0 where
 
 module _ {s L : ℕ} {x : State} {heap : Heap} (i : Invariant s L x heap) where
   -- the new object at h
-  module _ (size type h : ℕ) (c : Carved (x .image) (i .laid .layout) size type h) where
+  module _ (size type cue h : ℕ) (c : Carved (x .image) (i .laid .layout) size type cue h) where
     new : Object
-    new = newObject (pack (pointerTo s h size)) size
+    new = newObject (pack (pointerTo s h size)) size cue
 
     new-fits : h + 16 + size ≤ 2 ^ 30
     new-fits = omega (arith, c .clear .high, i .laid .long, i .laid .shape .length-high)
@@ -134,14 +134,14 @@ module _ {s L : ℕ} {x : State} {heap : Heap} (i : Invariant s L x heap) where
               (λ t. let z : _≡_ {A = ℕ} 0 1 = cc in absurd (omega arith));
         }
 
-    new-laid : Laid s L (carved (x .image) h size type) (heap ++ (new ∷ []))
+    new-laid : Laid s L (carved (x .image) h size type cue) (heap ++ (new ∷ []))
     unfolding new
     new-laid =
         relaid (i .laid) (heap ++ (new ∷ [])) (c .remade)
         (λ k.
-        ap bodyIn (c .looks k)
-        ∙ agree-cond (eqb k h) (some (c .block)) (blockAt (i .laid .layout) k) (some new) (find heap k) (ap some (c .zeroed)) (i .laid .agree k)
-        ∙ ap bytesIn (sym (new-law k)))
+        ap blockContent (c .looks k)
+        ∙ agree-cond (eqb k h) (some (c .block)) (blockAt (i .laid .layout) k) (some new) (find heap k) (λ n. some (content (c .for-cue n) (c .zeroed n))) (i .laid .agree k)
+        ∙ ap objectContent (sym (new-law k)))
         (fine-cond s heap (heap ++ (new ∷ [])) h new new-law new-fine (i .laid .fine))
         (distinct-append heap new (i .laid .distinct) (ap (find heap) new-place ∙ new-vacant))
 
@@ -149,32 +149,33 @@ module _ {s L : ℕ} {x : State} {heap : Heap} (i : Invariant s L x heap) where
     unfolding new
     new-tabled = added s L heap (x .table) (i .tabled) (heap ++ (new ∷ [])) (ranged new-laid) h new new-vacant new-law
 
-    new-entry : entryFree s h size (x .table) ≡ true
+    new-entry : entryHolds s h size 0 (x .table) ≡ true
     unfolding new
-    new-entry = entry-is-free s h size (x .table) (λ l. entry-zero s L heap (x .table) (i .tabled) (heap ++ (new ∷ [])) (ranged new-laid) h new new-vacant new-law l)
+    new-entry = entry-holds s h size 0 (x .table) (λ l. entry-zero s L heap (x .table) (i .tabled) (heap ++ (new ∷ [])) (ranged new-laid) h new new-vacant new-law l)
 
-    new-given : ltb 0 size ≡ true → Allocated s L x heap i size type
+    new-given : ltb 0 size ≡ true → Allocated s L x heap i size type cue
     unfolding new
     new-given e =
-        given h (c .clear) (allocate-at s x (opens i) size type e h (exponent-is (i .laid)) (c .found) new-entry)
+        given h (c .clear) (allocate-at s x (opens i) size type cue e h (exponent-is (i .laid)) (c .found) new-entry)
         (record { laid = new-laid; tabled = new-tabled })
 
-  pub allocated : (size type : ℕ) → type < 2 ^ 16 → Allocated s L x heap i size type
-  allocated size type fits =
+  pub allocated : (size type cue : ℕ) → type < 2 ^ 16 → cue < 2 ^ 32 → Allocated s L x heap i size type cue
+  allocated size type cue fits cue-fits =
       byBool (ltb 0 size)
-      (λ e. go e (fitted (x .image) (i .laid .layout) (i .laid .placed) size type (ltb-true 0 size e) fits))
-      (λ e. empty e (allocate-refuses-empty s x (opens i) size type e))
+      (λ e. go e (fitted (x .image) (i .laid .layout) (i .laid .placed) size type cue (ltb-true 0 size e) fits cue-fits))
+      (λ e. empty e (allocate-refuses-empty s x (opens i) size type cue e))
     where
-      go : ltb 0 size ≡ true → Fitted (x .image) (i .laid .layout) size type → Allocated s L x heap i size type
-      go e (room h c) = new-given size type h c e
-      go e (full f n) = no-room (allocate-refuses-full s x (opens i) size type e f) n
+      go : ltb 0 size ≡ true → Fitted (x .image) (i .laid .layout) size type cue → Allocated s L x heap i size type cue
+      go e (room h c) = new-given size type cue h c e
+      go e (full f n) = no-room (allocate-refuses-full s x (opens i) size type cue e f) n
 
-  pub allocate-step : (size type : ℕ) → type < 2 ^ 16
-      → Invariant s L (allocate size type x .after) (hear heap (allocates size type) (allocate size type x .answer))
+  pub allocate-step : (size type cue : ℕ) → type < 2 ^ 16 → cue < 2 ^ 32
+      → Invariant s L (allocateFor size type cue x .after) (hear heap (allocatesFor size type cue) (allocateFor size type cue x .answer))
   unfolding hear
-  allocate-step size type fits = go (allocated size type fits)
+  allocate-step size type cue fits cue-fits = go (allocated size type cue fits cue-fits)
     where
-      go : Allocated s L x heap i size type → Invariant s L (allocate size type x .after) (hear heap (allocates size type) (allocate size type x .answer))
+      go : Allocated s L x heap i size type cue
+          → Invariant s L (allocateFor size type cue x .after) (hear heap (allocatesFor size type cue) (allocateFor size type cue x .answer))
       go (empty e f) = rw f i
       go (no-room f n) = rw f i
       go (given h c f j) = rw f j
@@ -203,8 +204,8 @@ module _ {s L : ℕ} {x : State} {heap : Heap} (i : Invariant s L x heap) where
     gone-laid =
         relaid (i .laid) (without heap (o .answer)) (f .remade)
         (λ k.
-        ap bodyIn (f .looks k) ∙ agree-cond (eqb k h) none (blockAt (i .laid .layout) k) none (find heap k) refl (i .laid .agree k)
-        ∙ ap bytesIn (sym (gone-law k)))
+        ap blockContent (f .looks k) ∙ agree-cond (eqb k h) none (blockAt (i .laid .layout) k) none (find heap k) refl (i .laid .agree k)
+        ∙ ap objectContent (sym (gone-law k)))
         (λ k y g.
         byBool (eqb k h)
         (λ t. absurd (none-some (rw t at (gone-law k)) g))
@@ -220,22 +221,31 @@ module _ {s L : ℕ} {x : State} {heap : Heap} (i : Invariant s L x heap) where
               (gone s L heap (x .table) (i .tabled) (ranged (i .laid)) (without heap (o .answer)) h o e gone-law);
         }
 
+  -- a live object is freed by allocate's answer
+  pub free-live : (h : ℕ) (o : Object) → find heap h ≡ some o
+      → (returned (free (o .answer) x .answer) ≡ 0) × Invariant s L (free (o .answer) x .after) (without heap (o .answer))
+  free-live h o e =
+      let n = known (i .laid) h o e in
+      let f = freed (x .image) (i .laid .layout) h (n .block) (i .laid .placed) (n .there) in
+      let q = free-merges s x (opens i) (o .answer) h (answer-leads i h o e) (eq-eqb _ _ (n .begins)) (f .from) (f .to) (exponent-is (i .laid)) (f .merges) in (
+        ap (λ (z : Outcome). returned (z .answer)) q,
+        subst (λ (z : State). Invariant s L z (without heap (o .answer))) (sym (ap (λ (z : Outcome). z .after) q)) (gone-invariant h (n .block) o e f),
+      )
+
   pub freeing : (p : ℕ) → p < 2 ^ 64 → Freeing s L x heap p
   freeing p fits = read (located s (unpack p) x) refl
     where
-      found : (h : ℕ) (b : Block) (o : Object) → located s (unpack p) x ≡ Accepted h → eqb (unpack p .address) (h + 16) ≡ true
-          → find heap h ≡ some o → Freed (x .image) (i .laid .layout) h b → Freeing s L x heap p
-      found h b o e t g f =
+      found : (h : ℕ) (o : Object) → located s (unpack p) x ≡ Accepted h → eqb (unpack p .address) (h + 16) ≡ true → find heap h ≡ some o
+          → Freeing s L x heap p
+      found h o e t g =
           let r : Located s (unpack p) x h = located-parts s (unpack p) x h e in
           let a : o .answer ≡ p =
           i .laid .fine h o g .answered ∙ ap (λ (n : ℕ). pack (pointerTo s h n)) (sym (known (i .laid) h o g .size))
           ∙ own-again s h (sizeAt (x .image) h) p fits (r .header .matches) (eqb-true _ _ t)
           in
-          let q = free-merges s x (opens i) p h e t (f .from) (f .to) (exponent-is (i .laid)) (f .merges) in
-          taken o (find-in heap h o g) a (ap (λ (z : Outcome). returned (z .answer)) q)
-          (subst (λ (z : State). Invariant s L z (without heap p)) (sym (ap (λ (z : Outcome). z .after) q))
-          (subst (λ (z : ℕ). Invariant s L (state (merged (x .image) (f .from) (f .to)) (noted s h (sizeAt (x .image) h) 0 (x .table))) (without heap z)) a
-          (gone-invariant h b o g f)))
+          let (q, j) = free-live h o g in
+          taken o (find-in heap h o g) a (subst (λ (z : ℕ). returned (free z x .answer) ≡ 0) a q)
+          (subst (λ (z : ℕ). Invariant s L (free z x .after) (without heap z)) a j)
 
       base : (h : ℕ) → located s (unpack p) x ≡ Accepted h → eqb (unpack p .address) (h + 16) ≡ true → (r : Option Block) → blockAt (i .laid .layout) h ≡ r
           → Freeing s L x heap p
@@ -246,7 +256,7 @@ module _ {s L : ℕ} {x : State} {heap : Heap} (i : Invariant s L x heap) where
           (λ o m a. none-some (no-object (i .laid) h g) (ap (find heap) (sym (answer-only p h o m a e)) ∙ in-find heap o (i .laid .distinct) m))
       base h e t (some b) g =
           let o = object-of (i .laid) h b g in
-          found h b (o .0) e t (o .1) (freed (x .image) (i .laid .layout) h b (i .laid .placed) g)
+          found h (o .0) e t (o .1)
 
       read : (r : Answer) → located s (unpack p) x ≡ r → Freeing s L x heap p
       read (Refused r) e =
@@ -273,17 +283,17 @@ module _ {s L : ℕ} {x : State} {heap : Heap} (i : Invariant s L x heap) where
     change-law : (k : ℕ) → find (change f heap p) k ≡ cond (eqb k (headerOf o)) (some (f o)) (find heap k)
     change-law k = find-change f same heap p o k (i .laid .distinct) e
 
-    changed : (image′ : List ℕ) (next : Layout) (b : Block) → Remade (x .image) image′ next → b .body ≡ f o .bytes
+    changed : (image′ : List ℕ) (next : Layout) (b : Block) → Remade (x .image) image′ next → b .cue ≡ f o .cue → b .body ≡ f o .bytes
         → ((k : ℕ) → blockAt next k ≡ cond (eqb k (headerOf o)) (some b) (blockAt (i .laid .layout) k))
         → Invariant s L (state image′ (x .table)) (change f heap p)
-    changed image′ next b m body looks =
+    changed image′ next b m cue body looks =
         record {
           laid =
               relaid (i .laid) (change f heap p) m
               (λ k.
-              ap bodyIn (looks k)
-              ∙ agree-cond (eqb k (headerOf o)) (some b) (blockAt (i .laid .layout) k) (some (f o)) (find heap k) (ap some body) (i .laid .agree k)
-              ∙ ap bytesIn (sym (change-law k)))
+              ap blockContent (looks k)
+              ∙ agree-cond (eqb k (headerOf o)) (some b) (blockAt (i .laid .layout) k) (some (f o)) (find heap k) (λ n. some (content (cue n) (body n))) (i .laid .agree k)
+              ∙ ap objectContent (sym (change-law k)))
               (fine-cond s heap (change f heap p) (headerOf o) (f o) change-law fine (i .laid .fine))
               (distinct-change f same heap p (i .laid .distinct));
           tabled =
@@ -310,7 +320,7 @@ module _ {s L : ℕ} {x : State} {heap : Heap} (i : Invariant s L x heap) where
             (λ u. rw (eqb-true r (pack q) u) (moved-pointer s (headerOf o) (o .size) p q d (f .good p (w .mine)) m))
             (λ u. f .good r (rw u at t));
       })
-      (x .image) (i .laid .layout) (n .block) (record { placed = i .laid .placed; same-length = refl; same-front = refl }) (n .body)
+      (x .image) (i .laid .layout) (n .block) (record { placed = i .laid .placed; same-length = refl; same-front = refl }) (n .cue) (n .body)
       (λ k. byBool (eqb k (headerOf o)) (λ t. rw t (ap (blockAt (i .laid .layout)) (eqb-true k (headerOf o) t) ∙ n .there)) (λ t. rw t))
 
   move-to : (p : ℕ) (d : ℤ) → goodTag s (unpack p) ≡ true → (r : Moved) → moved (unpack p) (reach s (unpack p)) d ≡ r
@@ -385,7 +395,7 @@ module _ {s L : ℕ} {x : State} {heap : Heap} (i : Invariant s L x heap) where
         counted = length-put (o .bytes) (offset o p) bytes (omega (arith, f .counted, w .fits)) ∙ f .counted;
         good = f .good;
       })
-      (put (x .image) (unpack p .address) bytes) (r .next) (patched (q .block) (offset o p) bytes) (r .remade)
+      (put (x .image) (unpack p .address) bytes) (r .next) (patched (q .block) (offset o p) bytes) (r .remade) (q .cue)
       (ap (λ (b : List ℕ). put b (offset o p) bytes) (q .body)) (r .looks)
 
   -- so many bytes through a pointer, refused or not

@@ -1,5 +1,5 @@
 -- The table of large-framed objects, against the abstract heap.
--- In order: what is kept of it; that entries differ; an entry noted, cleared, and left as it was. Assumes nothing.
+-- In order: what is kept of it; that entries differ; an entry noted, cleared, and left as it was; the objects listed in another way. Assumes nothing.
 use Prim.Native.Nat.{ℕ, _+_, _^_, _≤_, _<_}
 use mathlib.Core.Path.{_≡_, refl, sym, ap, _∙_}
 use mathlib.Core.Bool.{cond}
@@ -203,3 +203,13 @@ module _ (s L : ℕ) (heap : Heap) (table : List ℕ) (t : Tabled s L heap table
               (λ p. t .placed k o (sym (rw p at (law k)) ∙ e) l);
           entry = λ j u. changed-entry j (getD table j 0) (t .entry j u);
         }
+
+-- The objects are listed in another way.
+
+pub other-heap : (s L : ℕ) (heap new : Heap) (table : List ℕ) → Tabled s L heap table → ((k : ℕ) → find heap k ≡ find new k) → Tabled s L new table
+other-heap s L heap new table t law =
+    record { long = t .long; placed = λ k o e l. t .placed k o (law k ∙ e) l; entry = λ j u. go j (getD table j 0) (t .entry j u) }
+  where
+    go : (j x : ℕ) → Entry s heap j x → Entry s new j x
+    go j x (nobody e) = nobody e
+    go j x (someone o f m q) = someone o (sym (law x) ∙ f) m q

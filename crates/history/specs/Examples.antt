@@ -10,24 +10,26 @@ use Rattle.frame.specs.Tags.{wrapper, tagNumber, pointerTo, tagMatches, usedEnt
 use Rattle.block.specs.Bytes.{encode, decode, field, put}
 use Rattle.block.specs.Text.{textFrom, textOf}
 use Rattle.block.specs.Layout.{superblock, superblockGood, header, headerAt, wellFormed, sound}
-use Rattle.block.specs.Walk.{walkIn, walkFrom, walk, fitOf, firstFit, metOf, walkTo, countOf, countBlocks}
+use Rattle.block.specs.Walk.{walkIn, walkFrom, walk, fitOf, firstFit, metOf, walkTo, countOf, countBlocks, walkCue}
 use Rattle.store.specs.State.{state}
-use Rattle.store.specs.Calls.{setUpChecks, fresh, setUp, opening, entryFree, fitAnswer, allocateChecks, carved, noted, allocate, headerPlace, verified, leadsBack, located, inBody, accessed, movedAnswer, moveAnswer, move, loadAnswer, load, storeChecks, store, fillChecks, fill, copyChecks, copy, textAnswer, textAt, copyTextChecks, copyText, mergeEnd, mergeStart, released, freeChecks, releasedAt, freeRelease, merged, freed, free, tallyOpened, tallyCounted, tally}
+use Rattle.store.specs.Calls.{setUpChecks, fresh, setUp, opening, entryHolds, fitAnswer, allocateChecks, carved, noted, allocateFor, headerPlace, verified, leadsBack, located, inBody, accessed, movedAnswer, moveAnswer, move, loadAnswer, load, storeChecks, store, fillChecks, fill, copyChecks, copy, textAnswer, textAt, copyTextChecks, copyText, mergeEnd, mergeStart, released, freeChecks, releasedAt, freeRelease, merged, freed, free, gatheredAnswer, placesOf, allHeld, releaseChecks, pointersTo, cuePointers, freeEach, releaseCue, tallyOpened, tallyCounted, tally}
 use Rattle.store.specs.declared.counting.Usage.the-variants as usage
-use Rattle.store.specs.Step.{Call, allocates, frees, moves, loads, stores, fills, copies, copiesText}
-use Rattle.history.specs.Heap.{member, ownerOf, inside, change, without, write, copied, copiedText, textCopied, hear}
+use Rattle.store.specs.Step.{Call, allocates, frees, moves, loads, stores, fills, copies, copiesText, allocatesFor, releases}
+use Rattle.history.specs.Heap.{member, ownerOf, inside, change, without, passing, write, copied, copiedText, textCopied, hear}
 use Rattle.history.specs.History.{Configuration, begun, after, allAdmitted, known}
 
 -- an image of 128 bytes and a table, full of other bytes, set up at the slot exponent 6
 abbrev fresh6 : Configuration
 fresh6 = begun 6 (state (replicate 128 7) (replicate 60 9))
 
--- two objects; one is written through a moved pointer, its bytes and then its text are copied to the other, and it is freed; the other takes a number of
--- 3 bytes; some calls are refused
+-- an object of no cue is written through a moved pointer, its bytes and then its text are copied to one of cue 9, and it is freed; the other takes a
+-- number of 3 bytes; two objects of cue 7 are released; some calls are refused
 abbrev pub calls : List Call
 calls =
     allocates 10 1
-    ∷ allocates 4 2
+    ∷ allocatesFor 4 2 9
+    ∷ allocatesFor 8 3 7
+    ∷ allocatesFor 2 3 7
     ∷ moves 0x8010000000000020 (pos 6)
     ∷ moves 0x8010000000000020 (pos 32)
     ∷ stores 0x8010000000000026 4 0x04030201
@@ -40,6 +42,8 @@ calls =
     ∷ loads 0x802A00000000003A 3
     ∷ loads 0x123456789 4
     ∷ allocates 1000 1
+    ∷ releases 7
+    ∷ releases 7
     ∷ frees 0x8010000000000026
     ∷ frees 0x8010000000000020
     ∷ frees 0x8010000000000020
@@ -48,7 +52,7 @@ calls =
 -- each of them is admitted; the abstract heap is left with the second object, which holds the number and the zero byte of the text; tally counts that
 -- object, the two gaps around it, and its header
 pub admitted-calls : (allAdmitted calls fresh6 ≡ true)
-    × (after calls fresh6 .heap ≡ record { answer = 0x802A00000000003A; size = 4; pointers = 0x802A00000000003A ∷ []; bytes = 5 ∷ 6 ∷ 7 ∷ 0 ∷ [] } ∷ [])
+    × (after calls fresh6 .heap ≡ record { answer = 0x802A00000000003A; size = 4; cue = 9; pointers = 0x802A00000000003A ∷ []; bytes = 5 ∷ 6 ∷ 7 ∷ 0 ∷ [] } ∷ [])
     × (tally (after calls fresh6 .state) ≡ usage.Counts 1 4 92 16)
-unfolding frameNumber frameNumberIn unpack pack goodTag reach landed moved wrapper tagNumber pointerTo tagMatches usedEntries entryAt encode decode field put superblock superblockGood header headerAt wellFormed sound walkIn walkFrom walk fitOf firstFit metOf walkTo setUpChecks fresh setUp opening entryFree fitAnswer allocateChecks carved noted allocate headerPlace verified leadsBack located inBody accessed movedAnswer moveAnswer move loadAnswer load storeChecks store fillChecks fill copyChecks copy textFrom textOf textAnswer textAt copyTextChecks copyText mergeEnd mergeStart released freeChecks releasedAt freeRelease merged freed free member ownerOf inside change without write copied copiedText textCopied hear after allAdmitted known countOf countBlocks tallyOpened tallyCounted tally
+unfolding frameNumber frameNumberIn unpack pack goodTag reach landed moved wrapper tagNumber pointerTo tagMatches usedEntries entryAt encode decode field put superblock superblockGood header headerAt wellFormed sound walkIn walkFrom walk fitOf firstFit metOf walkTo setUpChecks fresh setUp opening entryHolds fitAnswer allocateChecks carved noted allocateFor headerPlace verified leadsBack located inBody accessed movedAnswer moveAnswer move loadAnswer load storeChecks store fillChecks fill copyChecks copy textFrom textOf textAnswer textAt copyTextChecks copyText mergeEnd mergeStart released freeChecks releasedAt freeRelease merged freed free walkCue gatheredAnswer placesOf allHeld releaseChecks pointersTo cuePointers freeEach releaseCue member ownerOf inside change without passing write copied copiedText textCopied hear after allAdmitted known countOf countBlocks tallyOpened tallyCounted tally
 admitted-calls = (refl, refl, refl)

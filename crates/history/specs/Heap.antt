@@ -1,7 +1,7 @@
 -- The abstract heap, document 01's "book": which objects live, by the calls' arguments and the answers of allocate and move. Assumes nothing.
 use Prim.Native.Nat.{ℕ, _+_, _-_, _^_}
 use mathlib.Core.Path.{_≡_}
-use mathlib.Core.Bool.{Bool, true, false, cond, _&&_, _||_}
+use mathlib.Core.Bool.{Bool, true, false, not, cond, _&&_, _||_}
 use mathlib.Core.List.{List, [], _∷_, _++_}
 use mathlib.Core.Option.{Option, none, some}
 use lib.ListN.{take, drop, replicate}
@@ -13,13 +13,14 @@ use Rattle.block.specs.declared.text.Text.{Text}
 use Rattle.block.specs.declared.text.Text.the-variants.{Ends, Endless}
 use Rattle.store.specs.State.{returned, value}
 use Rattle.store.specs.Calls.{goodWidth}
-use Rattle.store.specs.Step.{Call, allocates, frees, moves, loads, stores, fills, copies, copiesText}
+use Rattle.store.specs.Step.{Call, allocates, frees, moves, loads, stores, fills, copies, copiesText, allocatesFor, releases}
 use Rattle.store.specs.declared.answer.Answer.{Answer}
 
--- A live object: allocate's answer, the size, the set of its pointers, and as many bytes as the size.
+-- A live object: allocate's answer, the size, the cue, the set of its pointers, and as many bytes as the size.
 pub record Object : Type 0 where
   pub answer : ℕ
   pub size : ℕ
+  pub cue : ℕ
   pub pointers : List ℕ
   pub bytes : List ℕ
 
@@ -60,15 +61,15 @@ bytesAt o p n = take n (drop (offset o p) (o .bytes))
 -- the object with bytes from the pointer's address on replaced
 abbrev pub written : ℕ → List ℕ → Object → Object
 written p bytes o =
-    record { answer = o .answer; size = o .size; pointers = o .pointers; bytes = put (o .bytes) (offset o p) bytes }
+    record { answer = o .answer; size = o .size; cue = o .cue; pointers = o .pointers; bytes = put (o .bytes) (offset o p) bytes }
 
 -- the object with one pointer more
 abbrev pub pointed : ℕ → Object → Object
-pointed q o = record { answer = o .answer; size = o .size; pointers = q ∷ o .pointers; bytes = o .bytes }
+pointed q o = record { answer = o .answer; size = o .size; cue = o .cue; pointers = q ∷ o .pointers; bytes = o .bytes }
 
 -- a new object: its answer is its one pointer, and all its bytes are zero
-abbrev pub newObject : ℕ → ℕ → Object
-newObject answer size = record { answer = answer; size = size; pointers = answer ∷ []; bytes = replicate size 0 }
+abbrev pub newObject : ℕ → ℕ → ℕ → Object
+newObject answer size cue = record { answer = answer; size = size; cue = cue; pointers = answer ∷ []; bytes = replicate size 0 }
 
 -- the heap with the pointer's object changed
 unfoldable pub change : (Object → Object) → Heap → ℕ → Heap
@@ -79,6 +80,19 @@ change f (o ∷ os) p = cond (holds o p) (f o ∷ os) (o ∷ change f os p)
 unfoldable pub without : Heap → ℕ → Heap
 without [] p = []
 without (o ∷ os) p = cond (eqb (o .answer) p) os (o ∷ without os p)
+
+-- the objects that pass a test, in their order
+unfoldable pub passing : (Object → Bool) → Heap → Heap
+passing test [] = []
+passing test (o ∷ os) = cond (test o) (o ∷ passing test os) (passing test os)
+
+-- the objects of a cue
+abbrev pub ofCue : Heap → ℕ → Heap
+ofCue heap cue = passing (λ o. eqb (o .cue) cue) heap
+
+-- the heap without them
+abbrev pub withoutCue : Heap → ℕ → Heap
+withoutCue heap cue = passing (λ o. not (eqb (o .cue) cue)) heap
 
 -- n bytes written through a pointer of the object, where they all lie inside it
 unfoldable pub write : Option Object → ℕ → ℕ → List ℕ → Heap → Heap
@@ -110,7 +124,7 @@ accepted a = eqb (returned a) 0
 
 -- What the heap becomes by a call and its answer. Only the answers of allocate and move are looked at.
 unfoldable pub hear : Heap → Call → Answer → Heap
-hear heap (allocates size type) a = cond (accepted a) (heap ++ (newObject (value a) size ∷ [])) heap
+hear heap (allocates size type) a = cond (accepted a) (heap ++ (newObject (value a) size 0 ∷ [])) heap
 hear heap (frees p) a = without heap p
 hear heap (moves p d) a = cond (accepted a) (change (pointed (value a)) heap p) heap
 hear heap (loads p width) a = heap
@@ -119,6 +133,8 @@ hear heap (stores p width v) a =
 hear heap (fills p n byte) a = cond (ltb 0 n) (write (ownerOf heap p) p n (replicate n byte) heap) heap
 hear heap (copies t p n) a = cond (ltb 0 n) (copied (ownerOf heap p) t p n heap) heap
 hear heap (copiesText t p) a = textCopied (ownerOf heap p) t p heap
+hear heap (allocatesFor size type cue) a = cond (accepted a) (heap ++ (newObject (value a) size cue ∷ [])) heap
+hear heap (releases cue) a = withoutCue heap cue
 
 -- the calls whose answers it looks at
 abbrev pub heard : Call → Bool
@@ -130,6 +146,8 @@ heard (stores p width v) = false
 heard (fills p n byte) = false
 heard (copies t p n) = false
 heard (copiesText t p) = false
+heard (allocatesFor size type cue) = true
+heard (releases cue) = false
 
 -- The heap takes nothing from any other call's answer.
 unfoldable pub HearsNoOther : Type 0

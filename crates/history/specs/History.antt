@@ -14,11 +14,11 @@ use Rattle.frame.specs.Tags.{isSmall, entryOf}
 use Rattle.block.specs.Bytes.{decode}
 use Rattle.block.specs.Order.{compareBytes, sign}
 use Rattle.block.specs.declared.text.Text.the-variants.{Ends}
-use Rattle.block.specs.Layout.{slotExponent, extentAt, sizeAt}
+use Rattle.block.specs.Layout.{slotExponent, extentAt, sizeAt, cueAt}
 use Rattle.store.specs.State.{State, Outcome, IsAccepted, returned, value, comparisonNumber, comparisonValue}
-use Rattle.store.specs.Calls.{setUp, allocate, load, store, free, fill, copy, compare, copyText, goodWidth, leadsBack, headerPlace}
-use Rattle.store.specs.Step.{Call, allocates, frees, moves, loads, stores, fills, copies, copiesText, step}
-use Rattle.history.specs.Heap.{Object, Heap, start, holds, ownerOf, inside, bytesAt, textIn, hear}
+use Rattle.store.specs.Calls.{setUp, allocateFor, load, store, free, fill, copy, compare, copyText, releaseCue, goodWidth, leadsBack, headerPlace}
+use Rattle.store.specs.Step.{Call, allocates, frees, moves, loads, stores, fills, copies, copiesText, allocatesFor, releases, step}
+use Rattle.history.specs.Heap.{Object, Heap, start, holds, ownerOf, inside, bytesAt, textIn, ofCue, hear}
 
 -- Lists.
 
@@ -42,6 +42,8 @@ admitted heap (stores p width v) = known heap p && (ltb width (2 ^ 64) && ltb v 
 admitted heap (fills p n byte) = known heap p && (ltb n (2 ^ 32) && ltb byte 256)
 admitted heap (copies t p n) = known heap t && (known heap p && ltb n (2 ^ 32))
 admitted heap (copiesText t p) = known heap t && known heap p
+admitted heap (allocatesFor size type cue) = ltb size (2 ^ 32) && (ltb type (2 ^ 16) && ltb cue (2 ^ 32))
+admitted heap (releases cue) = ltb cue (2 ^ 32)
 
 -- An image and table with the abstract heap beside them.
 pub record Configuration : Type 0 where
@@ -107,9 +109,19 @@ PointersLead s x =
     × (headerPlace s (unpack p) (x .state .table) ≡ headerOf o) × (headerOf o + 16 ≡ start o)
     × (sizeAt (x .state .image) (headerOf o) ≡ o .size)
 
+-- the header of each live object has its cue
+abbrev pub CuesKept : Configuration → Type 0
+CuesKept x = (o : Object) → In o (x .heap) → cueAt (x .state .image) (headerOf o) ≡ o .cue
+
 -- a free is accepted exactly for a number that allocate gave for a live object
 abbrev pub FreesExactly : Configuration → Type 0
 FreesExactly x = (p : ℕ) → p < 2 ^ 64 → IsAccepted (free p (x .state)) ↔ ((o : Object) × In o (x .heap) × (o .answer ≡ p))
+
+-- a release is accepted, and gives how many live objects its cue has
+abbrev pub ReleasesCounted : Configuration → Type 0
+ReleasesCounted x =
+    (cue : ℕ) → cue < 2 ^ 32
+    → IsAccepted (releaseCue cue (x .state)) × (value (releaseCue cue (x .state) .answer) ≡ length (ofCue (x .heap) cue))
 
 -- through a pointer of a live object, a call is accepted exactly when all n bytes lie inside the pointer's object
 abbrev pub Exactly : Configuration → ℕ → (ℕ → State → Outcome) → Type 0
@@ -165,9 +177,10 @@ abbrev pub TextsCounted : Configuration → Type 0
 TextsCounted x =
     EachTwo x λ o o′ t p. (n : ℕ) → textIn o′ p ≡ Ends n → IsAccepted (copyText t p (x .state)) → value (copyText t p (x .state) .answer) ≡ n + 1
 
--- a claim about the number that each allocate returns
+-- a claim about the number that each allocate returns, for any cue (0 for none)
 abbrev pub EachAllocate : State → (ℕ → ℕ → Type 0) → Type 0
-EachAllocate x P = (size type : ℕ) → size < 2 ^ 32 → type < 2 ^ 16 → P size (returned (allocate size type x .answer))
+EachAllocate x P =
+    (size type cue : ℕ) → size < 2 ^ 32 → type < 2 ^ 16 → cue < 2 ^ 32 → P size (returned (allocateFor size type cue x .answer))
 
 -- What demand 3 says, and what demand 2 says of its lists.
 pub record Holds (s : ℕ) (x : Configuration) : Type 0 where
@@ -178,8 +191,10 @@ pub record Holds (s : ℕ) (x : Configuration) : Type 0 where
   pub entries : Pairwise (x .heap) (EntriesApart s)
   pub pointers : Pairwise (x .heap) PointersApart
   pub leads : PointersLead s x
+  pub cues : CuesKept x
   -- calls are accepted exactly when they should be; a load gives what was last written, and compare and text copy go by it
   pub frees : FreesExactly x
+  pub releases : ReleasesCounted x
   pub loads : LoadsExactly x
   pub stores : StoresExactly x
   pub fills : FillsExactly x

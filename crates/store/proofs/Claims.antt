@@ -2,7 +2,7 @@
 -- In order: shapes that are kept; how each call ends; the claims. Assumes nothing.
 use Prim.Native.Nat.{ℕ, _+_, _^_, _≤_, _<_}
 use mathlib.Core.Path.{_≡_, refl, sym, ap, _∙_, subst}
-use mathlib.Core.List.{List}
+use mathlib.Core.List.{List, [], _∷_}
 use native.Mathlib.Omega.{arith}
 use lib.IntN.{ℤ, pos}
 use lib.ListN.{length, take, drop, replicate, length-append, length-drop, length-replicate}
@@ -19,21 +19,22 @@ use Rattle.block.specs.Layout.{slotExponent, sizeAt, extentAt}
 use Rattle.block.specs.laws.Soundness.{sound-low, sound-end, sound-live-at}
 use Rattle.block.specs.declared.header.Header.{Header}
 use Rattle.store.specs.State.{State, state, Outcome, IsAccepted, returned, value, comparisonNumber, comparisonValue, usageNumber, liveObjects, liveBytes, freeBytes, overheadBytes}
-use Rattle.store.specs.Calls.{setUpChecks, setUp, fresh, cleared, allocateChecks, allocate, carved, noted, freeRelease, free, move, moveAnswer, load, loadAnswer, storeChecks, store, fillChecks, fill, copyChecks, copy, compare, copyTextChecks, copyText, tally}
+use Rattle.store.specs.Calls.{setUpChecks, setUp, fresh, cleared, allocateChecks, allocateFor, carved, noted, freeRelease, free, move, moveAnswer, load, loadAnswer, storeChecks, store, fillChecks, fill, copyChecks, copy, compare, copyTextChecks, copyText, releaseChecks, pointersTo, cuePointers, freeEach, releaseCue, tally}
 use Rattle.store.specs.laws.Refusals.{refused-some}
 use Rattle.store.specs.laws.SetUp.{Settable, settable-parts, set-up-declined, set-up-done, length-fresh}
 use Rattle.store.specs.laws.Opening.{Open, opening-kept}
 use Rattle.store.specs.laws.TagReading.{Stands, Located, located-object, located-leads, located-at}
 use Rattle.store.specs.laws.Access.{accessed-again}
 use Rattle.store.specs.laws.Allocate.{Allocates, allocate-parts, allocate-declined, allocate-done, length-carved, carved-exponent, CarvedHeader, carved-header}
-use Rattle.store.specs.laws.Free.{Frees, free-parts, free-declined, free-done, length-merged}
+use Rattle.store.specs.laws.Free.{Frees, free-parts, free-declined, free-done, length-merged, merged-front}
+use Rattle.store.specs.laws.Release.{free-each-none, free-each-one, cue-pointers, length-pointers, release-parts, release-declined, release-done}
 use Rattle.store.specs.laws.Store.{Stores, store-parts, store-declined, store-done}
 use Rattle.store.specs.laws.Fill.{fill-parts, fill-declined, fill-done}
 use Rattle.store.specs.laws.Copy.{Copies, copy-parts, copy-declined, copy-done}
 use Rattle.store.specs.laws.Compare.{swapped-order, transitive-order}
 use Rattle.store.specs.laws.CopyText.{CopiesText, copy-text-parts, copy-text-declined, copy-text-done}
-use Rattle.store.specs.Step.{Call, allocates, frees, moves, loads, stores, fills, copies, copiesText, step}
-use Rattle.store.specs.Claims.{RefusalsKeep, KeepsShape, ShapesKept, PointsBack, LeadsBack, ReadsBack, CountsAll, ComparesInOrder}
+use Rattle.store.specs.Step.{Call, allocates, frees, moves, loads, stores, fills, copies, copiesText, allocatesFor, releases, step}
+use Rattle.store.specs.Claims.{RefusalsKeep, KeepsShape, ShapesKept, PointsBack, LeadsBack, ReadsBack, CountsAll, ComparesInOrder, EachFreed, ReleasesAll}
 use Rattle.store.specs.laws.Load.{load-given, load-leaves}
 use Rattle.store.specs.laws.Move.{move-leaves}
 use Rattle.store.specs.laws.Entries.{length-noted, noted-beyond, noted-entry}
@@ -46,6 +47,8 @@ use Rattle.store.specs.declared.comparing.Comparison.{Comparison}
 use Rattle.store.specs.declared.comparing.Comparison.the-variants as comparison
 use Rattle.store.specs.declared.counting.Usage.{Usage}
 use Rattle.store.specs.declared.counting.Usage.the-variants as usage
+use Rattle.store.proofs.Sweeping.{sweep-freed}
+use Rattle.store.proofs.Gathering.{sweep-begins}
 
 -- how a call ends: refused with nothing changed, or accepted with the shape kept
 data Ended (s : ℕ) (x : State) (r : Outcome) : Type 0 where
@@ -74,6 +77,11 @@ entered s x image h size entry o l e = (
   noted-beyond s h size entry (x .table) (usedEntries s (length (x .image))) (object-entry-used s (length (x .image)) h size l (o .short)),
 )
 
+-- one shape after the other
+joined : (s : ℕ) (x y z : State) → KeepsShape s x y → KeepsShape s y z → KeepsShape s x z
+unfolding KeepsShape
+joined s x y z p q = (q .0 ∙ p .0, q .1 ∙ p .1, (rw (p .0) at (q .2)) ∙ p .2)
+
 -- all is set up
 set-up-shape : (s : ℕ) (x : State) → Settable s x
     → KeepsShape s x (state (fresh s (length (x .image))) (cleared s (length (x .image)) (x .table)))
@@ -84,6 +92,18 @@ set-up-shape s x t =
       simp (length-append, length-replicate, length-drop) (omega (arith, t .entries)),
       drop-at (replicate used 0) (drop used (x .table)) used (length-replicate used 0),
     )
+
+-- what an end says of a refusal, and of every shape
+
+-- a refused call changed nothing
+ended-keeps : (s : ℕ) (x : State) (r : Outcome) → Ended s x r → (IsAccepted r → ⊥) → (r .after ≡ x) × (value (r .answer) ≡ 0)
+ended-keeps s x r (refused e f) n = (e, f)
+ended-keeps s x r (accepted a k) n = absurd (n a)
+
+-- every call kept the shape
+ended-shape : (s : ℕ) (x : State) (r : Outcome) → Ended s x r → KeepsShape s x (r .after)
+ended-shape s x r (refused e f) = subst (KeepsShape s x) (sym e) (kept s x)
+ended-shape s x r (accepted a k) = k
 
 -- how each call ends
 
@@ -106,18 +126,18 @@ module _ (x : State) where
   exponent = slotExponent (x .image)
 
   -- allocate
-  ended-allocate : (size type : ℕ) → Ended exponent x (allocate size type x)
+  ended-allocate : (size type cue : ℕ) → Ended exponent x (allocateFor size type cue x)
   unfolding exponent
-  ended-allocate size type = go (allocateChecks size x) refl
+  ended-allocate size type cue = go (allocateChecks size x) refl
     where
-      go : (a : Answer) → allocateChecks size x ≡ a → Ended exponent x (allocate size type x)
-      go (Refused r) e = subst (Ended exponent x) (allocate-declined size x type r e) (refused refl refl)
+      go : (a : Answer) → allocateChecks size x ≡ a → Ended exponent x (allocateFor size type cue x)
+      go (Refused r) e = subst (Ended exponent x) (allocate-declined size x type cue r e) (refused refl refl)
       go (Accepted h) e =
           let a : Allocates size x h = allocate-parts size x h e in
-          subst (Ended exponent x) (allocate-done size x type h exponent _ _ _ _ e refl refl refl refl refl)
+          subst (Ended exponent x) (allocate-done size x type cue h exponent _ _ _ _ e refl refl refl refl refl)
           (accepted refl
           (entered exponent x _ h size h (a .opens) (a .inside)
-          (length-carved (x .image) h size type (a .lowest .fits-in) (sound-end (x .image) h (a .lowest .is-sound)))))
+          (length-carved (x .image) h size type cue (a .lowest .fits-in) (sound-end (x .image) h (a .lowest .is-sound)))))
 
   -- free
   ended-free : (word : ℕ) → Ended exponent x (free word x)
@@ -187,28 +207,49 @@ module _ (x : State) where
           subst (Ended exponent x) (copy-text-done target source x n e)
           (accepted refl (written exponent x (unpack target .address) bytes (omega (arith, p .to .inside))))
 
-  -- every call
-  ended : (c : Call) → Ended exponent x (step c x)
-  ended (allocates size type) = ended-allocate size type
-  ended (frees p) = ended-free p
-  ended (moves p d) = ended-move p d
-  ended (loads p width) = ended-load p width
-  ended (stores p width v) = ended-store p width v
-  ended (fills p n byte) = ended-fill p n byte
-  ended (copies t p n) = ended-copy t p n
-  ended (copiesText t p) = ended-copy-text t p
+-- freeing singly keeps the slot exponent
+free-exponent : (word : ℕ) (x : State) → exponent (free word x .after) ≡ exponent x
+unfolding exponent
+free-exponent word x = go (freeRelease word x) refl
+  where
+    go : (a : Release) → freeRelease word x ≡ a → slotExponent (free word x .after .image) ≡ slotExponent (x .image)
+    go (release.Refused r) e = ap (λ (o : Outcome). slotExponent (o .after .image)) (sym (free-declined word x r e))
+    go (release.Merges h from to) e =
+        let f : Frees word x h from to = free-parts word x h from to e in
+        ap (λ (o : Outcome). slotExponent (o .after .image)) (sym (free-done word x h from to (exponent x) _ _ e refl refl refl))
+        ∙ merged-front (x .image) from to (f .room) (f .high) (f .low) .1
 
--- what that says of a refusal, and of every shape
+-- and the shape
+freed-shape : (ps : List ℕ) (x : State) → KeepsShape (exponent x) x (freeEach ps x)
+freed-shape [] x = subst (KeepsShape (exponent x) x) (sym (free-each-none x)) (kept (exponent x) x)
+freed-shape (p ∷ ps) x =
+    let y : State = free p x .after in
+    subst (KeepsShape (exponent x) x) (sym (free-each-one p ps x))
+    (joined (exponent x) x y (freeEach ps y) (ended-shape (exponent x) x (free p x) (ended-free x p))
+    (subst (λ (s : ℕ). KeepsShape s y (freeEach ps y)) (free-exponent p x) (freed-shape ps y)))
 
--- a refused call changed nothing
-ended-keeps : (s : ℕ) (x : State) (r : Outcome) → Ended s x r → (IsAccepted r → ⊥) → (r .after ≡ x) × (value (r .answer) ≡ 0)
-ended-keeps s x r (refused e f) n = (e, f)
-ended-keeps s x r (accepted a k) n = absurd (n a)
+-- release
+ended-release : (x : State) (cue : ℕ) → Ended (exponent x) x (releaseCue cue x)
+ended-release x cue = go (releaseChecks cue x) refl
+  where
+    go : (a : Answer) → releaseChecks cue x ≡ a → Ended (exponent x) x (releaseCue cue x)
+    go (Refused r) e = subst (Ended (exponent x) x) (release-declined cue x r e) (refused refl refl)
+    go (Accepted n) e =
+        let y : State = freeEach (cuePointers cue (x .image)) x in
+        subst (Ended (exponent x) x) (release-done cue x n (y .image) (y .table) e refl) (accepted refl (freed-shape (cuePointers cue (x .image)) x))
 
--- every call kept the shape
-ended-shape : (s : ℕ) (x : State) (r : Outcome) → Ended s x r → KeepsShape s x (r .after)
-ended-shape s x r (refused e f) = subst (KeepsShape s x) (sym e) (kept s x)
-ended-shape s x r (accepted a k) = k
+-- every call
+ended : (x : State) (c : Call) → Ended (exponent x) x (step c x)
+ended x (allocates size type) = ended-allocate x size type 0
+ended x (frees p) = ended-free x p
+ended x (moves p d) = ended-move x p d
+ended x (loads p width) = ended-load x p width
+ended x (stores p width v) = ended-store x p width v
+ended x (fills p n byte) = ended-fill x p n byte
+ended x (copies t p n) = ended-copy x t p n
+ended x (copiesText t p) = ended-copy-text x t p
+ended x (allocatesFor size type cue) = ended-allocate x size type cue
+ended x (releases cue) = ended-release x cue
 
 -- a refused compare gives no value
 comparison-refused : (c : Comparison) → (comparisonNumber c ≡ 0 → ⊥) → comparisonValue c ≡ pos 0
@@ -241,20 +282,26 @@ shapes-kept =
       calls = λ c x. ended-shape (exponent x) x (step c x) (ended x c);
     }
 
--- the object that allocate carves at h stands there, on what allocate leaves
-carved-stands : (size type : ℕ) (x : State) (h : ℕ) → type < 2 ^ 16 → Allocates size x h
-    → Stands (slotExponent (x .image)) (state (carved (x .image) h size type) (noted (slotExponent (x .image)) h size h (x .table))) h size
-carved-stands size type x h fits a =
+-- the header that allocate carves at h
+carved-at : (size type cue : ℕ) (x : State) (h : ℕ) → type < 2 ^ 16 → cue < 2 ^ 32 → (a : Allocates size x h)
+    → CarvedHeader (x .image) h size type cue (a .lowest .fits-in) (sound-end (x .image) h (a .lowest .is-sound))
+carved-at size type cue x h fits cue-fits a =
+    carved-header (x .image) h size type cue (a .lowest .fits-in) (sound-end (x .image) h (a .lowest .is-sound)) (a .opens .short) fits cue-fits
+
+-- the object stands there, on what allocate leaves
+carved-stands : (size type cue : ℕ) (x : State) (h : ℕ) → type < 2 ^ 16 → cue < 2 ^ 32 → Allocates size x h
+    → Stands (slotExponent (x .image)) (state (carved (x .image) h size type cue) (noted (slotExponent (x .image)) h size h (x .table))) h size
+carved-stands size type cue x h fits cue-fits a =
     let room : 16 + size ≤ extentAt (x .image) h = a .lowest .fits-in in
     let ends : h + extentAt (x .image) h ≤ length (x .image) = sound-end (x .image) h (a .lowest .is-sound) in
-    let long : length (carved (x .image) h size type) ≡ length (x .image) = length-carved (x .image) h size type room ends in
-    let c : CarvedHeader (x .image) h size type room ends = carved-header (x .image) h size type room ends (a .opens .short) fits in
+    let long : length (carved (x .image) h size type cue) ≡ length (x .image) = length-carved (x .image) h size type cue room ends in
+    let c = carved-at size type cue x h fits cue-fits a in
     record {
       exponent = a .opens .high;
       inside = omega (arith, a .inside);
       short = omega (arith, a .opens .short);
       is-sound =
-          sound-live-at (carved (x .image) h size type) h (c .extent) type size (c .is-header) (sound-low (x .image) h (a .lowest .is-sound))
+          sound-live-at (carved (x .image) h size type cue) h (c .extent) type size cue (c .is-header) (sound-low (x .image) h (a .lowest .is-sound))
           (omega (arith, c .ends)) (a .some-size) (c .holds) (c .tight);
       is-live = eq-eqb _ _ (ap (λ (d : Header). d .kind) (c .is-header));
       size-is = ap (λ (d : Header). d .size) (c .is-header);
@@ -262,18 +309,18 @@ carved-stands size type x h fits a =
     }
 
 -- and its pointer leads to it
-carved-leads : (size type : ℕ) (x : State) (h : ℕ) → type < 2 ^ 16 → Allocates size x h
-    → PointsBack size x (state (carved (x .image) h size type) (noted (slotExponent (x .image)) h size h (x .table)))
+carved-leads : (size type cue : ℕ) (x : State) (h : ℕ) → type < 2 ^ 16 → cue < 2 ^ 32 → Allocates size x h
+    → PointsBack size cue x (state (carved (x .image) h size type cue) (noted (slotExponent (x .image)) h size h (x .table)))
     (pack (pointerTo (slotExponent (x .image)) h size))
-carved-leads size type x h fits a =
+carved-leads size type cue x h fits cue-fits a =
     let s : ℕ = slotExponent (x .image) in
-    let y : State = state (carved (x .image) h size type) (noted s h size h (x .table)) in
+    let y : State = state (carved (x .image) h size type cue) (noted s h size h (x .table)) in
     let p : ℕ = pack (pointerTo s h size) in
-    let o : Stands s y h size = carved-stands size type x h fits a in
+    let o : Stands s y h size = carved-stands size type cue x h fits cue-fits a in
     let l : Located s (unpack p) y h = located-object s y h size p o (own-pointer s h size (a .opens .high) (omega (arith, a .inside, a .opens .short))) in
     record {
       exponent-kept =
-          carved-exponent (x .image) h size type (a .lowest .fits-in) (sound-end (x .image) h (a .lowest .is-sound))
+          carved-exponent (x .image) h size type cue (a .lowest .fits-in) (sound-end (x .image) h (a .lowest .is-sound))
           (sound-low (x .image) h (a .lowest .is-sound));
       place = h;
       found = a .found;
@@ -283,18 +330,19 @@ carved-leads size type x h fits a =
       header = sym (l .place);
       read = located-at s (unpack p) y h l;
       size-kept = o .size-is;
+      cue-kept = ap (λ (d : Header). d .cue) (carved-at size type cue x h fits cue-fits a .is-header);
     }
 
 -- demand 2, of allocate
 pub leads-back : LeadsBack
 unfolding LeadsBack
-leads-back size type x fits e = go (allocateChecks size x) refl
+leads-back size type cue x fits cue-fits e = go (allocateChecks size x) refl
   where
-    go : (a : Answer) → allocateChecks size x ≡ a → PointsBack size x (allocate size type x .after) (value (allocate size type x .answer))
-    go (Refused r) q = absurd (refused-some r (ap (λ (o : Outcome). returned (o .answer)) (allocate-declined size x type r q) ∙ e))
+    go : (a : Answer) → allocateChecks size x ≡ a → PointsBack size cue x (allocateFor size type cue x .after) (value (allocateFor size type cue x .answer))
+    go (Refused r) q = absurd (refused-some r (ap (λ (o : Outcome). returned (o .answer)) (allocate-declined size x type cue r q) ∙ e))
     go (Accepted h) q =
-        subst (λ (o : Outcome). PointsBack size x (o .after) (value (o .answer)))
-        (allocate-done size x type h (slotExponent (x .image)) _ _ _ _ q refl refl refl refl refl) (carved-leads size type x h fits (allocate-parts size x h q))
+        subst (λ (o : Outcome). PointsBack size cue x (o .after) (value (o .answer)))
+        (allocate-done size x type cue h (slotExponent (x .image)) _ _ _ _ q refl refl refl refl refl) (carved-leads size type cue x h fits cue-fits (allocate-parts size x h q))
 
 -- on what a store leaves, the load gives its value
 stored-read : (p width v : ℕ) (x : State) (a : ℕ) → Stores p width v x a
@@ -336,3 +384,23 @@ counts-all = tally-balanced
 -- compare is an order
 pub compares-in-order : ComparesInOrder
 compares-in-order = record { swapped = swapped-order; transitive = transitive-order }
+
+-- release frees all objects of its cue
+pub releases-all : ReleasesAll
+unfolding ReleasesAll
+releases-all cue x e = go (releaseChecks cue x) refl
+  where
+    ps : List ℕ
+    ps = cuePointers cue (x .image)
+
+    go : (a : Answer) → releaseChecks cue x ≡ a → EachFreed ps x × (value (releaseCue cue x .answer) ≡ length ps)
+    go (Refused r) q = absurd (refused-some r (ap (λ (o : Outcome). returned (o .answer)) (release-declined cue x r q) ∙ e))
+    go (Accepted n) q =
+        let s : ℕ = slotExponent (x .image) in
+        let (places, r, count) = release-parts cue n x q in
+        let p : ps ≡ pointersTo s (x .image) places = cue-pointers s (x .image) cue places refl (r .walked) in
+        let y : State = freeEach ps x in (
+          subst (λ (qs : List ℕ). EachFreed qs x) (sym p) (sweep-freed (length (x .image)) (omega arith) (sweep-begins r)),
+          ap (λ (o : Outcome). value (o .answer)) (sym (release-done cue x n (y .image) (y .table) q refl))
+              ∙ count ∙ sym (length-pointers s (x .image) places) ∙ ap length (sym p),
+        )

@@ -58,4 +58,4 @@ unfolding fresh
 laid-out image s L e h =
     ap (λ (x : List ℕ). put (put x 0 (superblock s L)) 16 (freeHeader (L - 16))) (zeroed image L e ∙ zeros L h)
     ∙ ap (λ (x : List ℕ). put x 16 (freeHeader (L - 16))) (put-at [] (replicate 16 0) (replicate 16 0 ++ replicate (L - 32) 0) (superblock s L) 0 refl (sym (length-superblock s L)))
-    ∙ put-at (superblock s L) (replicate 16 0) (replicate (L - 32) 0) (freeHeader (L - 16)) 16 (length-superblock s L) (sym (length-header (L - 16) 1 0 0))
+    ∙ put-at (superblock s L) (replicate 16 0) (replicate (L - 32) 0) (freeHeader (L - 16)) 16 (length-superblock s L) (sym (length-header (L - 16) 1 0 0 0))

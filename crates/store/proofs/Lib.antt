@@ -2,5 +2,11 @@
 mod Fresh
 mod Carving
 mod Merging
+-- Release: what is left to be freed, one free, and the pass over all blocks.
+mod Remains
+mod Freeing
+mod Sweeping
+mod Runs
+mod Gathering
 -- The claims of single calls.
 pub mod Claims

@@ -13,7 +13,7 @@ use Rattle.block.specs.Walk.{walkTo}
 use Rattle.block.specs.laws.Writes.{put-over}
 use Rattle.block.specs.laws.Headers.{length-header}
 use Rattle.block.specs.laws.Soundness.{sound-in}
-use Rattle.block.specs.laws.WalkTo.{Behind, at-first, at-later, MeetsBlock, walk-to-meets}
+use Rattle.block.specs.laws.WalkTo.{behind-in, walk-to-meets}
 use Rattle.block.specs.declared.header.Header.{Header}
 use Rattle.block.specs.declared.walk.Met.the-variants as met
 use Rattle.store.specs.Calls.{mergeStart, released, merged}
@@ -42,14 +42,7 @@ pub record Meets (image : List ℕ) (h before next : ℕ) : Type 0 where
 module _ {image : List ℕ} {h before next : ℕ} (m : Meets image h before next) where
   -- the block before h has room for a header
   pub before-in : before + 16 ≤ length image
-  before-in = go before h (b .behind) (sound-in image h (b .is-sound))
-    where
-      b : MeetsBlock image h before
-      b = walk-to-meets image h before (m .met)
-
-      go : (k at : ℕ) → Behind image k at → at + 16 ≤ length image → k + 16 ≤ length image
-      go _ _ at-first l = omega arith
-      go _ _ (at-later k w o) l = sound-in image k o
+  before-in = behind-in (walk-to-meets image h before (m .met) .behind) (sound-in image h (m .is-sound))
 
   -- What is then released.
 
@@ -83,4 +76,4 @@ merged-over image from to l u =
     let parts : replicate {A = ℕ} n 0 ≡ replicate 16 0 ++ replicate (n - 16) 0 =
     ap (λ (x : ℕ). replicate {A = ℕ} x 0) e ∙ sym (replicate-append-replicate {A = ℕ} 16 (n - 16) 0) in
     ap (λ (x : List ℕ). put (put image from x) from (freeHeader n)) parts
-    ∙ put-over image from (replicate 16 0) (freeHeader n) (replicate (n - 16) 0) (sym (length-header n 1 0 0)) (omega (arith, ap length parts))
+    ∙ put-over image from (replicate 16 0) (freeHeader n) (replicate (n - 16) 0) (sym (length-header n 1 0 0 0)) (omega (arith, ap length parts))

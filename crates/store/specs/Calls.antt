@@ -1,8 +1,8 @@
 -- What each call answers and leaves: document 01, "Calls" and "Why a call was declined", and document 02. The order of the rows is the order of the
 -- tests. Assumes nothing.
 use Prim.Native.Nat.{ℕ, _+_, _-_, _^_}
-use mathlib.Core.Bool.{Bool, cond, _&&_, _||_}
-use mathlib.Core.List.{List, _++_}
+use mathlib.Core.Bool.{Bool, true, cond, _&&_, _||_}
+use mathlib.Core.List.{List, [], _∷_, _++_}
 use lib.ListN.{length, take, drop, getD, set, replicate}
 use lib.Dec.{leb, ltb, eqb}
 use lib.IntN.{ℤ}
@@ -16,7 +16,7 @@ use Rattle.block.specs.Bytes.{encode, field, put}
 use Rattle.block.specs.Order.{compareBytes}
 use Rattle.block.specs.Text.{textOf}
 use Rattle.block.specs.Layout.{within, superblock, superblockGood, slotExponent, goodExponent, goodLength, freeHeader, liveHeader, sound, isFree, isLive, extentAt, sizeAt}
-use Rattle.block.specs.Walk.{firstFit, walkTo, countBlocks}
+use Rattle.block.specs.Walk.{Walked, stopped, unsound, ended, firstFit, walkTo, countBlocks, walkCue}
 use Rattle.block.specs.declared.text.Text.{Text}
 use Rattle.block.specs.declared.text.Text.the-variants.{Ends, Endless}
 use Rattle.block.specs.declared.walk.Fit.{Fit}
@@ -26,7 +26,7 @@ use Rattle.block.specs.declared.walk.Met.the-variants as met
 use Rattle.block.specs.declared.walk.Counted.{Counted}
 use Rattle.block.specs.declared.walk.Counted.the-variants as counted
 use Rattle.store.specs.State.{State, Outcome, outcome, demand, andThen, refuse, conclude}
-use Rattle.store.specs.declared.answer.Refusal.the-variants.{BadExponent, BadLength, TooFewEntries, BadSuperblock, ShortTable, Empty, Unsound, NoSpace, EntryTaken, BadTag, Dangling, Leaves, OutOfBounds, BadWidth, NotBase, TooLarge, Unterminated}
+use Rattle.store.specs.declared.answer.Refusal.the-variants.{BadExponent, BadLength, TooFewEntries, BadSuperblock, ShortTable, Empty, Unsound, NoSpace, EntryTaken, BadTag, Dangling, Leaves, OutOfBounds, BadWidth, NotBase, TooLarge, Unterminated, EntryLost}
 use Rattle.store.specs.declared.answer.Answer.{Answer}
 use Rattle.store.specs.declared.answer.Answer.the-variants.{Accepted, Refused}
 use Rattle.store.specs.declared.release.Release.{Release}
@@ -66,11 +66,11 @@ opening x =
     (demand (leb (usedEntries (slotExponent (x .image)) (length (x .image))) (length (x .table))) ShortTable
     (Accepted (slotExponent (x .image))))
 
--- Allocate: 6, 7 or 8 as the walk ends, 9.
+-- Allocate, for a cue or for none: 6, 7 or 8 as the walk ends, 9 where the new object's entry is not zero.
 
--- 9: the new object needs no table entry, or its entry is zero
-unfoldable pub entryFree : ℕ → ℕ → ℕ → List ℕ → Bool
-entryFree s h size table = isSmall s h size || eqb (getD table (entryOf s h size) 0) 0
+-- whether the object at h needs no table entry, or its entry holds v
+unfoldable pub entryHolds : ℕ → ℕ → ℕ → ℕ → List ℕ → Bool
+entryHolds s h size v table = isSmall s h size || eqb (getD table (entryOf s h size) 0) v
 
 -- what follows where first fit finds a block
 unfoldable pub fitAnswer : Fit → (ℕ → Answer) → Answer
@@ -83,26 +83,30 @@ unfoldable pub allocateChecks : ℕ → State → Answer
 allocateChecks size x =
     andThen (opening x) λ s.
     demand (ltb 0 size) Empty
-    (fitAnswer (firstFit (x .image) (16 + size)) λ h. demand (entryFree s h size (x .table)) EntryTaken (Accepted h))
+    (fitAnswer (firstFit (x .image) (16 + size)) λ h. demand (entryHolds s h size 0 (x .table)) EntryTaken (Accepted h))
 
 -- the image with a live block in the free one at h; a rest of 16 bytes or more becomes a free block
-unfoldable pub carved : List ℕ → ℕ → ℕ → ℕ → List ℕ
-carved image h size type =
+unfoldable pub carved : List ℕ → ℕ → ℕ → ℕ → ℕ → List ℕ
+carved image h size type cue =
     let need : ℕ = 16 + size in
     let extent : ℕ = extentAt image h in
-    cond (ltb (extent - need) 16) (put image h (liveHeader extent type size))
-    (put (put image h (liveHeader need type size)) (h + need) (freeHeader (extent - need)))
+    cond (ltb (extent - need) 16) (put image h (liveHeader extent type size cue))
+    (put (put image h (liveHeader need type size cue)) (h + need) (freeHeader (extent - need)))
 
 -- the table with the entry of the object at h set, where it is large-framed
 unfoldable pub noted : ℕ → ℕ → ℕ → ℕ → List ℕ → List ℕ
 noted s h size entry table = cond (isSmall s h size) table (set table (entryOf s h size) entry)
 
 -- its outcome: the tagged base
-unfoldable pub allocate : ℕ → ℕ → State → Outcome
-allocate size type x =
+unfoldable pub allocateFor : ℕ → ℕ → ℕ → State → Outcome
+allocateFor size type cue x =
     let s : ℕ = slotExponent (x .image) in
     conclude x (allocateChecks size x) λ h.
-    outcome (Accepted (pack (pointerTo s h size))) (carved (x .image) h size type) (noted s h size h (x .table))
+    outcome (Accepted (pack (pointerTo s h size))) (carved (x .image) h size type cue) (noted s h size h (x .table))
+
+-- the call that takes no cue stores 0
+abbrev pub allocate : ℕ → ℕ → State → Outcome
+allocate size type x = allocateFor size type 0 x
 
 -- Reading a tag: 10, 11; the number is the header's place.
 
@@ -292,6 +296,50 @@ freed (release.Refused r) x = refuse r x
 -- its outcome
 unfoldable pub free : ℕ → State → Outcome
 free word x = freed (freeRelease word x) x
+
+-- Release, the end of a cue: 7 in a walk over the whole image, 21.
+
+-- 7: what follows where no header is unsound, on the places of the cue's objects; the walk never stops before the end
+unfoldable pub gatheredAnswer : Walked (List ℕ) → (List ℕ → Answer) → Answer
+gatheredAnswer (stopped places h) next = Refused Unsound
+gatheredAnswer (unsound h) next = Refused Unsound
+gatheredAnswer (ended places) next = next places
+
+-- those places
+unfoldable pub placesOf : Walked (List ℕ) → List ℕ
+placesOf (stopped places h) = []
+placesOf (unsound h) = []
+placesOf (ended places) = places
+
+-- 21: each of these objects needs no table entry, or its entry holds its place
+unfoldable pub allHeld : ℕ → List ℕ → State → Bool
+allHeld s [] x = true
+allHeld s (h ∷ hs) x = entryHolds s h (sizeAt (x .image) h) h (x .table) && allHeld s hs x
+
+-- its tests; the number is how many objects the cue has
+unfoldable pub releaseChecks : ℕ → State → Answer
+releaseChecks cue x =
+    andThen (opening x) λ s.
+    gatheredAnswer (walkCue cue (x .image)) λ places. demand (allHeld s places x) EntryLost (Accepted (length places))
+
+-- the tagged bases of the objects at these places
+unfoldable pub pointersTo : ℕ → List ℕ → List ℕ → List ℕ
+pointersTo s image [] = []
+pointersTo s image (h ∷ hs) = pack (pointerTo s h (sizeAt image h)) ∷ pointersTo s image hs
+
+-- the tagged bases of the cue's objects, in the order of their addresses
+unfoldable pub cuePointers : ℕ → List ℕ → List ℕ
+cuePointers cue image = pointersTo (slotExponent image) image (placesOf (walkCue cue image))
+
+-- what freeing by these pointers leaves, singly and in their order
+unfoldable pub freeEach : List ℕ → State → State
+freeEach [] x = x
+freeEach (p ∷ ps) x = freeEach ps (free p x .after)
+
+-- its outcome: how many objects the cue had; image and table are those of freeing them singly in address order
+unfoldable pub releaseCue : ℕ → State → Outcome
+releaseCue cue x =
+    conclude x (releaseChecks cue x) λ n. record { answer = Accepted n; after = freeEach (cuePointers cue (x .image)) x }
 
 -- Tally, the memory in use: 7; live objects, live bytes (the sum of their raw sizes), free bytes (the sum of the extents of free blocks) and overhead
 -- bytes (16 for each live header, and each live extent's bytes beyond header and size).

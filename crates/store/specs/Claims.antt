@@ -1,18 +1,19 @@
 -- What holds of single calls on every image and table, damaged ones too: demand 1, of demand 2 the pointer that allocate gives, read-back, the
--- balance of tally, and that compare is an order. Assumes nothing.
+-- balance of tally, that compare is an order, and that a release frees all objects of its cue. Assumes nothing.
 use Prim.Native.Nat.{ℕ, _+_, _^_, _<_}
 use mathlib.Core.Path.{_≡_}
 use mathlib.Core.Bool.{true}
+use mathlib.Core.List.{List, [], _∷_}
 use lib.ListN.{length, drop}
 use lib.IntN.{pos, negℤ}
 use lib.Signed.{leZ}
 use Rattle.frame.specs.Pointers.{unpack, pack, goodTag}
 use Rattle.frame.specs.Tags.{pointerTo, usedEntries}
-use Rattle.block.specs.Layout.{slotExponent, sizeAt}
+use Rattle.block.specs.Layout.{slotExponent, sizeAt, cueAt}
 use Rattle.block.specs.Walk.{firstFit}
 use Rattle.block.specs.declared.walk.Fit.the-variants as fit
 use Rattle.store.specs.State.{State, IsAccepted, value, comparisonNumber, comparisonValue, usageNumber, liveObjects, liveBytes, freeBytes, overheadBytes, Balances}
-use Rattle.store.specs.Calls.{setUp, allocate, load, store, compare, tally, leadsBack, headerPlace, located}
+use Rattle.store.specs.Calls.{setUp, allocateFor, load, store, free, compare, cuePointers, releaseCue, tally, leadsBack, headerPlace, located}
 use Rattle.store.specs.Step.{Call, step}
 use Rattle.store.specs.declared.answer.Answer.the-variants.{Accepted}
 
@@ -36,8 +37,9 @@ pub record ShapesKept : Type 0 where
   pub set-up : (s : ℕ) (x : State) → KeepsShape s x (setUp s x .after)
   pub calls : (c : Call) (x : State) → KeepsShape (slotExponent (x .image)) x (step c x .after)
 
--- p is the pointer to an object of `size` bytes in the block that first fit finds in x, and on y reading its tag leads back to that header
-pub record PointsBack (size : ℕ) (x y : State) (p : ℕ) : Type 0 where
+-- p is the pointer to an object of `size` bytes in the block that first fit finds in x, and on y reading its tag leads back to that header, which has
+-- the cue
+pub record PointsBack (size cue : ℕ) (x y : State) (p : ℕ) : Type 0 where
   pub exponent-kept : slotExponent (y .image) ≡ slotExponent (x .image)
   pub place : ℕ
   pub found : firstFit (x .image) (16 + size) ≡ fit.At place
@@ -47,12 +49,13 @@ pub record PointsBack (size : ℕ) (x y : State) (p : ℕ) : Type 0 where
   pub header : headerPlace (slotExponent (x .image)) (unpack p) (y .table) ≡ place
   pub read : located (slotExponent (x .image)) (unpack p) y ≡ Accepted place
   pub size-kept : sizeAt (y .image) place ≡ size
+  pub cue-kept : cueAt (y .image) place ≡ cue
 
--- Demand 2: an accepted allocate gives such a pointer, for the image and table that it leaves.
+-- Demand 2: an accepted allocate, for any cue (0 for none), gives such a pointer, for the image and table that it leaves.
 unfoldable pub LeadsBack : Type 0
 LeadsBack =
-    (size type : ℕ) (x : State) → type < 2 ^ 16 → IsAccepted (allocate size type x)
-    → PointsBack size x (allocate size type x .after) (value (allocate size type x .answer))
+    (size type cue : ℕ) (x : State) → type < 2 ^ 16 → cue < 2 ^ 32 → IsAccepted (allocateFor size type cue x)
+    → PointsBack size cue x (allocateFor size type cue x .after) (value (allocateFor size type cue x .answer))
 
 -- Read-back: after an accepted store, a load of the same width through the same pointer is accepted and gives the value.
 unfoldable pub ReadsBack : Type 0
@@ -74,3 +77,14 @@ pub record ComparesInOrder : Type 0 where
       (p q r n : ℕ) (x : State) → comparisonNumber (compare p q n x) ≡ 0 → comparisonNumber (compare q r n x) ≡ 0
       → leZ (comparisonValue (compare p q n x)) (pos 0) ≡ true → leZ (comparisonValue (compare q r n x)) (pos 0) ≡ true
       → (comparisonNumber (compare p r n x) ≡ 0) × (leZ (comparisonValue (compare p r n x)) (pos 0) ≡ true)
+
+-- each of these frees is accepted, singly and in this order
+pub data EachFreed : List ℕ → State → Type 0 where
+  none-left : (x : State) → EachFreed [] x
+  one-freed : (p : ℕ) (ps : List ℕ) (x : State) → IsAccepted (free p x) → EachFreed ps (free p x .after) → EachFreed (p ∷ ps) x
+
+-- An accepted release frees all objects of its cue: none of its single frees is refused, and its value is their number.
+unfoldable pub ReleasesAll : Type 0
+ReleasesAll =
+    (cue : ℕ) (x : State) → IsAccepted (releaseCue cue x)
+    → EachFreed (cuePointers cue (x .image)) x × (value (releaseCue cue x .answer) ≡ length (cuePointers cue (x .image)))

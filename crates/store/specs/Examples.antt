@@ -2,9 +2,9 @@
 -- computation. Assumes nothing.
 use Prim.Native.Nat.{ℕ, _+_, _-_, _^_}
 use mathlib.Core.Bool.{Bool, true, false, cond, not, _&&_}
-use mathlib.Core.List.{List, [], _∷_}
+use mathlib.Core.List.{List, [], _∷_, _++_}
 use lib.Dec.{T, eqb}
-use lib.ListN.{replicate, getD, set}
+use lib.ListN.{take, replicate, getD, set}
 use lib.IntN.{ℤ, pos, negsuc}
 use lib.Signed.{leZ}
 use Rattle.frame.specs.Frame.{frameNumber, frameNumberIn}
@@ -14,9 +14,9 @@ use Rattle.block.specs.Bytes.{encode, decode, field, put}
 use Rattle.block.specs.Order.{compareBytes}
 use Rattle.block.specs.Text.{textFrom, textOf}
 use Rattle.block.specs.Layout.{superblock, superblockGood, header, headerAt, wellFormed, sound, isFree, extentAt}
-use Rattle.block.specs.Walk.{walkIn, walkFrom, walk, fitOf, firstFit, countOf, countBlocks}
+use Rattle.block.specs.Walk.{Search, walkIn, walkFrom, walk, fitOf, firstFit, metOf, walkTo, countOf, countBlocks, walkCue}
 use Rattle.store.specs.State.{State, state, Outcome, returned, value, comparisonNumber, comparisonValue, usageNumber, liveObjects, liveBytes, freeBytes, overheadBytes}
-use Rattle.store.specs.Calls.{setUpChecks, fresh, setUp, opening, entryFree, fitAnswer, allocateChecks, carved, noted, allocate, headerPlace, verified, leadsBack, located, inBody, accessed, movedAnswer, moveAnswer, move, loadAnswer, load, storeChecks, store, copyChecks, compared, compare, textAnswer, textAt, copyTextChecks, copyText, tallyOpened, tallyCounted, tally}
+use Rattle.store.specs.Calls.{setUpChecks, fresh, setUp, opening, entryHolds, fitAnswer, allocateChecks, carved, noted, allocateFor, allocate, headerPlace, verified, leadsBack, located, inBody, accessed, movedAnswer, moveAnswer, move, loadAnswer, load, storeChecks, store, copyChecks, compared, compare, textAnswer, textAt, copyTextChecks, copyText, mergeEnd, mergeStart, released, freeChecks, releasedAt, freeRelease, merged, freed, free, gatheredAnswer, placesOf, allHeld, releaseChecks, pointersTo, cuePointers, freeEach, releaseCue, tallyOpened, tallyCounted, tally}
 use Rattle.store.specs.declared.answer.Answer.{Answer}
 use Rattle.store.specs.declared.comparing.Comparison.{Comparison}
 use Rattle.store.specs.declared.counting.Usage.{Usage}
@@ -47,6 +47,11 @@ pub data Case : Type 0 where
   compares : (L : ℕ) (before : List ℕ) (p : ℕ) (bytes : List ℕ) (left right n number : ℕ) (value : ℤ) → Case
   -- W5: the same, and a text is copied: the returned number, how many bytes, and what the 8 bytes from the target's address on are then, little-endian
   texts : (L : ℕ) (before : List ℕ) (p : ℕ) (bytes : List ℕ) (target source number copied seen : ℕ) → Case
+  -- W6: objects of these sizes and cues, and a release of a cue: the returned number, how many objects, the kind and extent of each block that it leaves,
+  -- and the first two table entries
+  releases : (L : ℕ) (sizes cues : List ℕ) (cue number count : ℕ) (blocks entries : List ℕ) → Case
+  -- W6: with another table entry and another byte the release is refused by that number; it gives 0, and leaves image and table as they are
+  refuses : (L : ℕ) (sizes cues : List ℕ) (index v at byte cue number : ℕ) → Case
 
 -- a store set up on an image and table that were full of other bytes
 abbrev begun : ℕ → State
@@ -55,6 +60,22 @@ begun L = setUp 6 (state (replicate L 7) (replicate 400 9)) .after
 abbrev placed : List ℕ → State → State
 placed [] x = x
 placed (size ∷ sizes) x = placed sizes (allocate size 0 x .after)
+
+abbrev placedFor : List ℕ → List ℕ → State → State
+placedFor [] cues x = x
+placedFor (size ∷ sizes) [] x = x
+placedFor (size ∷ sizes) (cue ∷ cues) x = placedFor sizes cues (allocateFor size 0 cue x .after)
+
+-- the kind and extent of each block, in the order of their addresses
+abbrev described : Search (List ℕ)
+described = record { stops = λ h d. false; passes = λ a h d. a ++ (d .kind ∷ d .extent ∷ []) }
+
+-- two lists of numbers are one
+abbrev sameNumbers : List ℕ → List ℕ → Bool
+sameNumbers [] [] = true
+sameNumbers [] (n ∷ ns) = false
+sameNumbers (m ∷ ms) [] = false
+sameNumbers (m ∷ ms) (n ∷ ns) = eqb m n && sameNumbers ms ns
 
 -- bytes stored one by one, from a pointer on
 abbrev storedFrom : ℕ → List ℕ → State → State
@@ -114,6 +135,17 @@ holds (compares L before p bytes left right n number v) =
 holds (texts L before p bytes target source number copied seen) =
     let o : Outcome = copyText target source (storedFrom p bytes (placed before (begun L))) in
     eqb (returned (o .answer)) number && (eqb (value (o .answer)) copied && eqb (field (o .after .image) (unpack target .address) 8) seen)
+holds (releases L sizes cues cue number count blocks entries) =
+    let o : Outcome = releaseCue cue (placedFor sizes cues (begun L)) in
+    eqb (returned (o .answer)) number
+    && (eqb (value (o .answer)) count
+    && (sameNumbers (placesOf (walk described (o .after .image) [])) blocks && sameNumbers (take 2 (o .after .table)) entries))
+holds (refuses L sizes cues index v at byte cue number) =
+    let x : State = placedFor sizes cues (begun L) in
+    let y : State = state (set (x .image) at byte) (set (x .table) index v) in
+    let o : Outcome = releaseCue cue y in
+    eqb (returned (o .answer)) number
+    && (eqb (value (o .answer)) 0 && (sameNumbers (o .after .image) (y .image) && sameNumbers (o .after .table) (y .table)))
 
 abbrev pub all : List Case → Bool
 all [] = true
@@ -158,6 +190,7 @@ cases =
     ∷ damages 64 (17 ∷ []) 16 49
     ∷ damages 64 (17 ∷ []) 20 9
     ∷ damages 64 (17 ∷ []) 24 16
+    ∷ damages 64 (16 ∷ []) 60 1
     ∷ compares 1024 (10 ∷ []) 0x8010000000000020 (0x7F ∷ 0x80 ∷ []) 0x8010000000000020 0x8010000000000021 1 0 (negsuc 0)
     ∷ compares 1024 (10 ∷ []) 0x8010000000000020 (0x7F ∷ 0x80 ∷ []) 0x8010000000000021 0x8010000000000020 1 0 (pos 1)
     ∷ compares 1024 (10 ∷ []) 0x8010000000000020 (1 ∷ 9 ∷ 2 ∷ 0 ∷ []) 0x8010000000000020 0x8010000000000022 2 0 (negsuc 0)
@@ -184,8 +217,18 @@ cases =
     ∷ texts 1024 (10 ∷ 20 ∷ []) 0x8010000000000020 hello 0x000700000000003A 0x8010000000000029 0 1 0
     ∷ texts 1024 (10 ∷ []) 0x8010000000000020 hello 0x8010000000000020 0x801000000000001F 13 0 0x0000006F6C6C6568
     ∷ texts 64 (17 ∷ []) 0x8010000000000020 (replicate 17 1) 0x8010000000000020 0x8010000000000020 20 0 0x0101010101010101
+    ∷ releases 1024 (10 ∷ 20 ∷ 32 ∷ 1 ∷ []) (7 ∷ 9 ∷ 7 ∷ 9 ∷ []) 7 0 2 (1 ∷ 26 ∷ 2 ∷ 36 ∷ 1 ∷ 48 ∷ 2 ∷ 17 ∷ 1 ∷ 881 ∷ []) (42 ∷ 126 ∷ [])
+    ∷ releases 1024 (10 ∷ 20 ∷ 32 ∷ 1 ∷ []) (7 ∷ 9 ∷ 7 ∷ 9 ∷ []) 9 0 2 (2 ∷ 26 ∷ 1 ∷ 36 ∷ 2 ∷ 48 ∷ 1 ∷ 898 ∷ []) (0 ∷ 0 ∷ [])
+    ∷ releases 1024 (10 ∷ 20 ∷ 32 ∷ 1 ∷ []) (7 ∷ 9 ∷ 7 ∷ 9 ∷ []) 8 0 0 (2 ∷ 26 ∷ 2 ∷ 36 ∷ 2 ∷ 48 ∷ 2 ∷ 17 ∷ 1 ∷ 881 ∷ []) (42 ∷ 126 ∷ [])
+    ∷ releases 1024 (10 ∷ 20 ∷ 32 ∷ 1 ∷ []) (0 ∷ 7 ∷ 7 ∷ 0 ∷ []) 7 0 2 (2 ∷ 26 ∷ 1 ∷ 84 ∷ 2 ∷ 17 ∷ 1 ∷ 881 ∷ []) (0 ∷ 126 ∷ [])
+    ∷ releases 1024 (10 ∷ 20 ∷ 32 ∷ 1 ∷ []) (0 ∷ 7 ∷ 7 ∷ 0 ∷ []) 0 0 2 (1 ∷ 26 ∷ 2 ∷ 36 ∷ 2 ∷ 48 ∷ 1 ∷ 898 ∷ []) (42 ∷ 0 ∷ [])
+    ∷ releases 1024 (10 ∷ 20 ∷ 32 ∷ 1 ∷ []) (0 ∷ 0xFFFFFFFF ∷ 0xFFFFFFFF ∷ 0xFFFFFFFF ∷ []) 0xFFFFFFFF 0 3 (2 ∷ 26 ∷ 1 ∷ 982 ∷ []) (0 ∷ 0 ∷ [])
+    ∷ refuses 1024 (10 ∷ 20 ∷ 32 ∷ []) (7 ∷ 7 ∷ 7 ∷ []) 0 0 0 16 7 21
+    ∷ refuses 1024 (10 ∷ 20 ∷ 32 ∷ []) (7 ∷ 7 ∷ 7 ∷ []) 0 78 0 16 7 21
+    ∷ refuses 1024 (10 ∷ 20 ∷ 32 ∷ []) (7 ∷ 7 ∷ 7 ∷ []) 0 0 78 1 7 7
+    ∷ refuses 1024 (10 ∷ 20 ∷ 32 ∷ []) (7 ∷ 7 ∷ 7 ∷ []) 0 0 4 0 7 4
     ∷ []
 
 pub worked : T (all cases)
-unfolding frameNumber frameNumberIn unpack pack goodTag reach landed moved wrapper tagNumber pointerTo tagMatches usedEntries entryAt encode decode field put superblock superblockGood header headerAt wellFormed sound walkIn walkFrom walk fitOf firstFit setUpChecks fresh setUp opening entryFree fitAnswer allocateChecks carved noted allocate headerPlace verified leadsBack located inBody accessed movedAnswer moveAnswer move loadAnswer load storeChecks store compareBytes textFrom textOf copyChecks compared compare textAnswer textAt copyTextChecks copyText countOf countBlocks tallyOpened tallyCounted tally
+unfolding frameNumber frameNumberIn unpack pack goodTag reach landed moved wrapper tagNumber pointerTo tagMatches usedEntries entryAt encode decode field put superblock superblockGood header headerAt wellFormed sound walkIn walkFrom walk fitOf firstFit setUpChecks fresh setUp opening entryHolds fitAnswer allocateChecks carved noted allocateFor headerPlace verified leadsBack located inBody accessed movedAnswer moveAnswer move loadAnswer load storeChecks store compareBytes textFrom textOf copyChecks compared compare textAnswer textAt copyTextChecks copyText countOf countBlocks tallyOpened tallyCounted tally metOf walkTo mergeEnd mergeStart released freeChecks releasedAt freeRelease merged freed free walkCue gatheredAnswer placesOf allHeld releaseChecks pointersTo cuePointers freeEach releaseCue
 worked = tt

@@ -16,4 +16,6 @@ pub mod Copy
 pub mod Compare
 pub mod CopyText
 pub mod Free
+pub mod Release
+pub mod Sweep
 pub mod Tally

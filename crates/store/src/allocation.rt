@@ -4,11 +4,11 @@ ghost use mathlib.Core.Bool.{true};
 ghost use Prim.Native.Nat.{_+_, _≤_};
 ghost use Rattle.block.specs.Layout.{sound, extentAt};
 ghost use Rattle.store.specs.State.{state, outcome};
-ghost use Rattle.store.specs.Calls.{opening, allocateChecks, carved, allocate};
+ghost use Rattle.store.specs.Calls.{opening, allocateChecks, carved, allocateFor, allocate};
 ghost use Rattle.store.specs.laws.Allocate.{siteOf};
 use crate::answer::Answer;
 use crate::answer::Refusal;
-use crate::entries::entry_free;
+use crate::entries::entry_holds;
 use crate::entries::note;
 use crate::opening::opening;
 use block::header::extent_at;
@@ -38,7 +38,7 @@ fn allocatable(image: &[u8], table: &[u64], s: u32, size: u32) -> Site
         Fit::End => Site::Refused(Refusal::NoSpace),
         Fit::At(h) => {
             let t = tag_object(s, h, size as u64);
-            if entry_free(table, t) {
+            if entry_holds(table, t, 0) {
                 Site::At(h, t)
             } else {
                 Site::Refused(Refusal::EntryTaken)
@@ -48,34 +48,41 @@ fn allocatable(image: &[u8], table: &[u64], s: u32, size: u32) -> Site
 }
 
 // Makes a live block in the free one at h; a rest that has room for a header stays free.
-fn carve(image: &mut [u8], h: u64, size: u64, ty: u64)
+fn carve(image: &mut [u8], h: u64, size: u64, ty: u64, cue: u64)
     requires { ⌜ (sound (now image) h ≡ true) × (16 + size ≤ extentAt (now image) h) ⌝ }
-    ensures { λ _. ⌜ now (image .exit) ≡ carved (now (image .entry)) h size ty ⌝ }
+    ensures { λ _. ⌜ now (image .exit) ≡ carved (now (image .entry)) h size ty cue ⌝ }
 {
     let extent = extent_at(image, h as usize);
     let need = 16 + size;
     let rest = extent - need;
     if rest < 16 {
-        write_live(image, h as usize, extent, ty, size);
+        write_live(image, h as usize, extent, ty, size, cue);
     } else {
-        write_live(image, h as usize, need, ty, size);
+        write_live(image, h as usize, need, ty, size, cue);
         write_free(image, (h + need) as usize, rest);
     }
 }
 
-// A new object of `size` bytes; the number is its tagged base.
-pub fn allocate(image: &mut [u8], table: &mut [u64], size: u32, ty: u16) -> Answer
-    ensures { λ r. ⌜ outcome r (now (image .exit)) (now (table .exit)) ≡ allocate size ty (state (now (image .entry)) (now (table .entry))) ⌝ }
+// A new object of `size` bytes for the cue; the number is its tagged base.
+pub fn allocate_for(image: &mut [u8], table: &mut [u64], size: u32, ty: u16, cue: u32) -> Answer
+    ensures { λ r. ⌜ outcome r (now (image .exit)) (now (table .exit)) ≡ allocateFor size ty cue (state (now (image .entry)) (now (table .entry))) ⌝ }
 {
     match opening(image, table) {
         Answer::Refused(r) => Answer::Refused(r),
         Answer::Accepted(s) => match allocatable(image, table, s as u32, size) {
             Site::Refused(r) => Answer::Refused(r),
             Site::At(h, t) => {
-                carve(image, h, size as u64, ty as u64);
+                carve(image, h, size as u64, ty as u64, cue as u64);
                 note(table, t, h);
                 Answer::Accepted(t.pointer().pack())
             }
         },
     }
+}
+
+// A new object of `size` bytes for no cue, which is cue 0.
+pub fn allocate(image: &mut [u8], table: &mut [u64], size: u32, ty: u16) -> Answer
+    ensures { λ r. ⌜ outcome r (now (image .exit)) (now (table .exit)) ≡ allocate size ty (state (now (image .entry)) (now (table .entry))) ⌝ }
+{
+    allocate_for(image, table, size, ty, 0)
 }

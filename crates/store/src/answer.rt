@@ -21,6 +21,7 @@ pub enum Refusal {
     NotBase,
     TooLarge,
     Unterminated,
+    EntryLost,
 }
 
 // A number, 0 where a call has none to give; or why there is none.
@@ -52,6 +53,7 @@ impl Refusal {
             Refusal::NotBase => 15,
             Refusal::TooLarge => 16,
             Refusal::Unterminated => 20,
+            Refusal::EntryLost => 21,
         }
     }
 }

@@ -7,7 +7,7 @@ ghost use lib.ListN.{length, drop, replicate};
 ghost use Rattle.frame.specs.Frame.{frameStart};
 ghost use Rattle.frame.specs.Pointers.{goodTag, reach};
 ghost use Rattle.frame.specs.Tags.{entryAt};
-ghost use Rattle.store.specs.laws.Entries.{entryCleared, EntryIn, freeFor, notedFor};
+ghost use Rattle.store.specs.laws.Entries.{entryCleared, EntryIn, holdsFor, notedFor};
 use frame::Pointer;
 use frame::Tagged;
 use frame::entry_index;
@@ -35,14 +35,14 @@ pub fn clear_entry(table: &mut [u64], s: u32, p: Pointer)
     }
 }
 
-// Row 9: whether the object needs no entry, or its entry is zero.
-pub fn entry_free(table: &[u64], t: Tagged) -> bool
+// Whether the object needs no entry, or its entry holds v: zero in row 9, the header's place in row 21.
+pub fn entry_holds(table: &[u64], t: Tagged, v: u64) -> bool
     requires { ⌜ EntryIn t (now table) ⌝ }
-    ensures { λ r. ⌜ r ≡ freeFor t (now (table .entry)) ⌝ }
+    ensures { λ r. ⌜ r ≡ holdsFor t v (now (table .entry)) ⌝ }
 {
     match t {
         Tagged::Small(_) => true,
-        Tagged::Large(_, entry) => table[entry] == 0,
+        Tagged::Large(_, entry) => table[entry] == v,
     }
 }
 

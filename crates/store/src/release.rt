@@ -93,7 +93,7 @@ fn releasable(image: &[u8], table: &[u64], s: u32, pointer: u64) -> Release
 }
 
 // One free block from `from` to `to`, all else in it zero.
-fn merge(image: &mut [u8], from: u64, to: u64)
+pub fn merge(image: &mut [u8], from: u64, to: u64)
     requires { ⌜ (from + 16 ≤ to) × (to ≤ length (now image)) ⌝ }
     ensures { λ _. ⌜ now (image .exit) ≡ merged (now (image .entry)) from to ⌝ }
 {

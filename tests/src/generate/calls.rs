@@ -11,6 +11,13 @@ impl Generator {
     }
 
     pub(super) fn allocate(&mut self, view: &View<'_>) {
+        let size = self.size(view);
+        let type_number = self.random.word() as u16;
+        self.call(Call::Allocate { size, type_number });
+    }
+
+    /// A size for a new object.
+    pub(super) fn size(&mut self, view: &View<'_>) -> u32 {
         let length = self.buffers.lent_image as u64;
         let jitter = self.random.within(0, 18);
         let size = match self.random.below(20) {
@@ -30,8 +37,7 @@ impl Generator {
             18 => self.random.pick(&[0, 0, 1, 1, 0xffff_ffff, 0xffff_fff0, 0xffff_ffef, 1 << 30, 1 << 31]),
             _ => self.random.word() >> self.random.within(32, 63),
         };
-        let type_number = self.random.word() as u16;
-        self.call(Call::Allocate { size: size.min(u64::from(u32::MAX)) as u32, type_number });
+        size.min(u64::from(u32::MAX)) as u32
     }
 
     pub(super) fn free(&mut self, view: &View<'_>) {

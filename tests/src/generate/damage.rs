@@ -5,12 +5,13 @@ use crate::case::{Action, Arg, Damage, View};
 use crate::model::{Header, Pointer};
 use crate::store::Call;
 
-const DAMAGES: [(u64, Make); 7] = [
+const DAMAGES: [(u64, Make); 8] = [
     (2, Generator::misuse),
     (2, Generator::damage_superblock),
     (2, Generator::damage_byte),
     (7, Generator::damage_header),
     (7, Generator::damage_table),
+    (8, Generator::damage_for_release),
     (1, Generator::short_image),
     (1, Generator::low_header),
 ];
@@ -25,7 +26,7 @@ impl Generator {
         self.random.weighted(&DAMAGES)(self, view);
     }
 
-    fn overwrite(&mut self, at: u64, bytes: [u8; 16]) {
+    pub(super) fn overwrite(&mut self, at: u64, bytes: [u8; 16]) {
         self.push(Action::Damage(Damage::Image { at: Arg::Number(at), bytes, count: 16 }));
     }
 
@@ -46,7 +47,7 @@ impl Generator {
             // another exponent may be accepted: the table is then read and written in other places
             2 => header.type_number = self.random.pick(&[0, 5, 6, 7, 8, 9, 15, 16, 0x106, 0xffff]),
             3 => header.size = self.random.pick(&[0, 63, 64, length - 1, length + 1, 1 << 30, 1 + (1 << 30), u32::MAX, length | 1 << 31]),
-            4 => header.zero = 1 << self.random.below(32),
+            4 => header.last = 1 << self.random.below(32),
             _ => header = Header::free(0),
         }
         self.overwrite(0, header.bytes());
@@ -74,7 +75,7 @@ impl Generator {
         let before = sixteen(view, 15);
         let size = 256 - 16 - self.random.below(16) as u32;
         let pointer = Arg::Number(Pointer::to(self.slot_exponent, 15, u64::from(size)).pack());
-        self.overwrite(15, Header::live(256, 0, size).bytes());
+        self.overwrite(15, Header::live(256, 0, size, 0).bytes());
         self.push(Action::Damage(Damage::EntryOf { of: pointer, value: None }));
         self.call(Call::Load { pointer, width: 1 });
         self.call(Call::Free { pointer });
@@ -113,31 +114,36 @@ impl Generator {
             }
             4 => Header { kind: self.random.pick(&[0, 1, 2, 3, 0x101, 0x201, 0xffff]), ..header },
             5 => Header { type_number: header.type_number ^ 1 << self.random.below(16), ..header },
-            6 => Header { zero: 1 << self.random.below(32), ..header },
+            6 => Header { last: self.last_bytes(), ..header },
             // live, whatever it was
             7 => {
                 let extent = u64::from(header.extent);
-                Header::live(extent, 5, self.random.within(extent.saturating_sub(31), extent - 16) as u32)
+                Header::live(extent, 5, self.random.within(extent.saturating_sub(31), extent - 16) as u32, self.last_bytes())
             }
             // 16 + size and 31 + size, cut to 32 bits, would fit the extent
             _ => {
                 let below = self.random.within(0, 31) as u32;
-                Header { size: 0u32.wrapping_sub(below), ..Header::live(16 + self.random.below(16), 5, 0) }
+                Header { size: 0u32.wrapping_sub(below), ..Header::live(16 + self.random.below(16), 5, 0, 0) }
             }
         }
     }
 
     /// Makes the block at h one or two free blocks as it stands, so that free blocks are neighbours, and frees some.
     fn free_neighbours(&mut self, h: u64, header: Header) {
-        let extent = u64::from(header.extent);
-        let first = if extent >= 32 && self.random.percent(60) { self.random.within(16, extent - 16) } else { extent };
-        self.overwrite(h, Header::free(first).bytes());
-        if first < extent {
-            self.overwrite(h + first, Header::free(extent - first).bytes());
-        }
+        let blocks = self.random.within(1, 2);
+        self.make_free(h, u64::from(header.extent), blocks);
         for _ in 0..3 {
             let pointer = self.live_start();
             self.call(Call::Free { pointer });
+        }
+    }
+
+    /// Free blocks over so many bytes from h on, as many as asked for where there is room.
+    pub(super) fn make_free(&mut self, h: u64, extent: u64, blocks: u64) {
+        let first = if blocks > 1 && extent >= 32 { self.random.within(16, extent - 16) } else { extent };
+        self.overwrite(h, Header::free(first).bytes());
+        if first < extent {
+            self.make_free(h + first, extent - first, blocks - 1);
         }
     }
 
@@ -169,7 +175,7 @@ impl Generator {
     }
 
     /// What an entry may hold wrongly: another header's place, one near the image's ends or the end of 64 bits.
-    fn entry_value(&mut self, place: u64) -> u64 {
+    pub(super) fn entry_value(&mut self, place: u64) -> u64 {
         let length = self.buffers.lent_image as u64;
         match self.random.below(10) {
             0 => 0,

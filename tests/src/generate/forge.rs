@@ -55,7 +55,8 @@ impl Generator {
             return;
         }
         let (pointer, place) = (Arg::Header { step, offset, size: forged }, u64::from(forged) - 16);
-        self.write_header(Arg::of(step), offset, Header::live(u64::from(forged) + 16, 9, forged));
+        let cue = self.cue();
+        self.write_header(Arg::of(step), offset, Header::live(u64::from(forged) + 16, 9, forged, cue));
         let changed = if self.random.percent(50) { Header::free(header.extent.into()) } else { self.damaged(next, header) };
         self.write_header(pointer, place, changed);
         self.call(Call::Allocate { size: header.size, type_number: 9 });
@@ -69,12 +70,9 @@ impl Generator {
     /// Sound for a body of `size` bytes, or nearly so.
     fn forged_header(&mut self, size: u32) -> Header {
         let spare = self.random.pick(&[0, 0, 0, 1, 15, 16]);
-        let mut header = Header::live(u64::from(size) + 16 + spare, 9, size);
+        let mut header = Header::live(u64::from(size) + 16 + spare, 9, size, self.last_bytes());
         if self.random.percent(15) {
             header.kind = self.random.pick(&[0, 1, 3, 0x102]);
-        }
-        if self.random.percent(10) {
-            header.zero = 1 << self.random.below(32);
         }
         header
     }

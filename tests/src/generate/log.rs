@@ -1,6 +1,6 @@
 //! The calls of a call log, and logs that take long.
 
-use super::{Generator, Mode};
+use super::{cues, Generator, Mode};
 use crate::case::{Action, Buffers, Run};
 use crate::counts::Counts;
 use crate::log::{answers, record, records, ENTRIES, LENGTH, LIMIT, SLOT_EXPONENT};
@@ -14,10 +14,11 @@ impl Generator {
         let mut random = Random::new(seed);
         let mode = random.weighted(&[(40, Mode::History), (60, Mode::Log)]);
         let content = random.word();
+        let cues = random.pick(&cues::FAMILIES);
         let history = mode == Mode::History;
         let buffers = Buffers { image: LENGTH, table: ENTRIES, lent_image: LENGTH, lent_table: ENTRIES, content, history };
         let (objects, queue) = (Vec::new(), VecDeque::new());
-        let mut generator = Generator { random, mode, buffers, slot_exponent: SLOT_EXPONENT, objects, queue, next_number: 0, steps_left: u32::MAX };
+        let mut generator = Generator { random, mode, buffers, slot_exponent: SLOT_EXPONENT, cues, objects, queue, next_number: 0, steps_left: u32::MAX };
         generator.set_up();
         generator
     }

@@ -1,10 +1,12 @@
 //! Random cases. What is generated depends on the seed and on the expected store's answers, never on the tested store's.
 //!
-//! Here are the case, its buffers and its book of objects; `calls` makes one call, `texts` those of texts, `pointers` the
-//! pointers for them, `forge` headers inside bodies, `misuse` wrong slices and set-ups, `damage` what is written behind the
-//! store's back; `log` makes a list of calls alone.
+//! Here are the case, its buffers and its book of objects; `calls` makes one call, `texts` those of texts, `cues` those of
+//! cues with damages for them, `pointers` the pointers, `forge` headers inside bodies, `misuse` wrong slices and set-ups,
+//! `damage` what is written behind the store's back; `log` makes a list of calls alone, `blocks` an image of many blocks.
 
+pub mod blocks;
 mod calls;
+mod cues;
 mod damage;
 mod forge;
 pub mod log;
@@ -37,9 +39,11 @@ const MODES: [(u64, Mode); 3] = [(40, Mode::History), (30, Mode::Hostile), (30, 
 type Make = fn(&mut Generator, &View<'_>);
 
 /// The mix: how often in a case's ordinary course, and how often on wrong slices or damaged bytes.
-const MIX: [(u64, u64, Make); 11] = [
-    (33, 1, Generator::allocate),
+const MIX: [(u64, u64, Make); 13] = [
+    (24, 1, Generator::allocate),
+    (9, 1, Generator::allocate_for),
     (12, 1, Generator::free),
+    (2, 1, Generator::release),
     (12, 1, Generator::move_pointer),
     (12, 1, Generator::load),
     (14, 1, Generator::store),
@@ -54,6 +58,7 @@ const MIX: [(u64, u64, Make); 11] = [
 /// An object as document 01's book keeps it; dead ones are kept for stale pointers.
 struct Object {
     size: u32,
+    cue: u32,
     live: bool,
     /// The steps that gave its pointers, and the pointers. The first is allocate's.
     pointers: Vec<(u32, u64)>,
@@ -67,6 +72,8 @@ pub struct Generator {
     mode: Mode,
     buffers: Buffers,
     slot_exponent: u32,
+    /// The cues of most objects.
+    cues: [u32; 3],
     objects: Vec<Object>,
     queue: VecDeque<Step>,
     next_number: u32,
@@ -110,7 +117,9 @@ impl Generator {
             history: mode == Mode::History,
         };
         let steps_left = random.within(steps / 3, steps) as u32;
-        let mut generator = Generator { random, mode, buffers, slot_exponent, objects: Vec::new(), queue: VecDeque::new(), next_number: 0, steps_left };
+        let cues = random.pick(&cues::FAMILIES);
+        let (objects, queue) = (Vec::new(), VecDeque::new());
+        let mut generator = Generator { random, mode, buffers, slot_exponent, cues, objects, queue, next_number: 0, steps_left };
         if mode != Mode::History && generator.random.percent(15) {
             generator.refused_set_up();
         }
@@ -172,7 +181,9 @@ impl Generator {
         }
         match call {
             Call::SetUp { .. } => self.objects.iter_mut().for_each(|object| object.live = false),
-            Call::Allocate { size, .. } => self.objects.push(Object { size, live: true, pointers: vec![(step.number, answer.values[0])] }),
+            Call::Allocate { size, .. } => self.add(step, size, 0, answer),
+            Call::AllocateFor { size, cue, .. } => self.add(step, size, cue, answer),
+            Call::Release { cue } => self.objects.iter_mut().filter(|object| object.cue == cue).for_each(|object| object.live = false),
             Call::Free { pointer } => {
                 if let Some(object) = self.objects.iter_mut().find(|object| object.live && object.pointers[0].1 == pointer) {
                     object.live = false;
@@ -194,5 +205,9 @@ impl Generator {
                 self.objects.remove(dead);
             }
         }
+    }
+
+    fn add(&mut self, step: &Step, size: u32, cue: u32, answer: Answer) {
+        self.objects.push(Object { size, cue, live: true, pointers: vec![(step.number, answer.values[0])] });
     }
 }

@@ -1,6 +1,7 @@
 //! The driver itself: it passes the model, and finds and shortens each of these faults.
 
 mod compares;
+mod cues;
 mod texts;
 
 use cueledger_tests::case::Mismatch;
@@ -10,7 +11,7 @@ use cueledger_tests::store::{Answer, Call, Model, Store, ROWS};
 use std::mem::discriminant;
 
 /// The most steps of a shortened list, where their number depends on the random calls; before, it has up to 400.
-const SHORT: usize = 6;
+const SHORT: usize = 7;
 
 type Behaviour = fn(&mut [u8], &mut [u64], Call<u64>) -> Answer;
 
@@ -277,8 +278,8 @@ fn walk_that_trusts_headers() {
     });
 }
 
-/// Tally after each header on its walk is mended: accepted where a header test that does not ask for what was mended accepts.
-fn tally_of_mended(image: &[u8], table: &mut [u64], mend: fn(&mut Header)) -> Answer {
+/// The image with each header on its walk mended: a walk over it is that of a header test that does not ask for what was mended.
+fn mended(image: &[u8], mend: fn(&mut Header)) -> Vec<u8> {
     let mut image = image.to_vec();
     let mut at = 16;
     while at + 16 <= image.len() {
@@ -288,7 +289,11 @@ fn tally_of_mended(image: &[u8], table: &mut [u64], mend: fn(&mut Header)) -> An
         let Some(header) = model::sound(&image, at as u64) else { break };
         at += header.extent as usize;
     }
-    right(&mut image, table, Call::Tally)
+    image
+}
+
+fn tally_of_mended(image: &[u8], table: &mut [u64], mend: fn(&mut Header)) -> Answer {
+    right(&mut mended(image, mend), table, Call::Tally)
 }
 
 #[test]
@@ -371,7 +376,7 @@ fn counts_beside_a_refusal() {
 fn allocate_that_overwrites_an_entry() {
     // shows only where an entry was damaged
     find(|image, table, call| match (call, right(image, table, call)) {
-        (Call::Allocate { .. }, Answer { refusal: 9, .. }) => {
+        (Call::Allocate { .. } | Call::AllocateFor { .. }, Answer { refusal: 9, .. }) => {
             table.fill(0);
             right(image, table, call)
         }
@@ -405,7 +410,7 @@ fn row_that_never_occurs() {
         answer => answer,
     };
     let counts = compare(&Faulty(never_9), &Faulty(never_9), 200_000, 1).unwrap_or_else(|failure| panic!("{failure}"));
-    assert_eq!(counts.missing(), [("allocate", 9)]);
+    assert_eq!(counts.missing(), [("allocate", 9), ("allocate for", 9)]);
 }
 
 #[test]

@@ -1,6 +1,6 @@
 //! Faults of text copy.
 
-use super::{both, find, right, Behaviour};
+use super::{both, find, right, Behaviour, SHORT};
 use cueledger_tests::case::Mismatch;
 use cueledger_tests::model::{self, Pointer};
 use cueledger_tests::store::{Answer, Call};
@@ -71,8 +71,7 @@ fn without_the_zero_byte() {
 #[test]
 fn number_without_the_zero_byte() {
     let failure = find(|image, table, call| changed(image, table, call, 0, |text| Answer::new(0, [text.bytes as u64 - 1])));
-    // set-up, an object, which is zero, text copy
-    assert_eq!(failure.case.steps.len(), 3, "{failure}");
+    assert!(failure.case.steps.len() <= SHORT, "{failure}");
 }
 
 #[test]

@@ -1,5 +1,5 @@
 -- Counting the blocks. Assumes nothing.
-use mathlib.Core.Path.{_≡_, refl, ap, subst}
+use mathlib.Core.Path.{_≡_, refl, ap}
 use mathlib.Core.List.{List}
 use mathlib.Core.Bool.{true}
 use Prim.Native.Nat.{ℕ, _+_}
@@ -10,7 +10,7 @@ use Rattle.block.specs.laws.Booleans.{byBool}
 use Rattle.block.specs.Layout.{headerAt, extentAt, isLive, sound}
 use Rattle.block.specs.laws.Soundness.{Live, sound-live}
 use Rattle.block.specs.Walk.{Walked, stopped, unsound, ended, walk, noCounts, withLive, withFree, counting, countOf, countBlocks}
-use Rattle.block.specs.laws.Walks.{Ends, walk-carries}
+use Rattle.block.specs.laws.Walks.{walk-carries-on}
 use Rattle.block.specs.declared.header.Header.{Header}
 use Rattle.block.specs.declared.walk.Counts.{Counts}
 use Rattle.block.specs.declared.walk.Counted.the-variants as counted
@@ -54,7 +54,6 @@ passes-balanced image a h p o =
 
 -- live, free and overhead bytes are all bytes behind the superblock
 pub count-balanced : (image : List ℕ) (a : Counts) → countBlocks image ≡ counted.Counts a → 16 + (a .live + a .free + a .overhead) ≡ length image
-unfolding countBlocks Ends
+unfolding countBlocks
 count-balanced image a e =
-    subst (Ends counting image Balanced) (count-ended (walk counting image noCounts) a e)
-    (walk-carries counting image Balanced (λ b h p o t. passes-balanced image b h p o) noCounts refl)
+    walk-carries-on counting image Balanced (λ b h p o t. passes-balanced image b h p o) noCounts a refl (count-ended (walk counting image noCounts) a e)

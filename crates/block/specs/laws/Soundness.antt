@@ -21,6 +21,7 @@ pub record Free (d : Header) : Type 0 where
   pub is-kind : d .kind ≡ 1
   pub no-type : d .ty ≡ 0
   pub no-size : d .size ≡ 0
+  pub no-cue : d .cue ≡ 0
 
 -- what a live header says
 pub record Live (d : Header) : Type 0 where
@@ -33,13 +34,19 @@ pub record Live (d : Header) : Type 0 where
 pub record WellFormed (L h : ℕ) (d : Header) : Type 0 where
   pub long : 16 ≤ d .extent
   pub inside : h + d .extent ≤ L
-  pub zero-last : d .last ≡ 0
   pub kinds : Free d ⊎ Live d
 
 module _ (L h : ℕ) (d : Header) where
   well-formed-kinds : (b : Bool) → eqb (d .kind) 1 ≡ b → cond b (freeFormed d) (liveFormed d) ≡ true → Free d ⊎ Live d
   well-formed-kinds true p e =
-      inl (record { is-kind = eqb-true _ _ p; no-type = eqb-true _ _ (and-left _ _ e); no-size = eqb-true _ _ (and-right (eqb (d .ty) 0) _ e) })
+      let r = and-right (eqb (d .ty) 0) _ e in
+      inl
+      (record {
+        is-kind = eqb-true _ _ p;
+        no-type = eqb-true _ _ (and-left _ _ e);
+        no-size = eqb-true _ _ (and-left _ _ r);
+        no-cue = eqb-true _ _ (and-right (eqb (d .size) 0) _ r);
+      })
   well-formed-kinds false p e =
       let r = and-right (eqb (d .kind) 2) _ e in
       let q = and-right (leb 1 (d .size)) _ r in
@@ -56,27 +63,24 @@ module _ (L h : ℕ) (d : Header) where
   unfolding wellFormed
   well-formed-parts e =
       let r = and-right (leb 16 (d .extent)) _ e in
-      let q = and-right (leb (h + d .extent) L) _ r in
       record {
         long = leb-true _ _ (and-left _ _ e);
         inside = leb-true _ _ (and-left _ _ r);
-        zero-last = eqb-true _ _ (and-left _ _ q);
-        kinds = well-formed-kinds (eqb (d .kind) 1) refl (and-right (eqb (d .last) 0) _ q);
+        kinds = well-formed-kinds (eqb (d .kind) 1) refl (and-right (leb (h + d .extent) L) _ r);
       }
 
   -- and put together
-  pub well-formed-free : 16 ≤ d .extent → h + d .extent ≤ L → d .last ≡ 0 → Free d → wellFormed L h d ≡ true
+  pub well-formed-free : 16 ≤ d .extent → h + d .extent ≤ L → Free d → wellFormed L h d ≡ true
   unfolding wellFormed
-  well-formed-free a b c f =
-      simp (le-leb _ _ a, le-leb _ _ b, eq-eqb _ _ c, eq-eqb _ _ (f .is-kind), eq-eqb _ _ (f .no-type), eq-eqb _ _ (f .no-size))
+  well-formed-free a b f =
+      simp (le-leb _ _ a, le-leb _ _ b, eq-eqb _ _ (f .is-kind), eq-eqb _ _ (f .no-type), eq-eqb _ _ (f .no-size), eq-eqb _ _ (f .no-cue))
 
-  pub well-formed-live : h + d .extent ≤ L → d .last ≡ 0 → Live d → wellFormed L h d ≡ true
+  pub well-formed-live : h + d .extent ≤ L → Live d → wellFormed L h d ≡ true
   unfolding wellFormed
-  well-formed-live b c f =
+  well-formed-live b f =
       simp (
         le-leb 16 (d .extent) (omega arith),
         le-leb _ _ b,
-        eq-eqb _ _ c,
         ne-eqb (d .kind) 1 (omega arith),
         eq-eqb _ _ (f .is-kind),
         le-leb _ _ (f .some-size),
@@ -133,18 +137,18 @@ module _ (image : List ℕ) (h : ℕ) where
   sound-same other l e = rw (l, e) refl
 
   -- a free block with room for its extent
-  pub sound-free-at : (e : ℕ) → headerAt image h ≡ fields e 1 0 0 → 16 ≤ h → 16 ≤ e → h + e ≤ length image → sound image h ≡ true
+  pub sound-free-at : (e : ℕ) → headerAt image h ≡ fields e 1 0 0 0 → 16 ≤ h → 16 ≤ e → h + e ≤ length image → sound image h ≡ true
   sound-free-at e d p a b =
       sound-by p (omega arith)
       ∙ ap (wellFormed (length image) h) d
-      ∙ well-formed-free (length image) h (fields e 1 0 0) a b refl (record { is-kind = refl; no-type = refl; no-size = refl })
+      ∙ well-formed-free (length image) h (fields e 1 0 0 0) a b (record { is-kind = refl; no-type = refl; no-size = refl; no-cue = refl })
 
-  -- a live block with room for its extent
-  pub sound-live-at : (e t s : ℕ) → headerAt image h ≡ fields e 2 t s → 16 ≤ h → h + e ≤ length image → 1 ≤ s → 16 + s ≤ e → e ≤ 31 + s → sound image h ≡ true
-  sound-live-at e t s d p b one a c =
+  -- a live block with room for its extent, whatever its cue
+  pub sound-live-at : (e t s c : ℕ) → headerAt image h ≡ fields e 2 t s c → 16 ≤ h → h + e ≤ length image → 1 ≤ s → 16 + s ≤ e → e ≤ 31 + s → sound image h ≡ true
+  sound-live-at e t s c d p b one a u =
       sound-by p (omega arith)
       ∙ ap (wellFormed (length image) h) d
-      ∙ well-formed-live (length image) h (fields e 2 t s) b refl (record { is-kind = refl; some-size = one; holds = a; tight = c })
+      ∙ well-formed-live (length image) h (fields e 2 t s c) b (record { is-kind = refl; some-size = one; holds = a; tight = u })
 
   -- a place without room for a header
   pub unsound-low : h < 16 → sound image h ≡ false

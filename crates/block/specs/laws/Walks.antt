@@ -1,5 +1,5 @@
 -- Every walk over the blocks.
--- In order: its bound, its steps, what it carries along, the places that it comes by. Not here: what each of its three uses finds. Assumes nothing.
+-- In order: its bound, its steps, what it carries along, the places that it comes by. Not here: what each of its uses finds. Assumes nothing.
 use Prim.Native.Nat.{ℕ, zero, suc, _+_, _≤_, _<_}
 use mathlib.Core.Path.{_≡_, refl, sym, ap, _∙_, subst}
 use mathlib.Core.Bool.{true, false}
@@ -10,8 +10,9 @@ use native.Mathlib.Omega.{arith}
 use borrow.Author.Tests.{eq-eqb, ne-eqb, eqb-true, eqb-false}
 use Rattle.block.specs.Layout.{headerAt, extentAt, sound}
 use Rattle.block.specs.laws.Booleans.{byBool}
-use Rattle.block.specs.laws.Soundness.{sound-in, sound-extent, unsound-past}
+use Rattle.block.specs.laws.Soundness.{sound-same, sound-in, sound-extent, unsound-past}
 use Rattle.block.specs.Walk.{Walked, stopped, unsound, ended, Search, walkIn, walkFrom, walk, OnWalk, first, next}
+use Rattle.block.specs.declared.header.Header.{Header}
 
 -- an unsound header that the walk meets
 pub record MeetsUnsound (image : List ℕ) (h : ℕ) : Type 0 where
@@ -124,6 +125,11 @@ module _ {A : Type 0} (s : Search A) (image : List ℕ) where
     unfolding walk walkFrom
     walk-carries a p = in-carries (suc (length image)) a 16 (omega arith) p
 
+    -- at the image's end, where it comes so far
+    pub walk-carries-on : (a b : A) → P a 16 → walk s image a ≡ ended b → P b (length image)
+    unfolding Ends
+    walk-carries-on a b p e = subst (Ends s image P) e (walk-carries a p)
+
   -- a walk comes by each place up to the first where it could stop
   pub walk-reaches : (a : A) (t : ℕ) → ((k : ℕ) → k < t → s .stops k (headerAt image k) ≡ false) → (k : ℕ) → OnWalk image k → k ≤ t
       → (b : A) × (walkFrom s image b k ≡ walk s image a)
@@ -170,3 +176,13 @@ module _ {A : Type 0} (s : Search A) (image : List ℕ) where
   walk-meets-unsound a h e =
       let r = subst (Ends s image (λ _ k. OnWalk image k)) e (walk-carries (λ _ k. OnWalk image k) (λ _ k w o t. next k w o) a first) in
       record { on-walk = r .0 .1; before-end = r .1; is-unsound = r .2 }
+
+-- a walk over headers that stay comes by the same places
+pub on-walk-kept : (image other : List ℕ) (top : ℕ) → length other ≡ length image → ((k : ℕ) → k + 16 ≤ top → headerAt other k ≡ headerAt image k)
+    → (k : ℕ) → OnWalk image k → k ≤ top → OnWalk other k
+on-walk-kept image other top l e _ first u = first
+on-walk-kept image other top l e _ (next k w o) u =
+    let x : 16 ≤ extentAt image k = sound-extent image k o in
+    let q : headerAt other k ≡ headerAt image k = e k (omega arith) in
+    subst (λ (d : Header). OnWalk other (k + d .extent)) q
+    (next k (on-walk-kept image other top l e k w (omega arith)) (sound-same image k other l q ∙ o))

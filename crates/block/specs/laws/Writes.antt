@@ -207,3 +207,12 @@ put-over image at a b r e fits =
     ∙ ap (λ (x : List ℕ). take at image ++ x) (sym (append-assoc b r q))
     ∙ ap (λ (k : ℕ). take at image ++ ((b ++ r) ++ drop (at + k) image)) n
     ∙ sym (put-split image at (b ++ r) l)
+
+-- a run put over a shorter one from the same place swallows it
+pub put-again : (image : List ℕ) (at : ℕ) (a b : List ℕ) → length a ≤ length b → at + length b ≤ length image → put (put image at a) at b ≡ put image at b
+put-again image at a b l fits =
+    let room : at + length a ≤ length image = omega arith in
+    put-def (put image at a) at b
+    ∙ ap (λ (x : List ℕ). x ++ (b ++ drop (at + length b) (put image at a))) (take-put image at a room)
+    ∙ ap (λ (x : List ℕ). take at image ++ (b ++ x)) (drop-put-above image at a room (at + length b) (omega arith))
+    ∙ sym (put-def image at b)

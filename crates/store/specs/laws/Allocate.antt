@@ -24,7 +24,7 @@ use Rattle.block.specs.laws.Headers.{length-header, headerAt-put, headerAt-put-
 use Rattle.block.specs.laws.Superblock.{superblock-kept}
 use Rattle.block.specs.declared.walk.Fit.{Fit}
 use Rattle.store.specs.State.{State, outcome, refuse}
-use Rattle.store.specs.Calls.{opening, entryFree, fitAnswer, allocateChecks, carved, noted, allocate}
+use Rattle.store.specs.Calls.{opening, entryHolds, fitAnswer, allocateChecks, carved, noted, allocateFor}
 use Rattle.store.specs.laws.Refusals.{demand-met, and-then-met}
 use Rattle.store.specs.laws.Opening.{Open, opening-parts, entry-in}
 use Rattle.store.specs.declared.answer.Refusal.{Refusal}
@@ -50,7 +50,7 @@ pub record Allocates (size : ℕ) (x : State) (h : ℕ) : Type 0 where
   pub found : firstFit (x .image) (16 + size) ≡ fit.At h
   pub lowest : LowestFit (x .image) (16 + size) h
   pub inside : h + 16 + size ≤ length (x .image)
-  pub free-entry : entryFree (slotExponent (x .image)) h size (x .table) ≡ true
+  pub free-entry : entryHolds (slotExponent (x .image)) h size 0 (x .table) ≡ true
   pub indexed : entryOf (slotExponent (x .image)) h size < length (x .table)
 
 -- an accepted allocation passes them
@@ -61,7 +61,7 @@ allocate-parts size x h e =
     let o = opening-parts x s a in
     let c = demand-met (ltb 0 size) Empty _ h b in
     let (k, f, g) = fit-met (firstFit (x .image) (16 + size)) _ h (c .1) in
-    let d = demand-met (entryFree s k size (x .table)) EntryTaken _ h g in
+    let d = demand-met (entryHolds s k size 0 (x .table)) EntryTaken _ h g in
     let q : h ≡ k = cc in
     let w = first-fit-lowest (x .image) (16 + size) k f in
     let i : k + 16 + size ≤ length (x .image) = omega (arith, w .fits-in, sound-end (x .image) k (w .is-sound)) in
@@ -103,26 +103,26 @@ module _ (size : ℕ) (x : State) where
       allocate-full f = rw (o, lt-ltb 0 size (omega arith), f)
 
       -- row 9
-      pub allocate-taken : (h : ℕ) → firstFit (x .image) (16 + size) ≡ fit.At h → entryFree s h size (x .table) ≡ false → Refused EntryTaken ≡ allocateChecks size x
+      pub allocate-taken : (h : ℕ) → firstFit (x .image) (16 + size) ≡ fit.At h → entryHolds s h size 0 (x .table) ≡ false → Refused EntryTaken ≡ allocateChecks size x
       unfolding allocateChecks fitAnswer
       allocate-taken h f t = rw (o, lt-ltb 0 size (omega arith), f, t)
 
       -- all are passed
-      pub allocate-given : (h : ℕ) → firstFit (x .image) (16 + size) ≡ fit.At h → entryFree s h size (x .table) ≡ true → Accepted h ≡ allocateChecks size x
+      pub allocate-given : (h : ℕ) → firstFit (x .image) (16 + size) ≡ fit.At h → entryHolds s h size 0 (x .table) ≡ true → Accepted h ≡ allocateChecks size x
       unfolding allocateChecks fitAnswer
       allocate-given h f t = rw (o, lt-ltb 0 size (omega arith), f, t)
 
   -- a refusal leaves all as it was
-  pub allocate-declined : (type : ℕ) (r : Refusal) → allocateChecks size x ≡ Refused r → outcome (Refused r) (x .image) (x .table) ≡ allocate size type x
-  unfolding allocate
-  allocate-declined type r e = rw e
+  pub allocate-declined : (type cue : ℕ) (r : Refusal) → allocateChecks size x ≡ Refused r → outcome (Refused r) (x .image) (x .table) ≡ allocateFor size type cue x
+  unfolding allocateFor
+  allocate-declined type cue r e = rw e
 
-  -- otherwise the block is carved and its entry noted
-  pub allocate-done : (type h s word : ℕ) (p : Pointer) (image table : List ℕ) → allocateChecks size x ≡ Accepted h → s ≡ slotExponent (x .image)
-      → image ≡ carved (x .image) h size type → p ≡ pointerTo s h size → table ≡ noted s h size h (x .table) → word ≡ pack p
-      → outcome (Accepted word) image table ≡ allocate size type x
-  unfolding allocate
-  allocate-done type h s word p image table e k i q t w = rw (e, w, q, i, t, k)
+  -- otherwise the block is carved and its entry noted cue
+  pub allocate-done : (type cue h s word : ℕ) (p : Pointer) (image table : List ℕ) → allocateChecks size x ≡ Accepted h → s ≡ slotExponent (x .image)
+      → image ≡ carved (x .image) h size type cue → p ≡ pointerTo s h size → table ≡ noted s h size h (x .table) → word ≡ pack p
+      → outcome (Accepted word) image table ≡ allocateFor size type cue x
+  unfolding allocateFor
+  allocate-done type cue h s word p image table e k i q t w = rw (e, w, q, i, t, k)
 
 -- The answer of its tests, with the object's pointer and entry.
 unfoldable pub siteOf : ℕ → ℕ → Answer → Site
@@ -155,115 +155,115 @@ site-chosen s size (Refused r) h t e = let z : _≡_ {A = ℕ} 0 1 = cc in absur
 
 module _ (s : ℕ) (x : State) (o : opening x ≡ Accepted s) where
   -- the size is 0
-  pub allocate-refuses-empty : (size type : ℕ) → ltb 0 size ≡ false → allocate size type x ≡ refuse Empty x
-  allocate-refuses-empty size type e =
+  pub allocate-refuses-empty : (size type cue : ℕ) → ltb 0 size ≡ false → allocateFor size type cue x ≡ refuse Empty x
+  allocate-refuses-empty size type cue e =
       let z : size ≤ 0 = ltb-false 0 size e in
-      sym (allocate-declined size x type Empty (sym (allocate-empty size x s o (omega arith))))
+      sym (allocate-declined size x type cue Empty (sym (allocate-empty size x s o (omega arith))))
 
-  module _ (size type : ℕ) (e : ltb 0 size ≡ true) where
+  module _ (size type cue : ℕ) (e : ltb 0 size ≡ true) where
     -- the size is not zero
     not-empty : size ≡ 0 → ⊥
     not-empty z = let l = ltb-true 0 size e in omega arith
 
     -- no block fits
-    pub allocate-refuses-full : firstFit (x .image) (16 + size) ≡ fit.End → allocate size type x ≡ refuse NoSpace x
-    allocate-refuses-full f = sym (allocate-declined size x type NoSpace (sym (allocate-full size x s o not-empty f)))
+    pub allocate-refuses-full : firstFit (x .image) (16 + size) ≡ fit.End → allocateFor size type cue x ≡ refuse NoSpace x
+    allocate-refuses-full f = sym (allocate-declined size x type cue NoSpace (sym (allocate-full size x s o not-empty f)))
 
     -- the block at h is taken
-    pub allocate-at : (h : ℕ) → slotExponent (x .image) ≡ s → firstFit (x .image) (16 + size) ≡ fit.At h → entryFree s h size (x .table) ≡ true
-        → allocate size type x ≡ outcome (Accepted (pack (pointerTo s h size))) (carved (x .image) h size type) (noted s h size h (x .table))
+    pub allocate-at : (h : ℕ) → slotExponent (x .image) ≡ s → firstFit (x .image) (16 + size) ≡ fit.At h → entryHolds s h size 0 (x .table) ≡ true
+        → allocateFor size type cue x ≡ outcome (Accepted (pack (pointerTo s h size))) (carved (x .image) h size type cue) (noted s h size h (x .table))
     allocate-at h q f g =
-        sym (allocate-done size x type h s _ _ _ _ (sym (allocate-given size x s o not-empty h f g)) (sym q) refl refl refl refl)
+        sym (allocate-done size x type cue h s _ _ _ _ (sym (allocate-given size x s o not-empty h f g)) (sym q) refl refl refl refl)
 
 -- The carved image.
 
 -- carving, for an extent that was read
 
-module _ (image : List ℕ) (h size type extent : ℕ) (e : extent ≡ extentAt image h) where
+module _ (image : List ℕ) (h size type cue extent : ℕ) (e : extent ≡ extentAt image h) where
   -- all of the block is taken
-  pub carved-whole : extent - (16 + size) < 16 → carved image h size type ≡ put image h (liveHeader extent type size)
+  pub carved-whole : extent - (16 + size) < 16 → carved image h size type cue ≡ put image h (liveHeader extent type size cue)
   unfolding carved
   carved-whole l = rw (← e, lt-ltb _ _ l) refl
 
   -- the rest stays free
-  pub carved-rest : 16 ≤ extent - (16 + size) → carved image h size type ≡ put (put image h (liveHeader (16 + size) type size)) (h + (16 + size)) (freeHeader (extent - (16 + size)))
+  pub carved-rest : 16 ≤ extent - (16 + size) → carved image h size type cue ≡ put (put image h (liveHeader (16 + size) type size cue)) (h + (16 + size)) (freeHeader (extent - (16 + size)))
   unfolding carved
   carved-rest l = rw (← e, le-ltb _ _ l) refl
 
 -- the block that is carved, where the free one has room
 
-module _ (image : List ℕ) (h size type : ℕ) (room : 16 + size ≤ extentAt image h) (inside : h + extentAt image h ≤ length image) where
+module _ (image : List ℕ) (h size type cue : ℕ) (room : 16 + size ≤ extentAt image h) (inside : h + extentAt image h ≤ length image) where
   -- carving keeps the length
-  pub length-carved : length (carved image h size type) ≡ length image
+  pub length-carved : length (carved image h size type cue) ≡ length image
   length-carved =
       let extent : ℕ = extentAt image h in
-      let n = length-header extent 2 type size in
-      let m = length-header (16 + size) 2 type size in
-      let k = length-header (extent - (16 + size)) 1 0 0 in
+      let n = length-header extent 2 type size cue in
+      let m = length-header (16 + size) 2 type size cue in
+      let k = length-header (extent - (16 + size)) 1 0 0 0 in
       byBool (ltb (extent - (16 + size)) 16)
-      (λ t. ap length (carved-whole image h size type extent refl (ltb-true _ _ t)) ∙ length-put image h (liveHeader extent type size) (omega arith))
+      (λ t. ap length (carved-whole image h size type cue extent refl (ltb-true _ _ t)) ∙ length-put image h (liveHeader extent type size cue) (omega arith))
       (λ t.
       let rest : 16 ≤ extent - (16 + size) = ltb-false _ _ t in
-      let one : length (put image h (liveHeader (16 + size) type size)) ≡ length image = length-put image h (liveHeader (16 + size) type size) (omega arith) in
-      ap length (carved-rest image h size type extent refl rest)
-      ∙ length-put (put image h (liveHeader (16 + size) type size)) (h + (16 + size)) (freeHeader (extent - (16 + size))) (omega arith)
+      let one : length (put image h (liveHeader (16 + size) type size cue)) ≡ length image = length-put image h (liveHeader (16 + size) type size cue) (omega arith) in
+      ap length (carved-rest image h size type cue extent refl rest)
+      ∙ length-put (put image h (liveHeader (16 + size) type size cue)) (h + (16 + size)) (freeHeader (extent - (16 + size))) (omega arith)
       ∙ one)
 
   -- and the slot exponent
-  pub carved-exponent : 16 ≤ h → slotExponent (carved image h size type) ≡ slotExponent image
+  pub carved-exponent : 16 ≤ h → slotExponent (carved image h size type cue) ≡ slotExponent image
   carved-exponent low =
       let extent : ℕ = extentAt image h in
-      let n = length-header extent 2 type size in
-      let m = length-header (16 + size) 2 type size in
-      let k = length-header (extent - (16 + size)) 1 0 0 in
+      let n = length-header extent 2 type size cue in
+      let m = length-header (16 + size) 2 type size cue in
+      let k = length-header (extent - (16 + size)) 1 0 0 0 in
       byBool (ltb (extent - (16 + size)) 16)
       (λ t.
-      ap slotExponent (carved-whole image h size type extent refl (ltb-true _ _ t))
-      ∙ superblock-kept image h (liveHeader extent type size) (omega arith) low .1)
+      ap slotExponent (carved-whole image h size type cue extent refl (ltb-true _ _ t))
+      ∙ superblock-kept image h (liveHeader extent type size cue) (omega arith) low .1)
       (λ t.
       let rest : 16 ≤ extent - (16 + size) = ltb-false _ _ t in
-      let one : length (put image h (liveHeader (16 + size) type size)) ≡ length image = length-put image h (liveHeader (16 + size) type size) (omega arith) in
-      ap slotExponent (carved-rest image h size type extent refl rest)
-      ∙ superblock-kept (put image h (liveHeader (16 + size) type size)) (h + (16 + size)) (freeHeader (extent - (16 + size))) (omega arith) (omega arith) .1
-      ∙ superblock-kept image h (liveHeader (16 + size) type size) (omega arith) low .1)
+      let one : length (put image h (liveHeader (16 + size) type size cue)) ≡ length image = length-put image h (liveHeader (16 + size) type size cue) (omega arith) in
+      ap slotExponent (carved-rest image h size type cue extent refl rest)
+      ∙ superblock-kept (put image h (liveHeader (16 + size) type size cue)) (h + (16 + size)) (freeHeader (extent - (16 + size))) (omega arith) (omega arith) .1
+      ∙ superblock-kept image h (liveHeader (16 + size) type size cue) (omega arith) low .1)
 
-  -- its header: an extent with at most 15 spare bytes, the type and the size
+  -- its header: an extent with at most 15 spare bytes, the type, the size and the cue
   pub record CarvedHeader : Type 0 where
     pub extent : ℕ
-    pub is-header : headerAt (carved image h size type) h ≡ fields extent 2 type size
+    pub is-header : headerAt (carved image h size type cue) h ≡ fields extent 2 type size cue
     pub holds : 16 + size ≤ extent
     pub tight : extent ≤ 31 + size
     pub ends : h + extent ≤ length image
 
   -- it can be read back
-  pub carved-header : length image ≤ 2 ^ 30 → type < 2 ^ 16 → CarvedHeader
-  carved-header short fits =
+  pub carved-header : length image ≤ 2 ^ 30 → type < 2 ^ 16 → cue < 2 ^ 32 → CarvedHeader
+  carved-header short fits cue-fits =
       let extent : ℕ = extentAt image h in
-      let m = length-header (16 + size) 2 type size in
-      let k = length-header (extent - (16 + size)) 1 0 0 in
+      let m = length-header (16 + size) 2 type size cue in
+      let k = length-header (extent - (16 + size)) 1 0 0 0 in
       byBool (ltb (extent - (16 + size)) 16)
       (λ t.
       let few : extent - (16 + size) < 16 = ltb-true _ _ t in
       record {
         extent = extent;
         is-header =
-            ap (λ (i : List ℕ). headerAt i h) (carved-whole image h size type extent refl few)
-            ∙ headerAt-put image h extent 2 type size (omega arith)
-            (record { extent-fits = omega arith; kind-fits = omega arith; type-fits = fits; size-fits = omega arith });
+            ap (λ (i : List ℕ). headerAt i h) (carved-whole image h size type cue extent refl few)
+            ∙ headerAt-put image h extent 2 type size cue (omega arith)
+            (record { extent-fits = omega arith; kind-fits = omega arith; type-fits = fits; size-fits = omega arith; cue-fits = cue-fits });
         holds = room;
         tight = omega arith;
         ends = inside;
       })
       (λ t.
       let rest : 16 ≤ extent - (16 + size) = ltb-false _ _ t in
-      let one : length (put image h (liveHeader (16 + size) type size)) ≡ length image = length-put image h (liveHeader (16 + size) type size) (omega arith) in
+      let one : length (put image h (liveHeader (16 + size) type size cue)) ≡ length image = length-put image h (liveHeader (16 + size) type size cue) (omega arith) in
       record {
         extent = 16 + size;
         is-header =
-            ap (λ (i : List ℕ). headerAt i h) (carved-rest image h size type extent refl rest)
-            ∙ headerAt-put-other (put image h (liveHeader (16 + size) type size)) (h + (16 + size)) (freeHeader (extent - (16 + size))) h (omega arith) (inl (omega arith))
-            ∙ headerAt-put image h (16 + size) 2 type size (omega arith)
-            (record { extent-fits = omega arith; kind-fits = omega arith; type-fits = fits; size-fits = omega arith });
+            ap (λ (i : List ℕ). headerAt i h) (carved-rest image h size type cue extent refl rest)
+            ∙ headerAt-put-other (put image h (liveHeader (16 + size) type size cue)) (h + (16 + size)) (freeHeader (extent - (16 + size))) h (omega arith) (inl (omega arith))
+            ∙ headerAt-put image h (16 + size) 2 type size cue (omega arith)
+            (record { extent-fits = omega arith; kind-fits = omega arith; type-fits = fits; size-fits = omega arith; cue-fits = cue-fits });
         holds = omega arith;
         tight = omega arith;
         ends = omega arith;

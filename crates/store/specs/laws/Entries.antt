@@ -1,33 +1,33 @@
--- Table entries: row 9, noting an object's header place, and clearing it.
+-- Table entries: rows 9 and 21, noting an object's header place, and clearing it.
 -- In order: of an object by its header place and size; by its pointer with its entry; by a pointer that leads to it. Assumes nothing.
-use Prim.Native.Nat.{ℕ, _/_, _^_, _≤_, _<_}
+use Prim.Native.Nat.{ℕ, _+_, _/_, _^_, _≤_, _<_}
 use mathlib.Core.Path.{_≡_, refl, sym, ap, _∙_}
 use mathlib.Core.Bool.{Bool, true, false, cond}
 use mathlib.Core.List.{List}
 use lib.ListN.{length, drop, getD, set, length-set}
-use lib.Seq.{getD-set-same, drop-set-lt}
+use lib.Seq.{getD-set-same, getD-set-other, drop-set-lt}
 use lib.Dec.{eqb}
-use borrow.Author.Tests.{le-leb, lt-leb, eq-eqb}
+use borrow.Author.Tests.{le-leb, lt-leb, eq-eqb, eqb-true}
 use Rattle.frame.specs.Pointers.{reach, at}
 use Rattle.frame.specs.Tags.{wrapper, pointerTo, tagMatches, entryAt, entryOf}
 use Rattle.frame.specs.laws.Pointers.{reach-large}
-use Rattle.frame.specs.laws.Wrappers.{entry-same}
+use Rattle.frame.specs.laws.Wrappers.{entry-same, entries-apart}
 use Rattle.frame.specs.laws.Tags.{tagged, by-frame, pointer-small, pointer-large, matches-pointer, tagged-small, tagged-large}
 use Rattle.frame.specs.declared.parts.Pointer.{Pointer}
 use Rattle.frame.specs.declared.tag.Tagged.{Tagged}
 use Rattle.frame.specs.declared.tag.Tagged.the-variants.{Small, Large}
-use Rattle.store.specs.Calls.{entryFree, noted}
+use Rattle.store.specs.Calls.{entryHolds, noted}
 
 module _ (s h size : ℕ) where
   -- a small-framed object needs none
-  pub free-small : (table : List ℕ) → wrapper h size ≤ s → entryFree s h size table ≡ true
-  unfolding entryFree
-  free-small table l = simp (le-leb _ _ l)
+  pub holds-small : (v : ℕ) (table : List ℕ) → wrapper h size ≤ s → entryHolds s h size v table ≡ true
+  unfolding entryHolds
+  holds-small v table l = simp (le-leb _ _ l)
 
-  -- a large-framed one's entry must be zero
-  pub free-large : (table : List ℕ) (i : ℕ) → s < wrapper h size → i ≡ entryOf s h size → entryFree s h size table ≡ eqb (getD table i 0) 0
-  unfolding entryFree
-  free-large table i l e = rw (lt-leb _ _ l, e) refl
+  -- a large-framed one's entry must be the value
+  pub holds-large : (v : ℕ) (table : List ℕ) (i : ℕ) → s < wrapper h size → i ≡ entryOf s h size → entryHolds s h size v table ≡ eqb (getD table i 0) v
+  unfolding entryHolds
+  holds-large v table i l e = rw (lt-leb _ _ l, e) refl
 
   -- nothing is noted for a small-framed object
   pub noted-small : (entry : ℕ) (table : List ℕ) → wrapper h size ≤ s → noted s h size entry table ≡ table
@@ -39,12 +39,16 @@ module _ (s h size : ℕ) where
   unfolding noted
   noted-large entry table i l e = rw (lt-leb _ _ l, e) refl
 
-  -- row 9 is passed where the entry of a large-framed object is zero
-  pub entry-is-free : (table : List ℕ) → (s < wrapper h size → getD table (entryOf s h size) 0 ≡ 0) → entryFree s h size table ≡ true
-  entry-is-free table f =
+  -- the row is passed where the entry of a large-framed object is the value
+  pub entry-holds : (v : ℕ) (table : List ℕ) → (s < wrapper h size → getD table (entryOf s h size) 0 ≡ v) → entryHolds s h size v table ≡ true
+  entry-holds v table f =
       by-frame s h size
-      (λ l. free-small table l)
-      (λ l. free-large table (entryOf s h size) l refl ∙ eq-eqb _ 0 (f l))
+      (λ l. holds-small v table l)
+      (λ l. holds-large v table (entryOf s h size) l refl ∙ eq-eqb _ v (f l))
+
+  -- and nowhere else
+  pub entry-held : (v : ℕ) (table : List ℕ) → entryHolds s h size v table ≡ true → s < wrapper h size → getD table (entryOf s h size) 0 ≡ v
+  entry-held v table e l = eqb-true _ v (sym (holds-large v table (entryOf s h size) l refl) ∙ e)
 
   -- the length stays
   pub length-noted : (entry : ℕ) (table : List ℕ) → length (noted s h size entry table) ≡ length table
@@ -67,6 +71,19 @@ module _ (s h size : ℕ) where
       ap (λ (t : List ℕ). getD t (entryOf s h size) 0) (noted-large entry table (entryOf s h size) l refl)
       ∙ getD-set-same table (entryOf s h size) entry 0 u
 
+-- noting one object's entry leaves those of the objects behind it
+pub holds-kept : (s h size entry k n v : ℕ) (table : List ℕ) → h + 16 + size ≤ k → k + 16 + n ≤ 2 ^ 30
+    → entryHolds s k n v table ≡ true → entryHolds s k n v (noted s h size entry table) ≡ true
+holds-kept s h size entry k n v table behind short e =
+    by-frame s h size
+    (λ l. ap (entryHolds s k n v) (noted-small s h size entry table l) ∙ e)
+    (λ l.
+    entry-holds s k n v (noted s h size entry table)
+    (λ m.
+    ap (λ (t : List ℕ). getD t (entryOf s k n) 0) (noted-large s h size entry table (entryOf s h size) l refl)
+    ∙ getD-set-other table (entryOf s h size) (entryOf s k n) entry 0 (λ q. entries-apart s h size k n behind short l m (sym q))
+    ∙ entry-held s k n v table e m))
+
 -- By the pointer with its entry, as the code has it.
 
 -- the table has the entry, where there is one
@@ -74,10 +91,10 @@ unfoldable pub EntryIn : Tagged → List ℕ → Type 0
 EntryIn (Small p) table = Unit
 EntryIn (Large p i) table = i < length table
 
--- row 9
-unfoldable pub freeFor : Tagged → List ℕ → Bool
-freeFor (Small p) table = true
-freeFor (Large p i) table = eqb (getD table i 0) 0
+-- row 9 or 21: the entry, where there is one, holds the value
+unfoldable pub holdsFor : Tagged → ℕ → List ℕ → Bool
+holdsFor (Small p) v table = true
+holdsFor (Large p i) v table = eqb (getD table i 0) v
 
 -- the table with the entry set
 unfoldable pub notedFor : Tagged → ℕ → List ℕ → List ℕ
@@ -89,12 +106,12 @@ module _ (s h size : ℕ) (table : List ℕ) where
   unfolding EntryIn
   tagged-in f = by-frame s h size (λ l. rw (tagged-small s h size l) tt) (λ l. rw (tagged-large s h size l) (f l))
 
-  pub tagged-free : freeFor (tagged s h size) table ≡ entryFree s h size table
-  unfolding freeFor
-  tagged-free =
+  pub tagged-holds : (v : ℕ) → holdsFor (tagged s h size) v table ≡ entryHolds s h size v table
+  unfolding holdsFor
+  tagged-holds v =
       by-frame s h size
-      (λ l. rw (tagged-small s h size l) (sym (free-small s h size table l)))
-      (λ l. rw (tagged-large s h size l) (sym (free-large s h size table (entryOf s h size) l refl)))
+      (λ l. rw (tagged-small s h size l) (sym (holds-small s h size v table l)))
+      (λ l. rw (tagged-large s h size l) (sym (holds-large s h size v table (entryOf s h size) l refl)))
 
   pub tagged-noted : (entry : ℕ) → notedFor (tagged s h size) entry table ≡ noted s h size entry table
   unfolding notedFor

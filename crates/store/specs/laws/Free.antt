@@ -1,23 +1,26 @@
 -- Free.
 -- In order: where the merged block starts and ends; what is known where the rows are passed; each row, and what is left by the answer; its outcomes; the merged image.
 -- Assumes nothing.
-use Prim.Native.Nat.{ℕ, _+_, _-_, _≤_, _<_}
+use Prim.Native.Nat.{ℕ, _+_, _-_, _^_, _≤_, _<_}
 use mathlib.Core.Path.{_≡_, refl, sym, ap, _∙_}
 use mathlib.Core.Bool.{Bool, true, false, cond, _&&_, _||_, and-false}
-use mathlib.Core.List.{List, _++_}
+use mathlib.Core.List.{List, _++_, append-assoc}
+use mathlib.Core.Logic.{inl, inr}
 use native.Mathlib.Omega.{arith}
 use lib.Dec.{leb, ltb, eqb}
 use lib.ListN.{length, take, drop, replicate, length-append, length-replicate}
 use borrow.Author.Tests.{lt-leb, le-ltb, lt-ltb, eq-eqb, ne-eqb, ltb-true, eqb-true, eqb-false}
 use Rattle.frame.specs.Pointers.{unpack}
 use Rattle.frame.specs.Tags.{entryOf}
-use Rattle.block.specs.Layout.{slotExponent, sound, isFree, extentAt, sizeAt, freeHeader}
+use Rattle.block.specs.Layout.{superblockGood, slotExponent, sound, isFree, headerAt, extentAt, sizeAt, fields, freeHeader}
+use Rattle.block.specs.Bytes.{put}
 use Rattle.block.specs.Walk.{walkTo}
 use Rattle.block.specs.laws.Booleans.{byBool, and-left}
-use Rattle.block.specs.laws.Soundness.{sound-live, sound-extent, sound-end, sound-low}
+use Rattle.block.specs.laws.Soundness.{sound-live, sound-extent, sound-end, sound-low, sound-free-at}
+use Rattle.block.specs.laws.Superblock.{superblock-kept}
 use Rattle.block.specs.laws.WalkTo.{Behind, at-first, at-later, MeetsBlock, walk-to-meets}
-use Rattle.block.specs.laws.Writes.{length-put, put-def}
-use Rattle.block.specs.laws.Headers.{length-header}
+use Rattle.block.specs.laws.Writes.{length-put, put-def, drop-put, put-again}
+use Rattle.block.specs.laws.Headers.{length-header, headerAt-drop, headerAt-put-other}
 use Rattle.block.specs.declared.walk.Met.{Met}
 use Rattle.store.specs.State.{State, outcome, refuse}
 use Rattle.store.specs.Calls.{opening, noted, located, mergeStart, mergeEnd, released, freeChecks, releasedAt, freeRelease, merged, freed, free}
@@ -43,6 +46,11 @@ module _ (image : List ℕ) (h : ℕ) where
   pub merge-start-free : (before : ℕ) → 0 < before → isFree image before ≡ true → mergeStart image before h ≡ before
   unfolding mergeStart
   merge-start-free before l f = rw (lt-ltb 0 before l, f)
+
+  -- by the kind of the block before it
+  pub merge-start-behind : (before : ℕ) → 0 < before → mergeStart image before h ≡ cond (isFree image before) before h
+  unfolding mergeStart
+  merge-start-behind before l = rw (lt-ltb 0 before l) refl
 
 -- and ends
 
@@ -257,18 +265,62 @@ module _ (s : ℕ) (x : State) (o : opening x ≡ Accepted s) where
 
 module _ (image : List ℕ) (from to : ℕ) (room : from + 16 ≤ to) (high : to ≤ length image) where
   -- the bytes that are put
-  length-block : length (freeHeader (to - from) ++ replicate (to - from - 16) 0) ≡ to - from
+  abbrev freeBlock : List ℕ
+  freeBlock = freeHeader (to - from) ++ replicate (to - from - 16) 0
+
+  length-block : length freeBlock ≡ to - from
   length-block = simp (length-append, length-header, length-replicate) (omega arith)
+
+  -- lie in the image
+  block-fits : from + length freeBlock ≤ length image
+  block-fits = omega (arith, length-block)
 
   -- keeps the length
   pub length-merged : length (merged image from to) ≡ length image
   unfolding merged
-  length-merged = length-put image from (freeHeader (to - from) ++ replicate (to - from - 16) 0) (omega (arith, length-block))
+  length-merged = length-put image from freeBlock block-fits
 
   -- and changes only the bytes of the merged block
   pub merged-parts : merged image from to ≡ take from image ++ ((freeHeader (to - from) ++ replicate (to - from - 16) 0) ++ drop to image)
   unfolding merged
   merged-parts =
-      let block : List ℕ = freeHeader (to - from) ++ replicate (to - from - 16) 0 in
-      let e : from + length block ≡ to = omega (arith, length-block) in
-      put-def image from block ∙ ap (λ (n : ℕ). take from image ++ (block ++ drop n image)) e
+      let e : from + length freeBlock ≡ to = omega (arith, length-block) in
+      put-def image from freeBlock ∙ ap (λ (n : ℕ). take from image ++ (freeBlock ++ drop n image)) e
+
+  -- the headers behind it stay
+  pub merged-behind : (k : ℕ) → to ≤ k → headerAt (merged image from to) k ≡ headerAt image k
+  unfolding merged
+  merged-behind k l = headerAt-put-other image from freeBlock k block-fits (inr (omega (arith, length-block)))
+
+  -- and those before it
+  pub merged-before : (k : ℕ) → k + 16 ≤ from → headerAt (merged image from to) k ≡ headerAt image k
+  unfolding merged
+  merged-before k l = headerAt-put-other image from freeBlock k block-fits (inl l)
+
+  module _ (short : length image ≤ 2 ^ 30) where
+    -- its own header is a free block's
+    pub merged-header : headerAt (merged image from to) from ≡ fields (to - from) 1 0 0 0
+    unfolding merged
+    merged-header =
+        headerAt-drop (put image from freeBlock) from (to - from) 1 0 0 0 _
+        (drop-put image from freeBlock block-fits ∙ append-assoc (freeHeader (to - from)) (replicate (to - from - 16) 0) _)
+        (record { extent-fits = omega arith; kind-fits = omega arith; type-fits = omega arith; size-fits = omega arith; cue-fits = omega arith })
+
+    -- and sound
+    pub merged-sound : 16 ≤ from → sound (merged image from to) from ≡ true
+    merged-sound low =
+        let n : length (merged image from to) ≡ length image = length-merged in
+        sound-free-at (merged image from to) from (to - from) merged-header low (omega arith) (omega arith)
+
+  -- the superblock stays
+  pub merged-front : 16 ≤ from → (superblockGood (merged image from to) ≡ superblockGood image) × (slotExponent (merged image from to) ≡ slotExponent image)
+  unfolding merged
+  merged-front low = superblock-kept image from freeBlock block-fits low
+
+-- a longer block from the same place swallows it
+pub merged-again : (image : List ℕ) (from to end : ℕ) → from + 16 ≤ to → to ≤ end → end ≤ length image → merged (merged image from to) from end ≡ merged image from end
+unfolding merged
+merged-again image from to end room l high =
+    let n = length-block image from to room (omega arith) in
+    let m = length-block image from end (omega arith) high in
+    put-again image from (freeBlock image from to room (omega arith)) (freeBlock image from end (omega arith) high) (omega arith) (omega arith)

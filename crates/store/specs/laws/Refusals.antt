@@ -5,9 +5,9 @@ use mathlib.Core.Bool.{Bool, true, false}
 use mathlib.Core.Logic.{_↔_}
 use native.Mathlib.Omega.{arith}
 use Rattle.block.specs.laws.Booleans.{true-false}
-use Rattle.store.specs.State.{refusalNumber, returned, demand, andThen}
+use Rattle.store.specs.State.{refusalNumber, returned, value, demand, andThen}
 use Rattle.store.specs.declared.answer.Refusal.{Refusal}
-use Rattle.store.specs.declared.answer.Refusal.the-variants.{BadExponent, BadLength, TooFewEntries, BadSuperblock, ShortTable, Empty, Unsound, NoSpace, EntryTaken, BadTag, Dangling, Leaves, OutOfBounds, BadWidth, NotBase, TooLarge, Unterminated}
+use Rattle.store.specs.declared.answer.Refusal.the-variants.{BadExponent, BadLength, TooFewEntries, BadSuperblock, ShortTable, Empty, Unsound, NoSpace, EntryTaken, BadTag, Dangling, Leaves, OutOfBounds, BadWidth, NotBase, TooLarge, Unterminated, EntryLost}
 use Rattle.store.specs.declared.answer.Answer.{Answer}
 use Rattle.store.specs.declared.answer.Answer.the-variants.{Accepted, Refused}
 
@@ -30,10 +30,16 @@ refusal-range BadWidth = (omega arith, omega arith)
 refusal-range NotBase = (omega arith, omega arith)
 refusal-range TooLarge = (omega arith, omega arith)
 refusal-range Unterminated = (omega arith, omega arith)
+refusal-range EntryLost = (omega arith, omega arith)
 
 -- no refusal has the number 0
 pub refused-some : (r : Refusal) → refusalNumber r ≡ 0 → ⊥
 refused-some r e = omega (arith, refusal-range r .0)
+
+-- an answer that is accepted has a value
+pub accepted-is : (a : Answer) → returned a ≡ 0 → a ≡ Accepted (value a)
+accepted-is (Accepted v) e = refl
+accepted-is (Refused r) e = absurd (refused-some r e)
 
 -- a test is accepted exactly where it holds
 pub demand-iff : (ok : Bool) (r : Refusal) (v : ℕ) → (returned (demand ok r (Accepted v)) ≡ 0) ↔ (ok ≡ true)

@@ -11,7 +11,7 @@ returns : tie.Need-returns
 unfolding headerAt
 returns c =
     let s : tie.Start = search in
-    rw (s .pre .2, c .before .before .type-at .ensures, c .before .size-at .ensures, c .read4 .ensures) (sym (free-by _ _ (s .pre .0) (s .pre .1) (s .pre .3)))
+    rw (s .pre .2, c .before .before .type-at .ensures, c .before .size-at .ensures, c .cue-at .ensures) (sym (free-by _ _ (s .pre .0) (s .pre .1) (s .pre .3)))
 
 pub free-sound-spec : {M : Type 1} → statement M
 free-sound-spec =
@@ -20,6 +20,5 @@ free-sound-spec =
     (λ c. search needs)
     (λ c κs. search needs)
     (λ c κs. search needs)
-    (λ c. search needs)
     (λ c κs. search needs)
     returns)

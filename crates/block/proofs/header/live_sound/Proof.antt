@@ -10,11 +10,11 @@ use Rattle.block.proofs.header.live_sound.Statement.{statement}
 use Rattle.block.proofs.header.live_sound.Tie as tie
 
 -- the size that was read fits four bytes
-size-fits : (c : tie.After-read4) → c .before .size-at .result < 2 ^ 32
+size-fits : (c : tie.After-size-at) → c .size-at .result < 2 ^ 32
 size-fits c =
     let s : tie.Start = search in
-    let f = headerAt-fitting (s .args .image .now) (λ k. c .before .before .shared-slice-known .given k .fits) (s .args .h) in
-    omega (arith, c .before .size-at .ensures)
+    let f = headerAt-fitting (s .args .image .now) (λ k. c .before .shared-slice-known .given k .fits) (s .args .h) in
+    omega (arith, c .size-at .ensures)
 
 -- 16 + size
 add-result : tie.Need-add-result
@@ -29,14 +29,12 @@ returns : tie.Need-returns
 unfolding headerAt
 returns c =
     let s : tie.Start = search in
-    rw (s .pre .2, c .before .size-at .ensures, c .read4 .ensures) (sym (live-by _ _ (s .pre .0) (s .pre .1) (s .pre .3)))
+    rw (s .pre .2, c .size-at .ensures) (sym (live-by _ _ (s .pre .0) (s .pre .1) (s .pre .3)))
 
 pub live-sound-spec : {M : Type 1} → statement M
 live-sound-spec =
     tie.close
     (tie.spec
-    (λ c. search needs)
-    (λ c κs. search needs)
     (λ c. search needs)
     (λ c κs. search needs)
     add-result

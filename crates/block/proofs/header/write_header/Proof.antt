@@ -10,7 +10,7 @@ unfolding header
 returns c =
     let start : tie.Start = search in
     let a = start .args in
-    cc (put-fields (a .image .now) (a .h) (a .extent) (a .kind) (a .ty) (a .size) 0 (start .pre))
+    cc (put-fields (a .image .now) (a .h) (a .extent) (a .kind) (a .ty) (a .size) (a .cue) (start .pre))
 
 pub write-header-spec : {M : Type 1} → statement M
 write-header-spec =

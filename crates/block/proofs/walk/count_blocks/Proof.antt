@@ -6,7 +6,8 @@ use native.Mathlib.Omega.{arith}
 use lib.ListN.{length}
 use borrow.Author.Needs.{needs}
 use Rattle.block.specs.Walk.{countOf, countBlocks}
-use Rattle.block.proofs.Turns.{Seen, seen-at, size-inside, at-unsound, Counting, counts-none, counts-all, counts-live, counts-free}
+use Rattle.block.specs.laws.Turns.{Seen, seen-at, size-inside, at-unsound}
+use Rattle.block.proofs.Counting.{Counting, counts-none, counts-all, counts-live, counts-free}
 use Rattle.block.proofs.walk.count_blocks.Statement.{statement}
 use Rattle.block.proofs.walk.count_blocks.Tie as tie
 

@@ -9,7 +9,7 @@ use lib.ListN.{length}
 use borrow.Author.Needs.{needs}
 use borrow.Author.Tests.{eq-eqb, ne-eqb}
 use Rattle.block.specs.Walk.{fitting, fitOf, firstFit}
-use Rattle.block.proofs.Turns.{Walking, Seen, seen-at, begins, at-end, at-unsound, at-stop, goes-on}
+use Rattle.block.specs.laws.Turns.{Walking, Seen, seen-at, begins, at-end, at-unsound, at-stop, goes-on}
 use Rattle.block.proofs.walk.first_fit.Statement.{statement}
 use Rattle.block.proofs.walk.first_fit.Tie as tie
 

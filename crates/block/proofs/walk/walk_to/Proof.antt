@@ -7,7 +7,7 @@ use lib.ListN.{length}
 use borrow.Author.Needs.{needs}
 use borrow.Author.Tests.{le-leb, lt-leb, eq-eqb, ne-eqb}
 use Rattle.block.specs.Walk.{reaching, metOf, walkTo}
-use Rattle.block.proofs.Turns.{Walking, Seen, seen-at, begins, at-end, at-unsound, at-stop, goes-on}
+use Rattle.block.specs.laws.Turns.{Walking, Seen, seen-at, begins, at-end, at-unsound, at-stop, goes-on}
 use Rattle.block.proofs.walk.walk_to.Statement.{statement}
 use Rattle.block.proofs.walk.walk_to.Tie as tie
 

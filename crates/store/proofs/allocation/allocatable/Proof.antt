@@ -1,4 +1,4 @@
--- `store::allocation::allocatable` meets its contract: 6, then 7 or 8 as first fit ends, then 9 (`entry_free`). Assumes nothing.
+-- `store::allocation::allocatable` meets its contract: 6, then 7 or 8 as first fit ends, then 9 (`entry_holds`). Assumes nothing.
 use mathlib.Core.Path.{_≡_, sym, ap, _∙_}
 use Prim.Native.Nat.{_+_, _^_, _≤_, _<_}
 use lib.ListN.{length}
@@ -7,9 +7,9 @@ use Rattle.frame.specs.declared.tag.Tagged.{Tagged}
 use Rattle.block.specs.Walk.{firstFit}
 use Rattle.block.specs.declared.walk.Fit.the-variants as fit
 use Rattle.store.specs.State.{state}
-use Rattle.store.specs.Calls.{entryFree}
+use Rattle.store.specs.Calls.{entryHolds}
 use Rattle.store.specs.laws.Opening.{opening-parts}
-use Rattle.store.specs.laws.Entries.{freeFor, tagged-in, tagged-free}
+use Rattle.store.specs.laws.Entries.{holdsFor, tagged-in, tagged-holds}
 use Rattle.store.specs.laws.Allocate.{site-refused, site-at, allocate-empty, allocate-unsound, allocate-full, allocate-taken, allocate-given}
 use Rattle.store.proofs.Carving.{fit-needs}
 use borrow.Author.Needs.{needs}
@@ -35,17 +35,17 @@ needed c = fit-needs (state _ _) _ _ _ (opening-parts _ _ (start (at-some c) .pr
 tag-object-requires : tie.Need-tag-object-requires
 tag-object-requires c κs = let n = needed (c .before) in (n .0, n .1, n .2)
 
-entry-free-requires : tie.Need-entry-free-requires
-entry-free-requires c κs = rw (c .tag-object .ensures) (tagged-in _ _ _ _ (needed (c .before .before) .3))
+entry-holds-requires : tie.Need-entry-holds-requires
+entry-holds-requires c κs = rw (c .tag-object .ensures) (tagged-in _ _ _ _ (needed (c .before .before) .3))
 
 -- row 9, as it was tested
-tested : (c : tie.After-entry-free) → let h = c .before .before .before in let a = start (at-some h) .args in
-    entryFree (a .s) (h .h .given .0 .0) (a .size) (a .table .now) ≡ c .entry-free .result
+tested : (c : tie.After-entry-holds) → let h = c .before .before .before in let a = start (at-some h) .args in
+    entryHolds (a .s) (h .h .given .0 .0) (a .size) 0 (a .table .now) ≡ c .entry-holds .result
 tested c =
     let h = c .before .before .before in
     let a = start (at-some h) .args in
-    sym (tagged-free (a .s) (h .h .given .0 .0) (a .size) (a .table .now)) ∙ ap (λ (t : Tagged). freeFor t (a .table .now)) (sym (c .before .tag-object .ensures))
-    ∙ sym (c .entry-free .ensures)
+    sym (tagged-holds (a .s) (h .h .given .0 .0) (a .size) (a .table .now) 0) ∙ ap (λ (t : Tagged). holdsFor t 0 (a .table .now)) (sym (c .before .tag-object .ensures))
+    ∙ sym (c .entry-holds .ensures)
 
 -- row 6
 returns : tie.Need-returns
@@ -87,7 +87,7 @@ allocatable-spec =
     (λ c. search needs)
     (λ c. search needs)
     tag-object-requires
-    entry-free-requires
+    entry-holds-requires
     returns-2
     returns-3
     returns-4

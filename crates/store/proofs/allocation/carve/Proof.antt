@@ -28,14 +28,14 @@ returns : tie.Need-returns
 returns c =
     let t = c .before .before .before .before in
     let a = start (t .before) .args in
-    cc (carved-whole (a .image .now) (a .h) (a .size) (a .ty) _ (t .before .extent-at .ensures) (t .if1 .taken))
+    cc (carved-whole (a .image .now) (a .h) (a .size) (a .ty) (a .cue) _ (t .before .extent-at .ensures) (t .if1 .taken))
 
 -- and a rest
 returns-2 : tie.Need-returns-2
 returns-2 c =
     let t = at-rest (c .before .before .before) in
     let a = start (t .before) .args in
-    cc (carved-rest (a .image .now) (a .h) (a .size) (a .ty) _ (t .before .extent-at .ensures) (t .if1 .left))
+    cc (carved-rest (a .image .now) (a .h) (a .size) (a .ty) (a .cue) _ (t .before .extent-at .ensures) (t .if1 .left))
 
 pub carve-spec : {M : Type 1} → statement M
 carve-spec =

@@ -1,4 +1,4 @@
--- `store::allocate` meets its contract: refused by `opening` or `allocatable`, or the block is carved and its entry noted. Assumes nothing.
+-- `store::allocate_for` meets its contract: refused by `opening` or `allocatable`, or the block is carved and its entry noted. Assumes nothing.
 use mathlib.Core.Path.{_≡_, sym, ap, _∙_}
 use native.Mathlib.Omega.{arith}
 use Rattle.frame.specs.Tags.{pointerTo}
@@ -12,8 +12,8 @@ use Rattle.store.specs.laws.Entries.{notedFor, tagged-in, tagged-noted}
 use Rattle.store.specs.declared.answer.Answer.the-variants.{Accepted}
 use Rattle.store.proofs.Carving.{fit-needs}
 use borrow.Author.Needs.{needs}
-use Rattle.store.proofs.allocation.allocate.Statement.{statement}
-use Rattle.store.proofs.allocation.allocate.Tie as tie
+use Rattle.store.proofs.allocation.allocate_for.Statement.{statement}
+use Rattle.store.proofs.allocation.allocate_for.Tie as tie
 
 -- The places: where rows 4 and 5 are passed, where all are, and where the entry is noted.
 abbrev start : tie.After-s → tie.Start
@@ -61,23 +61,23 @@ pack-requires c κs =
 
 -- row 4 or 5
 returns : tie.Need-returns
-returns c = allocate-declined _ (state _ _) _ _ (sym (allocate-shut _ (state _ _) _ (sym (c .before .before .before .opening .ensures) ∙ c .before .r .given .1)))
+returns c = allocate-declined _ (state _ _) _ _ _ (sym (allocate-shut _ (state _ _) _ (sym (c .before .before .before .opening .ensures) ∙ c .before .r .given .1)))
 
 -- row 6, 7, 8 or 9
 returns-2 : tie.Need-returns-2
-returns-2 c = allocate-declined _ (state _ _) _ _ (site-declined _ _ _ _ (sym (c .before .before .before .allocatable .ensures) ∙ c .before .r2 .given .1))
+returns-2 c = allocate-declined _ (state _ _) _ _ _ (site-declined _ _ _ _ (sym (c .before .before .before .allocatable .ensures) ∙ c .before .r2 .given .1))
 
 -- the object
 returns-3 : tie.Need-returns-3
 returns-3 c =
     let n = c .before .before .before .before in
     let h = at-passed (n .before) in
-    allocate-done _ (state _ _) _ _ _ _ _ _ _ (chosen h .0) (opens (at-open h) .exponent) (n .before .before .before .before .carve .ensures) (pointer-is (c .before))
+    allocate-done _ (state _ _) _ _ _ _ _ _ _ _ (chosen h .0) (opens (at-open h) .exponent) (n .before .before .before .before .carve .ensures) (pointer-is (c .before))
     (n .note .ensures ∙ ap (λ (t : Tagged). notedFor t (h .h .given .0 .0) (start (at-open h) .args .table .now)) (chosen h .1) ∙ tagged-noted _ _ _ _ _)
     (c .pack .ensures)
 
-pub allocate-spec : {M : Type 1} → statement M
-allocate-spec =
+pub allocate-for-spec : {M : Type 1} → statement M
+allocate-for-spec =
     tie.close
     (tie.spec
     (λ c κs. search needs)

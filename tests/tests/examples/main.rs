@@ -96,7 +96,7 @@ fn in_succession<S: Store>(store: S) {
         (1, 126, 143, 8, 0x000800000000008E, Some(1)),
     ] {
         assert_eq!(lent.allocate(size), pointer);
-        assert_eq!(model::sound(&lent.image, h), Some(Header::live(e - h, 0, size)));
+        assert_eq!(model::sound(&lent.image, h), Some(Header::live(e - h, 0, size, 0)));
         assert_eq!(model::frame_number(h, e), wrapper);
         if let Some(entry) = entry {
             assert_eq!(lent.table[entry], h);
@@ -293,12 +293,12 @@ fn two_pointers<S: Store>(store: S) {
 fn smallest_image<S: Store + Copy>(store: S) {
     let mut lent = Lent::fresh(store, 64);
     lent.allocate(16);
-    assert_eq!(model::sound(&lent.image, 16), Some(Header::live(32, 0, 16)));
+    assert_eq!(model::sound(&lent.image, 16), Some(Header::live(32, 0, 16, 0)));
     assert_eq!(model::sound(&lent.image, 48), Some(Header::free(16)));
 
     let mut lent = Lent::fresh(store, 64);
     lent.allocate(17);
-    assert_eq!(model::sound(&lent.image, 16), Some(Header::live(48, 0, 17)));
+    assert_eq!(model::sound(&lent.image, 16), Some(Header::live(48, 0, 17, 0)));
 
     let mut lent = Lent::fresh(store, 64);
     assert_eq!(lent.allocate(32), 0x0007000000000020);
@@ -340,7 +340,7 @@ fn headers_of(kind: u16) -> Vec<Header> {
     for extent in [0, 15, 16, 32, 48, 49, u32::MAX] {
         for type_number in [0, 1, 2, u16::MAX] {
             for size in [0, 1, 16, 17, 32, 33, u32::MAX] {
-                headers.extend([0, 1, 2, u32::MAX].map(|zero| Header { extent, kind, type_number, size, zero }));
+                headers.extend([0, 1, 2, u32::MAX].map(|last| Header { extent, kind, type_number, size, last }));
             }
         }
     }
@@ -358,17 +358,18 @@ fn kinds<S: Store>(store: S) {
         for header in headers_of(kind) {
             lent.image[16..32].copy_from_slice(&header.bytes());
             let before = lent.image.clone();
-            let fits_kind = match kind {
-                1 => header.type_number == 0 && [(16, 0), (32, 0), (48, 0)].contains(&(header.extent, header.size)),
+            let sound = match kind {
+                1 => header.type_number == 0 && header.last == 0 && [(16, 0), (32, 0), (48, 0)].contains(&(header.extent, header.size)),
                 2 => [(32, 1), (32, 16), (48, 17), (48, 32)].contains(&(header.extent, header.size)),
                 _ => false,
             };
-            let sound = fits_kind && header.zero == 0;
             // an object of 32 bytes there is large-framed, and has another pointer
             let leads_home = sound && kind == 2 && header.size != 32;
-            let calls = [Call::Tally, Call::Allocate { size: 64, type_number: 0 }, Call::Load { pointer, width: 1 }];
+            // no object carries this cue
+            let calls = [Call::Tally, Call::Release { cue: 3 }, Call::Allocate { size: 64, type_number: 0 }, Call::Load { pointer, width: 1 }];
             let refusals = calls.map(|call| lent.refusal(call));
-            assert_eq!(refusals, [if sound { 0 } else { 7 }, if sound { 8 } else { 7 }, if leads_home { 0 } else { 11 }], "{header:?}");
+            let walked = if sound { 0 } else { 7 };
+            assert_eq!(refusals, [walked, walked, if sound { 8 } else { 7 }, if leads_home { 0 } else { 11 }], "{header:?}");
             if !sound {
                 assert_eq!(lent.refusal(Call::Free { pointer }), 11, "{header:?}");
             }
@@ -401,6 +402,12 @@ fn largest_image<S: Store>(store: S) {
     assert_eq!(lent.table[31 - 15 - 1], 0);
     assert_eq!(lent.call(Call::Tally).values, [0, 0, (1 << 30) - 16, 0]);
     assert_eq!(lent.refusal(Call::Load { pointer, width: 1 }), 11);
+    // the same by release
+    assert_eq!(lent.call(Call::AllocateFor { size: length, type_number: 0, cue: u32::MAX }).values[0], pointer);
+    assert_eq!(lent.table[31 - 15 - 1], 16);
+    assert_eq!(lent.call(Call::Release { cue: u32::MAX }), Answer::new(0, [1]));
+    assert_eq!(lent.table[31 - 15 - 1], 0);
+    assert_eq!(lent.call(Call::Tally).values, [0, 0, (1 << 30) - 16, 0]);
 }
 
 /// Above 2^30 nothing but the superblock may be looked at; the pages of this buffer are never touched otherwise.
@@ -409,7 +416,7 @@ fn past_the_largest_image<S: Store>(store: S) {
     let mut image = vec![0u8; length];
     let mut table = vec![0u64; 8];
     assert_eq!(store.call(&mut image, &mut table, Call::SetUp { slot_exponent: 6 }).refusal, 2);
-    image[..16].copy_from_slice(&Header { extent: 16, kind: 3, type_number: 6, size: length as u32, zero: 0 }.bytes());
+    image[..16].copy_from_slice(&Header { extent: 16, kind: 3, type_number: 6, size: length as u32, last: 0 }.bytes());
     assert_eq!(store.call(&mut image, &mut table, Call::Tally).refusal, 4);
     image[8..12].copy_from_slice(&(1u32 << 30).to_le_bytes());
     assert_eq!(store.call(&mut image, &mut table, Call::Tally).refusal, 4);
@@ -452,3 +459,5 @@ macro_rules! on_each_store {
 
 on_each_store!(set_up in_succession largest_small moves bounds widths compares texts two_pointers smallest_image);
 on_each_store!(tallies kinds largest_image past_the_largest_image past_32_bits);
+
+mod cues;

@@ -1,9 +1,9 @@
--- A turn of a loop that walks: what is left of the walk, the header that was examined, how the walk ends or goes on, and what is counted. Assumes nothing.
-use mathlib.Core.Path.{_≡_, refl, sym, ap, _∙_, subst}
+-- A turn of a loop that walks: what is left of the walk, the header that was examined, and how the walk ends or goes on. Assumes nothing.
+use mathlib.Core.Path.{_≡_, sym, ap, _∙_, subst}
 use mathlib.Core.List.{List}
 use mathlib.Core.Bool.{true, false}
 use mathlib.Core.Logic.{_⊎_, ⊎-elim}
-use Prim.Native.Nat.{ℕ, _+_, _*_, _-_, _≤_}
+use Prim.Native.Nat.{ℕ, _+_, _≤_}
 use native.Mathlib.Omega.{arith}
 use lib.ListN.{length}
 use lib.Dec.{eqb}
@@ -11,13 +11,10 @@ use borrow.Author.Tests.{eq-eqb, eqb-true, eqb-false}
 use Rattle.block.specs.laws.Booleans.{byBool}
 use Rattle.block.specs.Layout.{headerAt, sound}
 use Rattle.block.specs.laws.Soundness.{examined, Free, Live, sound-kinds, sound-live, sound-extent, sound-end, examined-is-sound, examined-is-unsound}
-use Rattle.block.specs.Walk.{stopped, unsound, ended, Search, walkFrom, walk, noCounts, counting, countBlocks}
-use Rattle.block.specs.laws.Walks.{walk-ended, walk-unsound, walk-stopped, walk-next}
-use Rattle.block.specs.laws.Counting.{same-counts, passes-live, passes-free, count-is}
+use Rattle.block.specs.Walk.{stopped, unsound, ended, Search, walkFrom, walk}
+use Rattle.block.specs.laws.Walks.{walk-begins, walk-ended, walk-unsound, walk-stopped, walk-next}
 use Rattle.block.specs.declared.header.Header.{Header}
 use Rattle.block.specs.declared.header.Examined.the-variants as examining
-use Rattle.block.specs.declared.walk.Counts.{Counts}
-use Rattle.block.specs.declared.walk.Counted.the-variants as counted
 
 -- the loops' invariant: the walk from h on, with `a` gathered, is what is left of the whole walk
 pub record Walking {A : Type 0} (s : Search A) (image : List ℕ) (first a : A) (h : ℕ) : Type 0 where
@@ -59,9 +56,9 @@ size-inside {image} {h} {d} e =
     (λ t. omega (arith, live-holds e (eqb-true _ _ t)))
     (λ t. omega (arith, free-empty e (eqb-false _ _ t)))
 
+-- at 16 all of it is left
 pub begins : {A : Type 0} (s : Search A) (image : List ℕ) (first : A) → Walking s image first first 16
-unfolding walk
-begins s image first = record { rest = refl }
+begins s image first = record { rest = walk-begins s image first }
 
 module _ {A : Type 0} {s : Search A} {image : List ℕ} {first a : A} {h : ℕ} (w : Walking s image first a h) where
   -- the walk ends: at the image's end, or at an unsound header
@@ -80,41 +77,3 @@ module _ {A : Type 0} {s : Search A} {image : List ℕ} {first a : A} {h : ℕ} 
     goes-on t =
         let step = walk-next s image a h (e .is-sound) (ap (s .stops h) (sym (e .is-header)) ∙ t) in
         record { rest = ap (λ (x : Header). walkFrom s image (s .passes a h x) (h + x .extent)) (e .is-header) ∙ sym step ∙ w .rest }
-
--- the counts up to h: what is neither live nor free is overhead
-abbrev countsUpTo : ℕ → ℕ → ℕ → ℕ → Counts
-countsUpTo h objects live free = record { objects = objects; live = live; free = free; overhead = h - (16 + live + free) }
-
--- the invariant of the count: the blocks up to h are counted, and live headers, live bytes and free bytes fit below h
-pub record Counting (image : List ℕ) (h objects live free : ℕ) : Type 0 where
-  pub rest : Walking counting image noCounts (countsUpTo h objects live free) h
-  pub below : 16 + 16 * objects + live + free ≤ h
-
--- at 16 no block is counted yet
-pub counts-none : (image : List ℕ) → Counting image 16 0 0 0
-counts-none image = record { rest = begins counting image noCounts; below = omega arith }
-
-module _ {image : List ℕ} {h objects live free : ℕ} (w : Counting image h objects live free) where
-  -- all blocks are counted
-  pub counts-all : h ≡ length image
-      → counted.Counts (record { objects = objects; live = live; free = free; overhead = length image - 16 - live - free }) ≡ countBlocks image
-  counts-all e =
-      ap counted.Counts (same-counts refl refl refl (omega arith)) ∙ sym (count-is image (countsUpTo h objects live free) (sym (at-end (w .rest) e)))
-
-  module _ {d : Header} (e : Seen image h d) where
-    -- a block more, whose counts are o, n and f
-    counts-more : {o n f : ℕ} → counting .passes (countsUpTo h objects live free) h d ≡ countsUpTo (h + d .extent) o n f → 16 + 16 * o + n + f ≤ h + d .extent
-        → Counting image (h + d .extent) o n f
-    counts-more q l = record { rest = subst (λ (x : Counts). Walking counting image noCounts x (h + d .extent)) q (goes-on (w .rest) e refl); below = l }
-
-    -- a live one
-    pub counts-live : d .kind ≡ 2 → Counting image (h + d .extent) (objects + 1) (live + d .size) free
-    counts-live k =
-        let holds : 16 + d .size ≤ d .extent = live-holds e k in
-        counts-more (passes-live _ h d k ∙ same-counts refl refl refl (omega (arith, w .below))) (omega (arith, w .below))
-
-    -- a free one
-    pub counts-free : (d .kind ≡ 2 → ⊥) → Counting image (h + d .extent) objects (live + d .size) (free + d .extent)
-    counts-free k =
-        let none : d .size ≡ 0 = free-empty e k in
-        counts-more (passes-free _ h d k ∙ same-counts refl (omega arith) refl (omega (arith, w .below))) (omega (arith, w .below, e .long))

@@ -1,7 +1,11 @@
-//! What occurs in the calls with two pointers, beside their answers: seen in image and table as they were before.
+//! What occurs in the calls with two pointers, and in release, beside their answers: seen in image and table as they were
+//! before.
+
+mod releases;
 
 use crate::model::{self, Pointer};
 use crate::store::{Answer, Call};
+use releases::Releases;
 use std::fmt;
 
 const CALLS: [&str; 3] = ["copy", "compare", "text copy"];
@@ -18,6 +22,7 @@ pub struct Seen {
     /// Accepted compares by the place of the first difference.
     differences: [u64; PLACES],
     texts: [u64; TEXTS.len()],
+    releases: Releases,
 }
 
 /// A pointer, the bytes from its address to its body's end, and those behind. A pointer whose first byte is refused has none.
@@ -104,6 +109,7 @@ impl Seen {
             Call::Copy { target, source, length } => (0, target, source, length as usize),
             Call::Compare { left, right, length } => (1, left, right, length as usize),
             Call::CopyText { target, source } => (2, source, target, 1),
+            Call::Release { cue } => return self.releases.look(image, table, cue, answer),
             _ => return,
         };
         let Ok(s) = model::open(image, table) else { return };
@@ -135,6 +141,7 @@ impl Seen {
         all.extend(COMPARES.iter().zip(self.compares).map(|((what, _), count)| (format!("compare: {what}"), count)));
         all.extend(self.differences.iter().enumerate().map(|(place, &count)| (format!("compare: differs at {place}"), count)));
         all.extend(TEXTS.iter().zip(self.texts).map(|((what, _), count)| (format!("text copy: {what}"), count)));
+        all.extend(self.releases.all().map(|(what, count)| (format!("release: {what}"), count)));
         all
     }
 
@@ -152,6 +159,7 @@ impl fmt::Display for Seen {
         let list = |rows: &[Row], counts: &[u64]| rows.iter().zip(counts).map(|((what, _), count)| format!("{what} {count}")).collect::<Vec<_>>().join(", ");
         writeln!(f, "compares: {}", list(&COMPARES, &self.compares))?;
         writeln!(f, "accepted by the place of the first difference 0..{}: {:?}", PLACES - 1, self.differences)?;
-        write!(f, "text copies: {}", list(&TEXTS, &self.texts))
+        writeln!(f, "text copies: {}", list(&TEXTS, &self.texts))?;
+        write!(f, "releases: {}", self.releases.all().map(|(what, count)| format!("{what} {count}")).collect::<Vec<_>>().join(", "))
     }
 }

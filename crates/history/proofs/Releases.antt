@@ -1,0 +1,276 @@
+-- A release on an image and table with the invariant.
+-- In order: lists in the order of addresses; the cue's objects, so ordered; freeing them singly; what a release comes to. Assumes nothing.
+use Prim.Native.Nat.{ℕ, zero, suc, _+_, _≤_, _<_}
+use mathlib.Core.Path.{_≡_, refl, sym, ap, _∙_, subst}
+use mathlib.Core.Bool.{Bool, true, not}
+use mathlib.Core.List.{List, [], _∷_, List·Memᴰ·head, List·Memᴰ·tail, List·Memᴰ·not-nil, List·Memᴰ·cases-cons}
+use mathlib.Core.Logic.{_↔_, ⊎-elim}
+use mathlib.Core.Option.{Option, none, some}
+use native.Mathlib.Omega.{arith}
+use lib.ListN.{length, getD}
+use lib.Dec.{eqb}
+use borrow.Author.Tests.{eq-eqb, ne-eqb, eqb-true, eqb-false}
+use Rattle.block.specs.laws.Booleans.{byBool, and-both}
+use Rattle.frame.specs.Pointers.{pack}
+use Rattle.frame.specs.Tags.{pointerTo}
+use Rattle.block.specs.Layout.{sizeAt}
+use Rattle.store.specs.State.{State, Outcome, IsAccepted, value}
+use Rattle.store.specs.Calls.{entryHolds, free, allHeld, pointersTo, freeEach, releaseCue}
+use Rattle.store.specs.Step.{releases}
+use Rattle.store.specs.Claims.{EachFreed, none-left, one-freed}
+use Rattle.store.specs.laws.Entries.{entry-holds}
+use Rattle.store.specs.laws.Release.{all-held-none, all-held-one, pointers-to-none, pointers-to-one, free-each-none, free-each-one, release-is}
+use Rattle.store.specs.declared.answer.Answer.the-variants.{Accepted}
+use Rattle.history.specs.Heap.{Object, Heap, without, ofCue, withoutCue, hear}
+use Rattle.history.specs.History.{Configuration, Pairwise, In, headerOf}
+use Rattle.history.specs.Release.{answers, FreedSingly}
+use Rattle.history.proofs.Gaps.{extent, Layout, last, item, lookup, blockAt}
+use Rattle.history.proofs.Looks.{look-first, look-rest, look-inside}
+use Rattle.history.proofs.Gathering.{placesIn, gather-layout}
+use Rattle.history.proofs.Heap.{find, Distinct, none-some, some-same, find-place, find-in, in-find, getD-in, find-without, found-passing, distinct-passing, same-count}
+use Rattle.history.proofs.Invariant.{Invariant, known, object-of, no-object, exponent-is, opens, relisted}
+use Rattle.history.proofs.Steps.{free-live}
+
+-- in the order of their addresses
+abbrev Sorted : Heap → Type 0
+Sorted [] = Unit {0}
+Sorted (o ∷ os) = ((o′ : Object) → In o′ os → headerOf o < headerOf o′) × Sorted os
+
+-- any two of them
+sorted-pairs : (os : Heap) → Sorted os → Pairwise os (λ o o′. headerOf o < headerOf o′)
+sorted-pairs [] c i j d l u = absurd (omega arith)
+sorted-pairs (o ∷ os) c zero zero d l u = absurd (omega arith)
+sorted-pairs (o ∷ os) c (suc i) zero d l u = absurd (omega arith)
+sorted-pairs (o ∷ os) c zero (suc j) d l u = c .0 (getD os j d) (getD-in os j d (omega arith))
+sorted-pairs (o ∷ os) c (suc i) (suc j) d l u = sorted-pairs os (c .1) i j d (omega arith) (omega arith)
+
+-- no two of them have one header place
+sorted-distinct : (os : Heap) → Sorted os → Distinct os
+sorted-distinct [] c = tt
+sorted-distinct (o ∷ os) c = (go (find os (headerOf o)) refl, sorted-distinct os (c .1))
+  where
+    go : (r : Option Object) → find os (headerOf o) ≡ r → r ≡ none
+    go none e = refl
+    go (some o′) e = absurd (omega (arith, c .0 o′ (find-in os (headerOf o) o′ e), find-place os (headerOf o) o′ e))
+
+-- The cue's objects from h on, in the order of their addresses, and what release needs of their places.
+record Gathered (s cue : ℕ) (x : State) (heap : Heap) (h : ℕ) (places : List ℕ) : Type 0 where
+  pub objects : Heap
+  pub sorted : Sorted objects
+  pub low : (o : Object) → In o objects → h ≤ headerOf o
+  pub live : (o : Object) → In o objects → (find heap (headerOf o) ≡ some o) × (o .cue ≡ cue)
+  pub all : (o : Object) → find heap (headerOf o) ≡ some o → h ≤ headerOf o → o .cue ≡ cue → In o objects
+  pub pointers : pointersTo s (x .image) places ≡ answers objects
+  pub count : length places ≡ length objects
+  pub held : allHeld s places x ≡ true
+
+-- What freeing these objects singly leaves: their places are empty, and the others are as they were.
+record Freed (s L : ℕ) (x : State) (heap os : Heap) : Type 0 where
+  pub each : EachFreed (answers os) x
+  pub new : Heap
+  pub left : Invariant s L (freeEach (answers os) x) new
+  pub gone : (o : Object) → In o os → find new (headerOf o) ≡ none
+  pub stays : (k : ℕ) → ((o : Object) → In o os → headerOf o ≡ k → ⊥) → find new k ≡ find heap k
+
+-- an object in a list that has one more in front
+in-cons : {P : Object → Type 0} (o : Object) (os : Heap) → P o → ((o′ : Object) → In o′ os → P o′) → (o′ : Object) → In o′ (o ∷ os) → P o′
+in-cons {P} o os p q o′ m = ⊎-elim (λ (e : o′ ≡ o). subst P (sym e) p) (q o′) (List·Memᴰ·cases-cons m)
+
+module _ {s L : ℕ} {x : State} {heap : Heap} (i : Invariant s L x heap) where
+  -- the row 21 of a live object is passed
+  entry-kept : (k : ℕ) (o : Object) → find heap k ≡ some o → entryHolds s k (sizeAt (x .image) k) k (x .table) ≡ true
+  entry-kept k o e = rw (known (i .laid) k o e .size) (entry-holds s k (o .size) k (x .table) (i .tabled .placed k o e))
+
+  -- the pointer to it is allocate's answer
+  pointer-kept : (k : ℕ) (o : Object) → find heap k ≡ some o → pack (pointerTo s k (sizeAt (x .image) k)) ≡ o .answer
+  pointer-kept k o e = ap (λ (n : ℕ). pack (pointerTo s k n)) (known (i .laid) k o e .size) ∙ sym (i .laid .fine k o e .answered)
+
+  -- the layout from h on
+  gathered : (cue h : ℕ) (l : Layout) → ((k : ℕ) → h ≤ k → blockAt (i .laid .layout) k ≡ lookup h l k) → Gathered s cue x heap h (placesIn cue h l)
+  unfolding placesIn answers lookup
+  gathered cue h (last g) looked =
+      record {
+        objects = [];
+        sorted = tt;
+        low = λ o m. absurd (List·Memᴰ·not-nil m);
+        live = λ o m. absurd (List·Memᴰ·not-nil m);
+        all = λ o e u c. absurd (none-some (no-object (i .laid) (headerOf o) (looked (headerOf o) u)) e);
+        pointers = pointers-to-none s (x .image);
+        count = refl;
+        held = all-held-none s x;
+      }
+  gathered cue h (item g b l) looked =
+      let k : ℕ = h + g in
+      let end : ℕ = h + g + extent b in
+      let rest : Gathered s cue x heap end (placesIn cue end l) = gathered cue end l (λ j u. looked j (omega arith) ∙ look-rest h g b l j (λ e. omega arith)) in
+      let (o, e, c, bytes) = object-of (i .laid) k b (looked k (omega arith) ∙ look-first h g b l) in
+      let at-k : headerOf o ≡ k = find-place heap k o e in
+      let behind : (p : Object) → find heap (headerOf p) ≡ some p → h ≤ headerOf p → (headerOf p ≡ k → ⊥) → end ≤ headerOf p =
+      λ p f u n.
+      let there = known (i .laid) (headerOf p) p f in
+      omega (arith, look-inside end l (headerOf p) (there .block) (sym (look-rest h g b l (headerOf p) n) ∙ sym (looked (headerOf p) u) ∙ there .there) .from)
+      in
+      byBool (eqb (b .cue) cue)
+      (λ t.
+      rw t
+      (record {
+        objects = o ∷ rest .objects;
+        sorted = ((λ p m. omega (arith, rest .low p m)), rest .sorted);
+        low = in-cons {P = λ p. h ≤ headerOf p} o (rest .objects) (omega arith) (λ p m. omega (arith, rest .low p m));
+        live =
+            in-cons {P = λ p. (find heap (headerOf p) ≡ some p) × (p .cue ≡ cue)} o (rest .objects)
+            (ap (find heap) at-k ∙ e, c ∙ eqb-true (b .cue) cue t) (rest .live);
+        all =
+            λ p f u d.
+            byBool (eqb (headerOf p) k)
+            (λ w. List·Memᴰ·head (some-same (sym (ap (find heap) (eqb-true (headerOf p) k w)) ∙ f) e))
+            (λ w. List·Memᴰ·tail (rest .all p f (behind p f u (eqb-false (headerOf p) k w)) d));
+        pointers = pointers-to-one s (x .image) k (placesIn cue end l) ∙ (λ n. pointer-kept k o e n ∷ rest .pointers n);
+        count = ap suc (rest .count);
+        held = all-held-one s x k (placesIn cue end l) ∙ and-both _ _ (entry-kept k o e) (rest .held);
+      }))
+      (λ t.
+      rw t
+      (record {
+        objects = rest .objects;
+        sorted = rest .sorted;
+        low = λ p m. omega (arith, rest .low p m);
+        live = rest .live;
+        all =
+            λ p f u d.
+            rest .all p f
+            (behind p f u
+            (λ w. eqb-false (b .cue) cue t (sym c ∙ sym (ap (λ (q : Object). q .cue) (some-same (sym (ap (find heap) w) ∙ f) e)) ∙ d))) d;
+        pointers = rest .pointers;
+        count = rest .count;
+        held = rest .held;
+      }))
+
+-- Freeing them.
+free-all : {s L : ℕ} {x : State} {heap : Heap} (i : Invariant s L x heap) (os : Heap) → Sorted os → ((o : Object) → In o os → find heap (headerOf o) ≡ some o)
+    → Freed s L x heap os
+unfolding answers
+free-all {s} {L} {x} {heap} i [] c live =
+    record {
+      each = none-left x;
+      new = heap;
+      left = subst (λ (y : State). Invariant s L y heap) (sym (free-each-none x)) i;
+      gone = λ o m. absurd (List·Memᴰ·not-nil m);
+      stays = λ k n. refl;
+    }
+free-all {s} {L} {x} {heap} i (o ∷ os) c live =
+    let here : find heap (headerOf o) ≡ some o = live o (List·Memᴰ·head refl) in
+    let (accepted, j) = free-live i (headerOf o) o here in
+    let mid : Heap = without heap (o .answer) in
+    let empty : find mid (headerOf o) ≡ none = find-without heap o (headerOf o) (i .laid .distinct) here ∙ rw (eq-eqb (headerOf o) (headerOf o) refl) in
+    let other : (k : ℕ) → (headerOf o ≡ k → ⊥) → find mid k ≡ find heap k =
+    λ k n. find-without heap o k (i .laid .distinct) here ∙ rw (ne-eqb k (headerOf o) (λ e. n (sym e)))
+    in
+    let r : Freed s L (free (o .answer) x .after) mid os =
+    free-all j os (c .1) (λ p m. other (headerOf p) (λ e. omega (arith, c .0 p m)) ∙ live p (List·Memᴰ·tail m))
+    in
+    record {
+      each = one-freed (o .answer) (answers os) x accepted (r .each);
+      new = r .new;
+      left = subst (λ (y : State). Invariant s L y (r .new)) (sym (free-each-one (o .answer) (answers os) x)) (r .left);
+      gone =
+          in-cons {P = λ p. find (r .new) (headerOf p) ≡ none} o os
+          (r .stays (headerOf o) (λ p m e. omega (arith, c .0 p m)) ∙ empty) (r .gone);
+      stays = λ k n. r .stays k (λ p m. n p (List·Memᴰ·tail m)) ∙ other k (n o (List·Memᴰ·head refl));
+    }
+
+-- The release.
+module _ {s L : ℕ} {x : State} {heap : Heap} (i : Invariant s L x heap) (cue : ℕ) where
+  -- the cue's objects
+  mine : Gathered s cue x heap 16 (placesIn cue 16 (i .laid .layout))
+  mine = gathered i cue 16 (i .laid .layout) (λ k u. refl)
+
+  -- which they are
+  of-cue : (o : Object) → In o (mine .objects) ↔ (In o heap × (o .cue ≡ cue))
+  of-cue o = (
+    (λ m. let l = mine .live o m in (find-in heap (headerOf o) o (l .0), l .1)),
+    λ (m : In o heap × (o .cue ≡ cue)).
+        let e = in-find heap o (i .laid .distinct) (m .0) in
+        mine .all o e (known (i .laid) (headerOf o) o e .live .low) (m .1),
+  )
+
+  -- it frees them
+  released : releaseCue cue x ≡ record { answer = Accepted (length (mine .objects)); after = freeEach (answers (mine .objects)) x }
+  released =
+      release-is s cue x (placesIn cue 16 (i .laid .layout)) (opens i) (exponent-is (i .laid))
+      (gather-layout cue (x .image) (i .laid .layout) (i .laid .placed)) (mine .held)
+      ∙ (λ n. record { answer = Accepted (mine .count n); after = freeEach (mine .pointers n) x })
+
+  -- the heap's tests of its objects
+  abbrev is-mine : Object → Bool
+  is-mine o = eqb (o .cue) cue
+
+  abbrev is-other : Object → Bool
+  is-other o = not (eqb (o .cue) cue)
+
+  -- they are the objects that pass the first
+  mine-found : (k : ℕ) → find (mine .objects) k ≡ find (ofCue heap cue) k
+  mine-found k = go (find (mine .objects) k) refl (find heap k) refl
+    where
+      there : (o : Object) → find heap k ≡ some o → o .cue ≡ cue → find (mine .objects) k ≡ some o
+      there o f c =
+          ap (find (mine .objects)) (sym (find-place heap k o f))
+          ∙ in-find (mine .objects) o (sorted-distinct (mine .objects) (mine .sorted)) (of-cue o .1 (find-in heap k o f, c))
+
+      go : (r : Option Object) → find (mine .objects) k ≡ r → (t : Option Object) → find heap k ≡ t → r ≡ find (ofCue heap cue) k
+      go (some o) e t f =
+          let l = mine .live o (find-in (mine .objects) k o e) in
+          let g : find heap k ≡ some o = ap (find heap) (sym (find-place (mine .objects) k o e)) ∙ l .0 in
+          sym (found-passing is-mine heap k (some o) (i .laid .distinct) g ∙ rw (eq-eqb (o .cue) cue (l .1)))
+      go none e none f = sym (found-passing is-mine heap k none (i .laid .distinct) f)
+      go none e (some o) f =
+          byBool (eqb (o .cue) cue)
+          (λ c. absurd (none-some e (there o f (eqb-true (o .cue) cue c))))
+          (λ c. sym (found-passing is-mine heap k (some o) (i .laid .distinct) f ∙ rw c))
+
+  -- it is accepted, and gives how many they are
+  pub release-counts : IsAccepted (releaseCue cue x) × (value (releaseCue cue x .answer) ≡ length (ofCue heap cue))
+  release-counts =
+      let d : Distinct (mine .objects) = sorted-distinct (mine .objects) (mine .sorted) in
+      rw released (refl, same-count (mine .objects) (ofCue heap cue) d (distinct-passing is-mine heap (i .laid .distinct)) mine-found)
+
+  -- freeing them singly
+  singly : Freed s L x heap (mine .objects)
+  singly = free-all i (mine .objects) (mine .sorted) (λ o m. mine .live o m .0)
+
+  -- leaves the objects that pass the second
+  others-left : (k : ℕ) → find (singly .new) k ≡ find (withoutCue heap cue) k
+  others-left k = go (find heap k) refl
+    where
+      go : (r : Option Object) → find heap k ≡ r → find (singly .new) k ≡ find (withoutCue heap cue) k
+      go none e =
+          singly .stays k (λ o m q. none-some e (ap (find heap) (sym q) ∙ mine .live o m .0)) ∙ e
+          ∙ sym (found-passing is-other heap k none (i .laid .distinct) e)
+      go (some o) e =
+          byBool (eqb (o .cue) cue)
+          (λ c.
+          ap (find (singly .new)) (sym (find-place heap k o e)) ∙ singly .gone o (of-cue o .1 (find-in heap k o e, eqb-true (o .cue) cue c))
+          ∙ sym (found-passing is-other heap k (some o) (i .laid .distinct) e ∙ rw c))
+          (λ c.
+          singly .stays k
+          (λ p m q.
+          let l = mine .live p m in
+          eqb-false (o .cue) cue c (ap (λ (z : Object). z .cue) (some-same e (ap (find heap) (sym q) ∙ l .0)) ∙ l .1))
+          ∙ e ∙ sym (found-passing is-other heap k (some o) (i .laid .distinct) e ∙ rw c))
+
+  -- and the invariant
+  pub release-step : Invariant s L (releaseCue cue x .after) (hear heap (releases cue) (releaseCue cue x .answer))
+  unfolding hear
+  release-step =
+      rw released (relisted (singly .left) (withoutCue heap cue) (distinct-passing is-other heap (i .laid .distinct)) others-left)
+
+-- the claim
+pub freed-singly : {s L : ℕ} (x : Configuration) → Invariant s L (x .state) (x .heap) → (cue : ℕ) → FreedSingly x cue
+freed-singly x i cue =
+    record {
+      objects = mine i cue .objects;
+      ascending = sorted-pairs (mine i cue .objects) (mine i cue .sorted);
+      of-cue = of-cue i cue;
+      each-freed = singly i cue .each;
+      same = ap (λ (r : Outcome). r .after) (released i cue);
+    }
