@@ -25,8 +25,8 @@
  *     cue_move           8    cue_fill     152    cue_tally       64
  *     cue_load         168
  *
- * On CUE_UNSOUND something else has written into the image. Allocate and free nothing more there. Objects that their
- * pointers still reach can be loaded; save image and table for diagnosis, then set the store up afresh. */
+ * On CUE_UNSOUND something else has written into the image. Allocate, free and release nothing more there. Objects that
+ * their pointers still reach can be loaded; save image and table for diagnosis, then set the store up afresh. */
 #ifndef CUELEDGER_H
 #define CUELEDGER_H
 

@@ -26,8 +26,8 @@ pub enum Refusal {
     Empty = 6,
     /// 7: the walk met an unsound header; free: it passed the object's header without meeting it, or the next one is unsound.
     ///
-    /// Something else has written into the image. Allocate and free nothing more there. Objects that their pointers still reach
-    /// can be loaded; save image and table for diagnosis, then set the store up afresh.
+    /// Something else has written into the image. Allocate, free and release nothing more there. Objects that their pointers still
+    /// reach can be loaded; save image and table for diagnosis, then set the store up afresh.
     Unsound = 7,
     /// 8: the walk reached the image's end and no free block fits.
     NoSpace = 8,

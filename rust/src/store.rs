@@ -139,7 +139,8 @@ impl<'a> Store<'a> {
     /// The body is not written; it is zero on an image that only these calls have written since [`Store::set_up`].
     ///
     /// Refused with, in this order: [`Empty`](Refusal::Empty); [`Unsound`](Refusal::Unsound) or [`NoSpace`](Refusal::NoSpace), as
-    /// the walk over the blocks ends; [`EntryTaken`](Refusal::EntryTaken), which never occurs where only these calls have written.
+    /// the walk over the blocks ends; [`EntryTaken`](Refusal::EntryTaken), which never occurs where only these calls have written,
+    /// through pointers of live objects.
     ///
     /// ```
     /// # use cueledger::{Refusal, Store};
@@ -279,7 +280,7 @@ impl<'a> Store<'a> {
     /// objects of [`allocate`](Store::allocate).
     ///
     /// Refused with, in this order: [`Unsound`](Refusal::Unsound), wherever in the image; [`EntryLost`](Refusal::EntryLost). Neither
-    /// occurs where only these calls have written.
+    /// occurs where only these calls have written, through pointers of live objects.
     ///
     /// ```
     /// # use cueledger::{Refusal, Store, Width};

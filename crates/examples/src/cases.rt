@@ -210,14 +210,15 @@ fn two_cues(run: Run) -> Run {
     run.quietly(Call::AllocateFor(1, 9))
 }
 
-// Releases of both cues, and of one that has no object left; then of a buffer whose entry is lost, and with an unsound header behind it: refusals 21
+// Releases of both cues, of one that has no object left, and of a buffer without a cue; then of one whose entry is lost, and with an unsound header behind it: refusals 21
 // and 7.
 pub fn cues(run: Run) -> Run {
     let run = two_cues(run).make(Call::Release(7), NUMBER, 0, 2);
     let run = run.tally(0, 2, 21, 955, 32);
     let run = run.make(Call::Release(7), NUMBER, 0, 0);
     let run = run.make(Call::Release(9), NUMBER, 0, 2);
-    let run = run.tally(0, 0, 0, 1008, 0);
+    let run = run.tally(0, 0, 0, 1008, 0).quietly(Call::Allocate(10));
+    let run = run.make(Call::Release(0), NUMBER, 0, 1);
     heading(b"Cases: a buffer of 32 bytes for the cue 9, from 16 to 63, its entry zeroed");
     let mut run = run.quietly(Call::AllocateFor(32, 9));
     run.table[0] = 0;

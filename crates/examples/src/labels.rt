@@ -1,5 +1,5 @@
 // The first column of each call's line: 32 places, in the order of the calls.
-pub const LABELS: [u8; 3872] = *b"set up                          \
+pub const LABELS: [u8; 3904] = *b"set up                          \
 10 bytes                        \
 20 bytes                        \
 32 bytes                        \
@@ -114,6 +114,7 @@ tally                           \
 release 7 again                 \
 release 9                       \
 tally                           \
+release 0, of no cue            \
 release 9                       \
 release 9, kind 9 at 64         \
 allocate 32                     \

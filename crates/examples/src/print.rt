@@ -31,7 +31,7 @@ pub fn heading(t: &[u8]) {
 // The label of the call with this number, 0 the first.
 pub fn label(call: u64) {
     text(b"  ");
-    if call < 121 {
+    if call < 122 {
         let at = 32 * call as usize;
         let end = at + 32;
         text(&LABELS[at..end]);

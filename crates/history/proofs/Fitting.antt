@@ -1,4 +1,4 @@
--- A new block in cue a gap that has room for it, and what first fit finds.
+-- A new block in a gap that has room for it, and what first fit finds.
 -- In order: the layout with the new block; its bytes; the carved image; first fit. Assumes nothing.
 use Prim.Native.Nat.{ℕ, _+_, _-_, _^_, _≤_, _<_}
 use mathlib.Core.Path.{_≡_, refl, sym, ap, _∙_}
@@ -51,7 +51,7 @@ left-ok : (n g : ℕ) → GapOk (left n g)
 unfolding left
 left-ok n g = byBool (ltb (g - (16 + n)) 16) (λ p. rw p tt) (λ p. rw p (gap-ok (g - (16 + n)) (ltb-false (g - (16 + n)) 16 p)))
 
--- the new block in cue a gap of g bytes
+-- the new block in a gap of g bytes
 abbrev pub new : ℕ → ℕ → ℕ → ℕ → Block
 new n type cue g = record { type = type; cue = cue; body = zeros n; spare = over n g }
 
@@ -117,7 +117,7 @@ carve-whole P A h g n type cue e le =
     let y : 16 + (n + (g - (16 + n))) ≡ g = omega arith in
     rw (put-at P (freeHeader g) (zeros (g - 16) ++ A) (liveHeader g type n cue) h e (simp length-header), y, z, append-assoc)
 
--- the carved image is the layout's cue with the new block
+-- the carved image is the layout's with the new block
 carve-bytes : (image : List ℕ) (h : ℕ) (l : Layout) → Part image h l → (n type cue : ℕ) → 16 + n ≤ gap l
     → carved image h n type cue ≡ take h image ++ render (placed-in n type cue l)
 unfolding left over

@@ -23,13 +23,13 @@ abbrev fresh6 : Configuration
 fresh6 = begun 6 (state (replicate 128 7) (replicate 60 9))
 
 -- an object of no cue is written through a moved pointer, its bytes and then its text are copied to one of cue 9, and it is freed; the other takes a
--- number of 3 bytes; two objects of cue 7 are released; some calls are refused
+-- number of 3 bytes; two objects of cue 2^32 - 1 are released; some calls are refused
 abbrev pub calls : List Call
 calls =
     allocates 10 1
     ∷ allocatesFor 4 2 9
-    ∷ allocatesFor 8 3 7
-    ∷ allocatesFor 2 3 7
+    ∷ allocatesFor 8 3 0xFFFFFFFF
+    ∷ allocatesFor 2 3 0xFFFFFFFF
     ∷ moves 0x8010000000000020 (pos 6)
     ∷ moves 0x8010000000000020 (pos 32)
     ∷ stores 0x8010000000000026 4 0x04030201
@@ -42,8 +42,8 @@ calls =
     ∷ loads 0x802A00000000003A 3
     ∷ loads 0x123456789 4
     ∷ allocates 1000 1
-    ∷ releases 7
-    ∷ releases 7
+    ∷ releases 0xFFFFFFFF
+    ∷ releases 0xFFFFFFFF
     ∷ frees 0x8010000000000026
     ∷ frees 0x8010000000000020
     ∷ frees 0x8010000000000020

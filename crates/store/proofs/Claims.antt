@@ -310,7 +310,7 @@ carved-stands size type cue x h fits cue-fits a =
 
 -- and its pointer leads to it
 carved-leads : (size type cue : ℕ) (x : State) (h : ℕ) → type < 2 ^ 16 → cue < 2 ^ 32 → Allocates size x h
-    → PointsBack size cue x (state (carved (x .image) h size type cue) (noted (slotExponent (x .image)) h size h (x .table)))
+    → PointsBack size type cue x (state (carved (x .image) h size type cue) (noted (slotExponent (x .image)) h size h (x .table)))
     (pack (pointerTo (slotExponent (x .image)) h size))
 carved-leads size type cue x h fits cue-fits a =
     let s : ℕ = slotExponent (x .image) in
@@ -330,6 +330,7 @@ carved-leads size type cue x h fits cue-fits a =
       header = sym (l .place);
       read = located-at s (unpack p) y h l;
       size-kept = o .size-is;
+      type-kept = ap (λ (d : Header). d .ty) (carved-at size type cue x h fits cue-fits a .is-header);
       cue-kept = ap (λ (d : Header). d .cue) (carved-at size type cue x h fits cue-fits a .is-header);
     }
 
@@ -338,10 +339,10 @@ pub leads-back : LeadsBack
 unfolding LeadsBack
 leads-back size type cue x fits cue-fits e = go (allocateChecks size x) refl
   where
-    go : (a : Answer) → allocateChecks size x ≡ a → PointsBack size cue x (allocateFor size type cue x .after) (value (allocateFor size type cue x .answer))
+    go : (a : Answer) → allocateChecks size x ≡ a → PointsBack size type cue x (allocateFor size type cue x .after) (value (allocateFor size type cue x .answer))
     go (Refused r) q = absurd (refused-some r (ap (λ (o : Outcome). returned (o .answer)) (allocate-declined size x type cue r q) ∙ e))
     go (Accepted h) q =
-        subst (λ (o : Outcome). PointsBack size cue x (o .after) (value (o .answer)))
+        subst (λ (o : Outcome). PointsBack size type cue x (o .after) (value (o .answer)))
         (allocate-done size x type cue h (slotExponent (x .image)) _ _ _ _ q refl refl refl refl refl) (carved-leads size type cue x h fits cue-fits (allocate-parts size x h q))
 
 -- on what a store leaves, the load gives its value

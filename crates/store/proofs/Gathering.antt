@@ -1,5 +1,5 @@
--- The tests of a release: the walk that gathers the objects of the cue, and rows 7 and 21. Assumes nothing.
--- In order: the walk, block by block, and its ways out; what tests that are passed say, with which the pass begins.
+-- The tests of a release: the walk that gathers the objects of the cue, and rows 7 and 21.
+-- In order: the walk, block by block, and its ways out; what tests that are passed say, with which the pass begins. Assumes nothing.
 use Prim.Native.Nat.{ℕ, _+_, _≤_}
 use mathlib.Core.Path.{_≡_, refl, sym, ap, _∙_, subst}
 use mathlib.Core.Bool.{Bool, true, false, cond, _&&_, and-true}

@@ -9,7 +9,7 @@ use lib.IntN.{pos, negℤ}
 use lib.Signed.{leZ}
 use Rattle.frame.specs.Pointers.{unpack, pack, goodTag}
 use Rattle.frame.specs.Tags.{pointerTo, usedEntries}
-use Rattle.block.specs.Layout.{slotExponent, sizeAt, cueAt}
+use Rattle.block.specs.Layout.{slotExponent, typeAt, sizeAt, cueAt}
 use Rattle.block.specs.Walk.{firstFit}
 use Rattle.block.specs.declared.walk.Fit.the-variants as fit
 use Rattle.store.specs.State.{State, IsAccepted, value, comparisonNumber, comparisonValue, usageNumber, liveObjects, liveBytes, freeBytes, overheadBytes, Balances}
@@ -38,8 +38,8 @@ pub record ShapesKept : Type 0 where
   pub calls : (c : Call) (x : State) → KeepsShape (slotExponent (x .image)) x (step c x .after)
 
 -- p is the pointer to an object of `size` bytes in the block that first fit finds in x, and on y reading its tag leads back to that header, which has
--- the cue
-pub record PointsBack (size cue : ℕ) (x y : State) (p : ℕ) : Type 0 where
+-- the type and the cue
+pub record PointsBack (size type cue : ℕ) (x y : State) (p : ℕ) : Type 0 where
   pub exponent-kept : slotExponent (y .image) ≡ slotExponent (x .image)
   pub place : ℕ
   pub found : firstFit (x .image) (16 + size) ≡ fit.At place
@@ -49,13 +49,14 @@ pub record PointsBack (size cue : ℕ) (x y : State) (p : ℕ) : Type 0 where
   pub header : headerPlace (slotExponent (x .image)) (unpack p) (y .table) ≡ place
   pub read : located (slotExponent (x .image)) (unpack p) y ≡ Accepted place
   pub size-kept : sizeAt (y .image) place ≡ size
+  pub type-kept : typeAt (y .image) place ≡ type
   pub cue-kept : cueAt (y .image) place ≡ cue
 
 -- Demand 2: an accepted allocate, for any cue (0 for none), gives such a pointer, for the image and table that it leaves.
 unfoldable pub LeadsBack : Type 0
 LeadsBack =
     (size type cue : ℕ) (x : State) → type < 2 ^ 16 → cue < 2 ^ 32 → IsAccepted (allocateFor size type cue x)
-    → PointsBack size cue x (allocateFor size type cue x .after) (value (allocateFor size type cue x .answer))
+    → PointsBack size type cue x (allocateFor size type cue x .after) (value (allocateFor size type cue x .answer))
 
 -- Read-back: after an accepted store, a load of the same width through the same pointer is accepted and gives the value.
 unfoldable pub ReadsBack : Type 0

@@ -47,11 +47,11 @@ pub data Case : Type 0 where
   compares : (L : ℕ) (before : List ℕ) (p : ℕ) (bytes : List ℕ) (left right n number : ℕ) (value : ℤ) → Case
   -- W5: the same, and a text is copied: the returned number, how many bytes, and what the 8 bytes from the target's address on are then, little-endian
   texts : (L : ℕ) (before : List ℕ) (p : ℕ) (bytes : List ℕ) (target source number copied seen : ℕ) → Case
-  -- W6: objects of these sizes and cues, and a release of a cue: the returned number, how many objects, the kind and extent of each block that it leaves,
-  -- and the first two table entries
-  releases : (L : ℕ) (sizes cues : List ℕ) (cue number count : ℕ) (blocks entries : List ℕ) → Case
-  -- W6: with another table entry and another byte the release is refused by that number; it gives 0, and leaves image and table as they are
-  refuses : (L : ℕ) (sizes cues : List ℕ) (index v at byte cue number : ℕ) → Case
+  -- W6: objects of these sizes and cues; the cues `gone` are released, a table entry is set to v, and a cue is released: the returned number, how many
+  -- objects, the kind and extent of each block that is left, and the first two table entries
+  releases : (L : ℕ) (sizes cues gone : List ℕ) (index v cue number count : ℕ) (blocks entries : List ℕ) → Case
+  -- W6: with another table entry and another byte the release returns that number, gives 0, and leaves image and table as they are
+  keeps : (L : ℕ) (sizes cues : List ℕ) (index v at byte cue number : ℕ) → Case
 
 -- a store set up on an image and table that were full of other bytes
 abbrev begun : ℕ → State
@@ -61,10 +61,16 @@ abbrev placed : List ℕ → State → State
 placed [] x = x
 placed (size ∷ sizes) x = placed sizes (allocate size 0 x .after)
 
+-- objects of these sizes and cues; those of cue 0 by the call without a cue
 abbrev placedFor : List ℕ → List ℕ → State → State
 placedFor [] cues x = x
 placedFor (size ∷ sizes) [] x = x
-placedFor (size ∷ sizes) (cue ∷ cues) x = placedFor sizes cues (allocateFor size 0 cue x .after)
+placedFor (size ∷ sizes) (cue ∷ cues) x = placedFor sizes cues (cond (eqb cue 0) (allocate size 0 x) (allocateFor size 0 cue x) .after)
+
+-- these cues are released, one after the other
+abbrev releasedAll : List ℕ → State → State
+releasedAll [] x = x
+releasedAll (cue ∷ cues) x = releasedAll cues (releaseCue cue x .after)
 
 -- the kind and extent of each block, in the order of their addresses
 abbrev described : Search (List ℕ)
@@ -135,12 +141,13 @@ holds (compares L before p bytes left right n number v) =
 holds (texts L before p bytes target source number copied seen) =
     let o : Outcome = copyText target source (storedFrom p bytes (placed before (begun L))) in
     eqb (returned (o .answer)) number && (eqb (value (o .answer)) copied && eqb (field (o .after .image) (unpack target .address) 8) seen)
-holds (releases L sizes cues cue number count blocks entries) =
-    let o : Outcome = releaseCue cue (placedFor sizes cues (begun L)) in
+holds (releases L sizes cues gone index v cue number count blocks entries) =
+    let x : State = releasedAll gone (placedFor sizes cues (begun L)) in
+    let o : Outcome = releaseCue cue (state (x .image) (set (x .table) index v)) in
     eqb (returned (o .answer)) number
     && (eqb (value (o .answer)) count
     && (sameNumbers (placesOf (walk described (o .after .image) [])) blocks && sameNumbers (take 2 (o .after .table)) entries))
-holds (refuses L sizes cues index v at byte cue number) =
+holds (keeps L sizes cues index v at byte cue number) =
     let x : State = placedFor sizes cues (begun L) in
     let y : State = state (set (x .image) at byte) (set (x .table) index v) in
     let o : Outcome = releaseCue cue y in
@@ -217,16 +224,21 @@ cases =
     ∷ texts 1024 (10 ∷ 20 ∷ []) 0x8010000000000020 hello 0x000700000000003A 0x8010000000000029 0 1 0
     ∷ texts 1024 (10 ∷ []) 0x8010000000000020 hello 0x8010000000000020 0x801000000000001F 13 0 0x0000006F6C6C6568
     ∷ texts 64 (17 ∷ []) 0x8010000000000020 (replicate 17 1) 0x8010000000000020 0x8010000000000020 20 0 0x0101010101010101
-    ∷ releases 1024 (10 ∷ 20 ∷ 32 ∷ 1 ∷ []) (7 ∷ 9 ∷ 7 ∷ 9 ∷ []) 7 0 2 (1 ∷ 26 ∷ 2 ∷ 36 ∷ 1 ∷ 48 ∷ 2 ∷ 17 ∷ 1 ∷ 881 ∷ []) (42 ∷ 126 ∷ [])
-    ∷ releases 1024 (10 ∷ 20 ∷ 32 ∷ 1 ∷ []) (7 ∷ 9 ∷ 7 ∷ 9 ∷ []) 9 0 2 (2 ∷ 26 ∷ 1 ∷ 36 ∷ 2 ∷ 48 ∷ 1 ∷ 898 ∷ []) (0 ∷ 0 ∷ [])
-    ∷ releases 1024 (10 ∷ 20 ∷ 32 ∷ 1 ∷ []) (7 ∷ 9 ∷ 7 ∷ 9 ∷ []) 8 0 0 (2 ∷ 26 ∷ 2 ∷ 36 ∷ 2 ∷ 48 ∷ 2 ∷ 17 ∷ 1 ∷ 881 ∷ []) (42 ∷ 126 ∷ [])
-    ∷ releases 1024 (10 ∷ 20 ∷ 32 ∷ 1 ∷ []) (0 ∷ 7 ∷ 7 ∷ 0 ∷ []) 7 0 2 (2 ∷ 26 ∷ 1 ∷ 84 ∷ 2 ∷ 17 ∷ 1 ∷ 881 ∷ []) (0 ∷ 126 ∷ [])
-    ∷ releases 1024 (10 ∷ 20 ∷ 32 ∷ 1 ∷ []) (0 ∷ 7 ∷ 7 ∷ 0 ∷ []) 0 0 2 (1 ∷ 26 ∷ 2 ∷ 36 ∷ 2 ∷ 48 ∷ 1 ∷ 898 ∷ []) (42 ∷ 0 ∷ [])
-    ∷ releases 1024 (10 ∷ 20 ∷ 32 ∷ 1 ∷ []) (0 ∷ 0xFFFFFFFF ∷ 0xFFFFFFFF ∷ 0xFFFFFFFF ∷ []) 0xFFFFFFFF 0 3 (2 ∷ 26 ∷ 1 ∷ 982 ∷ []) (0 ∷ 0 ∷ [])
-    ∷ refuses 1024 (10 ∷ 20 ∷ 32 ∷ []) (7 ∷ 7 ∷ 7 ∷ []) 0 0 0 16 7 21
-    ∷ refuses 1024 (10 ∷ 20 ∷ 32 ∷ []) (7 ∷ 7 ∷ 7 ∷ []) 0 78 0 16 7 21
-    ∷ refuses 1024 (10 ∷ 20 ∷ 32 ∷ []) (7 ∷ 7 ∷ 7 ∷ []) 0 0 78 1 7 7
-    ∷ refuses 1024 (10 ∷ 20 ∷ 32 ∷ []) (7 ∷ 7 ∷ 7 ∷ []) 0 0 4 0 7 4
+    ∷ releases 1024 (10 ∷ 20 ∷ 32 ∷ 1 ∷ []) (7 ∷ 9 ∷ 7 ∷ 9 ∷ []) [] 2 0 7 0 2 (1 ∷ 26 ∷ 2 ∷ 36 ∷ 1 ∷ 48 ∷ 2 ∷ 17 ∷ 1 ∷ 881 ∷ []) (42 ∷ 126 ∷ [])
+    ∷ releases 1024 (10 ∷ 20 ∷ 32 ∷ 1 ∷ []) (7 ∷ 9 ∷ 7 ∷ 9 ∷ []) [] 2 0 9 0 2 (2 ∷ 26 ∷ 1 ∷ 36 ∷ 2 ∷ 48 ∷ 1 ∷ 898 ∷ []) (0 ∷ 0 ∷ [])
+    ∷ releases 1024 (10 ∷ 20 ∷ 32 ∷ 1 ∷ []) (7 ∷ 9 ∷ 7 ∷ 9 ∷ []) (7 ∷ []) 2 0 9 0 2 (1 ∷ 1008 ∷ []) (0 ∷ 0 ∷ [])
+    ∷ releases 1024 (10 ∷ 20 ∷ 32 ∷ 1 ∷ []) (7 ∷ 9 ∷ 7 ∷ 9 ∷ []) [] 2 0 8 0 0 (2 ∷ 26 ∷ 2 ∷ 36 ∷ 2 ∷ 48 ∷ 2 ∷ 17 ∷ 1 ∷ 881 ∷ []) (42 ∷ 126 ∷ [])
+    ∷ releases 1024 (10 ∷ 20 ∷ 32 ∷ 1 ∷ []) (0 ∷ 7 ∷ 7 ∷ 0 ∷ []) [] 2 0 7 0 2 (2 ∷ 26 ∷ 1 ∷ 84 ∷ 2 ∷ 17 ∷ 1 ∷ 881 ∷ []) (0 ∷ 126 ∷ [])
+    ∷ releases 1024 (10 ∷ 20 ∷ 32 ∷ 1 ∷ []) (0 ∷ 7 ∷ 7 ∷ 0 ∷ []) [] 2 0 0 0 2 (1 ∷ 26 ∷ 2 ∷ 36 ∷ 2 ∷ 48 ∷ 1 ∷ 898 ∷ []) (42 ∷ 0 ∷ [])
+    ∷ releases 1024 (10 ∷ 20 ∷ 32 ∷ 1 ∷ []) (9 ∷ 7 ∷ 7 ∷ 0 ∷ []) (9 ∷ []) 2 0 7 0 2 (1 ∷ 110 ∷ 2 ∷ 17 ∷ 1 ∷ 881 ∷ []) (0 ∷ 126 ∷ [])
+    ∷ releases 1024 (10 ∷ 20 ∷ 32 ∷ 1 ∷ []) (0 ∷ 0xFFFFFFFF ∷ 0xFFFFFFFF ∷ 0xFFFFFFFF ∷ []) [] 2 0 0xFFFFFFFF 0 3 (2 ∷ 26 ∷ 1 ∷ 982 ∷ []) (0 ∷ 0 ∷ [])
+    ∷ releases 1024 (10 ∷ 20 ∷ 32 ∷ 1 ∷ []) (7 ∷ 9 ∷ 7 ∷ 0 ∷ []) [] 0 0 7 0 2 (1 ∷ 26 ∷ 2 ∷ 36 ∷ 1 ∷ 48 ∷ 2 ∷ 17 ∷ 1 ∷ 881 ∷ []) (0 ∷ 126 ∷ [])
+    ∷ keeps 1024 (10 ∷ 20 ∷ 32 ∷ []) (7 ∷ 7 ∷ 7 ∷ []) 0 0 0 16 7 21
+    ∷ keeps 1024 (10 ∷ 20 ∷ 32 ∷ []) (7 ∷ 7 ∷ 7 ∷ []) 0 78 0 16 7 21
+    ∷ keeps 1024 (10 ∷ 20 ∷ 32 ∷ []) (7 ∷ 7 ∷ 7 ∷ []) 0 0 78 1 7 7
+    ∷ keeps 1024 (10 ∷ 20 ∷ 32 ∷ []) (7 ∷ 7 ∷ 7 ∷ []) 0 0 130 9 8 7
+    ∷ keeps 1024 (10 ∷ 20 ∷ 32 ∷ []) (7 ∷ 9 ∷ 7 ∷ []) 0 0 0 16 8 0
+    ∷ keeps 1024 (10 ∷ 20 ∷ 32 ∷ []) (7 ∷ 7 ∷ 7 ∷ []) 0 0 4 0 7 4
     ∷ []
 
 pub worked : T (all cases)

@@ -46,13 +46,13 @@ pub fn entry_holds(table: &[u64], t: Tagged, v: u64) -> bool
     }
 }
 
-// Puts the header place h into the object's entry, where it has one.
-pub fn note(table: &mut [u64], t: Tagged, h: u64)
+// Puts v into the object's entry, where it has one: the header's place, or zero.
+pub fn note(table: &mut [u64], t: Tagged, v: u64)
     requires { ⌜ EntryIn t (now table) ⌝ }
-    ensures { λ _. ⌜ now (table .exit) ≡ notedFor t h (now (table .entry)) ⌝ }
+    ensures { λ _. ⌜ now (table .exit) ≡ notedFor t v (now (table .entry)) ⌝ }
 {
     match t {
         Tagged::Small(_) => {}
-        Tagged::Large(_, entry) => table[entry] = h,
+        Tagged::Large(_, entry) => table[entry] = v,
     }
 }

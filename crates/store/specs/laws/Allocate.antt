@@ -117,7 +117,7 @@ module _ (size : ℕ) (x : State) where
   unfolding allocateFor
   allocate-declined type cue r e = rw e
 
-  -- otherwise the block is carved and its entry noted cue
+  -- otherwise the block is carved and its entry noted
   pub allocate-done : (type cue h s word : ℕ) (p : Pointer) (image table : List ℕ) → allocateChecks size x ≡ Accepted h → s ≡ slotExponent (x .image)
       → image ≡ carved (x .image) h size type cue → p ≡ pointerTo s h size → table ≡ noted s h size h (x .table) → word ≡ pack p
       → outcome (Accepted word) image table ≡ allocateFor size type cue x
