@@ -73,19 +73,31 @@ in-find (x ∷ xs) o d m =
     (List·Memᴰ·cases-cons m)
 
 -- at each place of the list stands a live object
-pub getD-in : (heap : Heap) (i : ℕ) (d : Object) → i < length heap → In (getD heap i d) heap
+getD-in : (heap : Heap) (i : ℕ) (d : Object) → i < length heap → In (getD heap i d) heap
 getD-in [] i d l = absurd (omega arith)
 getD-in (x ∷ xs) zero d l = List·Memᴰ·head refl
 getD-in (x ∷ xs) (suc i) d l = List·Memᴰ·tail (getD-in xs i d (omega arith))
 
+-- each object stands in the relation to all behind it
+abbrev pub Pairs : (Object → Object → Type 0) → Heap → Type 0
+Pairs P [] = Unit {0}
+Pairs P (o ∷ os) = ((o′ : Object) → In o′ os → P o o′) × Pairs P os
+
+-- so the earlier of any two places does to the later
+pub pairwise : (P : Object → Object → Type 0) (heap : Heap) → Pairs P heap → Pairwise heap P
+pairwise P [] c i j d l u = absurd (omega arith)
+pairwise P (x ∷ xs) c zero zero d l u = absurd (omega arith)
+pairwise P (x ∷ xs) c (suc i) zero d l u = absurd (omega arith)
+pairwise P (x ∷ xs) c zero (suc j) d l u = c .0 (getD xs j d) (getD-in xs j d (omega arith))
+pairwise P (x ∷ xs) c (suc i) (suc j) d l u = pairwise P xs (c .1) i j d (omega arith) (omega arith)
+
 -- two places of the list have two header places
 pub places-apart : (heap : Heap) → Distinct heap → Pairwise heap (λ o o′. headerOf o ≡ headerOf o′ → ⊥)
-places-apart [] c i j d l u e = absurd (omega arith)
-places-apart (x ∷ xs) c zero zero d l u e = absurd (omega arith)
-places-apart (x ∷ xs) c (suc i) zero d l u e = absurd (omega arith)
-places-apart (x ∷ xs) c zero (suc j) d l u e =
-    none-some (c .0) (ap (find xs) e ∙ in-find xs (getD xs j d) (c .1) (getD-in xs j d (omega arith)))
-places-apart (x ∷ xs) c (suc i) (suc j) d l u e = places-apart xs (c .1) i j d (omega arith) (omega arith) e
+places-apart heap c = pairwise _ heap (go heap c)
+  where
+    go : (os : Heap) → Distinct os → Pairs (λ o o′. headerOf o ≡ headerOf o′ → ⊥) os
+    go [] e = tt
+    go (x ∷ xs) e = ((λ o m q. none-some (e .0) (ap (find xs) q ∙ in-find xs o (e .1) m)), go xs (e .1))
 
 -- so what holds of any two live objects with two header places holds of any two places of the list
 pub two-places : (heap : Heap) (P : Object → Object → Type 0) → Distinct heap

@@ -1,13 +1,13 @@
 -- A release on an image and table with the invariant.
 -- In order: lists in the order of addresses; the cue's objects, so ordered; freeing them singly; what a release comes to. Assumes nothing.
-use Prim.Native.Nat.{ℕ, zero, suc, _+_, _≤_, _<_}
+use Prim.Native.Nat.{ℕ, suc, _+_, _≤_, _<_}
 use mathlib.Core.Path.{_≡_, refl, sym, ap, _∙_, subst}
 use mathlib.Core.Bool.{Bool, true, not}
 use mathlib.Core.List.{List, [], _∷_, List·Memᴰ·head, List·Memᴰ·tail, List·Memᴰ·not-nil, List·Memᴰ·cases-cons}
 use mathlib.Core.Logic.{_↔_, ⊎-elim}
 use mathlib.Core.Option.{Option, none, some}
 use native.Mathlib.Omega.{arith}
-use lib.ListN.{length, getD}
+use lib.ListN.{length}
 use lib.Dec.{eqb}
 use borrow.Author.Tests.{eq-eqb, ne-eqb, eqb-true, eqb-false}
 use Rattle.block.specs.laws.Booleans.{byBool, and-both}
@@ -22,27 +22,18 @@ use Rattle.store.specs.laws.Entries.{entry-holds}
 use Rattle.store.specs.laws.Release.{all-held-none, all-held-one, pointers-to-none, pointers-to-one, free-each-none, free-each-one, release-is}
 use Rattle.store.specs.declared.answer.Answer.the-variants.{Accepted}
 use Rattle.history.specs.Heap.{Object, Heap, without, ofCue, withoutCue, hear}
-use Rattle.history.specs.History.{Configuration, Pairwise, In, headerOf}
+use Rattle.history.specs.History.{Configuration, In, headerOf}
 use Rattle.history.specs.Release.{answers, FreedSingly}
 use Rattle.history.proofs.Gaps.{extent, Layout, last, item, lookup, blockAt}
 use Rattle.history.proofs.Looks.{look-first, look-rest, look-inside}
 use Rattle.history.proofs.Gathering.{placesIn, gather-layout}
-use Rattle.history.proofs.Heap.{find, Distinct, none-some, some-same, find-place, find-in, in-find, getD-in, find-without, found-passing, distinct-passing, same-count}
+use Rattle.history.proofs.Heap.{find, Distinct, none-some, some-same, find-place, find-in, in-find, Pairs, pairwise, find-without, found-passing, distinct-passing, same-count}
 use Rattle.history.proofs.Invariant.{Invariant, known, object-of, no-object, exponent-is, opens, relisted}
 use Rattle.history.proofs.Steps.{free-live}
 
 -- in the order of their addresses
 abbrev Sorted : Heap → Type 0
-Sorted [] = Unit {0}
-Sorted (o ∷ os) = ((o′ : Object) → In o′ os → headerOf o < headerOf o′) × Sorted os
-
--- any two of them
-sorted-pairs : (os : Heap) → Sorted os → Pairwise os (λ o o′. headerOf o < headerOf o′)
-sorted-pairs [] c i j d l u = absurd (omega arith)
-sorted-pairs (o ∷ os) c zero zero d l u = absurd (omega arith)
-sorted-pairs (o ∷ os) c (suc i) zero d l u = absurd (omega arith)
-sorted-pairs (o ∷ os) c zero (suc j) d l u = c .0 (getD os j d) (getD-in os j d (omega arith))
-sorted-pairs (o ∷ os) c (suc i) (suc j) d l u = sorted-pairs os (c .1) i j d (omega arith) (omega arith)
+Sorted os = Pairs (λ o o′. headerOf o < headerOf o′) os
 
 -- no two of them have one header place
 sorted-distinct : (os : Heap) → Sorted os → Distinct os
@@ -77,7 +68,7 @@ in-cons : {P : Object → Type 0} (o : Object) (os : Heap) → P o → ((o′ : 
 in-cons {P} o os p q o′ m = ⊎-elim (λ (e : o′ ≡ o). subst P (sym e) p) (q o′) (List·Memᴰ·cases-cons m)
 
 module _ {s L : ℕ} {x : State} {heap : Heap} (i : Invariant s L x heap) where
-  -- the row 21 of a live object is passed
+  -- row 21 of a live object is passed
   entry-kept : (k : ℕ) (o : Object) → find heap k ≡ some o → entryHolds s k (sizeAt (x .image) k) k (x .table) ≡ true
   entry-kept k o e = rw (known (i .laid) k o e .size) (entry-holds s k (o .size) k (x .table) (i .tabled .placed k o e))
 
@@ -269,7 +260,7 @@ pub freed-singly : {s L : ℕ} (x : Configuration) → Invariant s L (x .state) 
 freed-singly x i cue =
     record {
       objects = mine i cue .objects;
-      ascending = sorted-pairs (mine i cue .objects) (mine i cue .sorted);
+      ascending = pairwise _ (mine i cue .objects) (mine i cue .sorted);
       of-cue = of-cue i cue;
       each-freed = singly i cue .each;
       same = ap (λ (r : Outcome). r .after) (released i cue);

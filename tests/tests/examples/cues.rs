@@ -3,7 +3,7 @@
 use super::*;
 
 const L: u64 = 1024;
-const LEAD_IN: [u8; 16] = [16, 0, 0, 0, 3, 0, 6, 0, 0, 4, 0, 0, 0, 0, 0, 0];
+const SUPERBLOCK_BYTES: [u8; 16] = [16, 0, 0, 0, 3, 0, 6, 0, 0, 4, 0, 0, 0, 0, 0, 0];
 
 impl<S: Store> Lent<S> {
     /// An object of type 7 for a cue, its body and spare bytes filled; gives its place.
@@ -25,7 +25,7 @@ impl<S: Store> Lent<S> {
     /// The same, with what stands behind each header. An entry beyond the used ones is as it was before set-up.
     fn stands_filled(&self, blocks: &[(u64, Header, u8)], entries: &[(usize, u64)]) {
         let (mut image, mut table) = (vec![0; self.image.len()], vec![0; self.table.len()]);
-        image[..16].copy_from_slice(&LEAD_IN);
+        image[..16].copy_from_slice(&SUPERBLOCK_BYTES);
         let mut at = 16;
         for &(h, header, byte) in blocks {
             assert_eq!(h, at);
