@@ -17,16 +17,17 @@
  *   images do not disturb each other.
  * - Time: allocate, free, release and tally walk over the blocks from the image's start and grow with their number. Setup,
  *   free, release, fill and copy also grow with the bytes that they write, compare and text copy with those that they read.
- *   Load, store and move take constant time.
+ *   Load, store, move and free total take constant time.
  * - Stack, in bytes at most: the return address and all below it, without memmove and memset.
- *     cue_setup         48    cue_store    168    cue_copy       200
- *     cue_allocate      88    cue_free     216    cue_compare    216
- *     cue_allocate_for  64    cue_release  112    cue_copy_text  200
- *     cue_move           8    cue_fill     152    cue_tally       64
- *     cue_load         168
+ *     cue_setup         48    cue_store    168    cue_copy        200
+ *     cue_allocate     112    cue_free     216    cue_compare     216
+ *     cue_allocate_for  88    cue_release  112    cue_copy_text   200
+ *     cue_move           8    cue_fill     152    cue_tally        64
+ *     cue_load         168                        cue_free_total    8
  *
- * On CUE_UNSOUND something else has written into the image. Allocate, free and release nothing more there. Objects that
- * their pointers still reach can be loaded; save image and table for diagnosis, then set the store up afresh. */
+ * On CUE_UNSOUND or CUE_WRONG_TOTAL something else has written into the image. Allocate, free and release nothing more
+ * there. Objects that their pointers still reach can be loaded; save image and table for diagnosis, then set the store up
+ * afresh. */
 #ifndef CUELEDGER_H
 #define CUELEDGER_H
 
@@ -38,9 +39,9 @@ extern "C" {
 #endif
 
 #define CUE_VERSION_MAJOR 1
-#define CUE_VERSION_MINOR 3
+#define CUE_VERSION_MINOR 4
 #define CUE_VERSION_PATCH 0
-#define CUE_VERSION "1.3.0"
+#define CUE_VERSION "1.4.0"
 
 /* 17 to 19 are a call log's (docs/FORMAT.md): the program replay prints them, and no function returns them. */
 enum cue_refusal {
@@ -62,7 +63,8 @@ enum cue_refusal {
     CUE_NOT_BASE = 15,       /* free: the address is not the object's start */
     CUE_TOO_LARGE = 16,      /* store: value too large for the width */
     CUE_UNTERMINATED = 20,   /* text copy: no zero byte from the source's address to the body's end */
-    CUE_ENTRY_LOST = 21      /* release: an object's entry does not hold its header: the table is damaged, or another image's */
+    CUE_ENTRY_LOST = 21,     /* release: an object's entry does not hold its header: the table is damaged, or another image's */
+    CUE_WRONG_TOTAL = 22     /* the free total would leave 0..image_len - 16: the image is damaged */
 };
 
 /* A returned number as text. */
@@ -88,6 +90,7 @@ static inline const char *cue_reason(uint32_t number)
     case CUE_TOO_LARGE: return "value too large for the width";
     case CUE_UNTERMINATED: return "no zero byte up to the body's end";
     case CUE_ENTRY_LOST: return "table entry does not hold its header";
+    case CUE_WRONG_TOTAL: return "free total would leave 0 to L - 16";
     default: return "no refusal has this number";
     }
 }
@@ -98,7 +101,7 @@ static inline const char *cue_reason(uint32_t number)
     ((size_t)48 * ((((size_t)(image_len) - 1) >> ((slot_exponent) + 1)) + 1))
 
 /* A fresh store: zeroes the image, writes superblock and one free block, zeroes the used table entries. Entries beyond
- * them are never written.
+ * them are never written. The free total is image_len - 16.
  * Refusals, in order: 1, 2, 3.
  *
  * The slot exponent s sets the slot, 2^s bytes. An object with header and body in one slot (small-framed) is found from
@@ -114,8 +117,9 @@ static inline const char *cue_reason(uint32_t number)
 uint32_t cue_setup(uint8_t *image, size_t image_len, uint64_t *table, size_t table_len, uint32_t slot_exponent);
 
 /* Takes the lowest free block that fits and gives the tagged pointer to the body, which is not written: it is zero on an
- * image that only these calls have written since cue_setup.
- * Refusals, in order: 4, 5, 6, then 7 or 8 as the walk ends, 9. */
+ * image that only these calls have written since cue_setup. The free total falls by the object's extent: 16 + size, and
+ * the at most 15 spare bytes behind it.
+ * Refusals, in order: 4, 5, 6, then 7 or 8 as the walk ends, 9, 22 (the extent exceeds the free total). */
 uint32_t cue_allocate(uint8_t *image, size_t image_len, uint64_t *table, size_t table_len, uint32_t size, uint16_t type, uint64_t *pointer);
 
 /* The same for a cue, whose objects cue_release frees together. cue_allocate is for cue 0.
@@ -134,13 +138,16 @@ uint32_t cue_load(const uint8_t *image, size_t image_len, const uint64_t *table,
  * Refusals, in order: 4, 5, 14, 16, 10, 11, 13. */
 uint32_t cue_store(uint8_t *image, size_t image_len, const uint64_t *table, size_t table_len, uint64_t pointer, uint64_t width, uint64_t value);
 
-/* Frees the object whose base the pointer is, merges with free neighbours, zeroes the rest and the table entry.
- * Refusals, in order: 4, 5, 10, 11, 15, 7 (also where the walk from 16 misses the header, or the next one is unsound). */
+/* Frees the object whose base the pointer is, merges with free neighbours, zeroes the rest and the table entry. The free
+ * total grows by the object's extent.
+ * Refusals, in order: 4, 5, 10, 11, 15, 7 (also where the walk from 16 misses the header, or the next one is unsound),
+ * 22 (the free total would exceed image_len - 16). */
 uint32_t cue_free(uint8_t *image, size_t image_len, uint64_t *table, size_t table_len, uint64_t pointer);
 
 /* Frees all objects of a cue and gives how many, 0 where it has none; image and table are as if each had been freed by
  * cue_free, in address order.
- * Refusals, in order: 4, 5, 7 (wherever in the image), 21. */
+ * Refusals, in order: 4, 5, 7 (wherever in the image), 21, 22 (the free total would exceed image_len - 16, with all of
+ * the objects' extents; also where the cue has none). */
 uint32_t cue_release(uint8_t *image, size_t image_len, uint64_t *table, size_t table_len, uint32_t cue, uint64_t *count);
 
 /* Sets length bytes to one value.
@@ -166,6 +173,11 @@ uint32_t cue_copy_text(uint8_t *image, size_t image_len, const uint64_t *table, 
  * are image_len - 16 in all.
  * Refusals, in order: 4, 5, 7. */
 uint32_t cue_tally(const uint8_t *image, size_t image_len, const uint64_t *table, size_t table_len, uint64_t *objects, uint64_t *live_bytes, uint64_t *free_bytes, uint64_t *overhead_bytes);
+
+/* The free bytes as the superblock has them, without a walk. On an image that only these calls have written since
+ * cue_setup, through pointers of live objects, they are cue_tally's; on a damaged one any 32-bit number.
+ * Refusals, in order: 4, 5. */
+uint32_t cue_free_total(const uint8_t *image, size_t image_len, const uint64_t *table, size_t table_len, uint64_t *total);
 
 #ifdef __cplusplus
 }

@@ -1,11 +1,12 @@
-//! What the number of blocks costs: the walks of allocate, free and tally; load and store, which do not walk.
+//! What the number of blocks costs: the walks of allocate, free and tally; load, store and free total, which do not walk.
 
 use crate::accesses::{each, is_small, FRAMES, PASSES};
 use crate::both;
 use crate::contestants::{Calls, Lent, Library, Model};
-use crate::measure::{heading, sink, time, Bench, Other};
-use cueledger_tests::model::Header;
+use crate::measure::{heading, repeat, sink, time, Bench, Other};
+use cueledger_tests::model::{self, Header};
 use cueledger_tests::random::Random;
+use std::hint::black_box;
 
 /// An image of live blocks, then a free one.
 #[derive(Clone, Copy)]
@@ -25,22 +26,33 @@ impl Layout {
             block[..16].copy_from_slice(&Header::live(self.extent as u64, 1, self.extent as u32 - 16, 0).bytes());
         }
         lent.image[end..end + 16].copy_from_slice(&Header::free(self.free as u64).bytes());
+        model::set_total(&mut lent.image, self.free as u64);
         lent
     }
 
     /// The same with each live block made free with even odds, so that no kind follows from the one before.
     fn mixed(self, random: &mut Random) -> Lent {
         let mut lent = self.lent();
+        let mut total = model::total(&lent.image);
         for block in lent.image[16..16 + self.extent * self.blocks].chunks_exact_mut(self.extent) {
             if random.percent(50) {
                 block[..16].copy_from_slice(&Header::free(self.extent as u64).bytes());
+                total += self.extent as u64;
             }
         }
+        model::set_total(&mut lent.image, total);
         lent
     }
 }
 
-/// The library's load and store in the same few objects, behind few blocks and behind many.
+/// Calls of free total in a round.
+const TOTALS: usize = 20_000;
+
+fn totals<C: Calls>(lent: &mut Lent) -> f64 {
+    repeat(TOTALS, |_| sink(C::free_total(black_box(lent)).unwrap()))
+}
+
+/// The library's load and store in the same few objects, and its free total, behind few blocks and behind many.
 pub fn independence(bench: &mut Bench) {
     println!("\n{:<40}{:>11}{:>11}{:>8}", "behind a number of blocks, a call", "100,000 ns", "10 ns", "ratio");
     for (frame, slot_exponent, small) in FRAMES {
@@ -57,6 +69,22 @@ pub fn independence(bench: &mut Bench) {
             .map(|ns| ns / (PASSES * 1024) as f64);
         bench.many_and_few(&format!("load 8, {frame}, behind blocks"), load_many, load_few);
         bench.many_and_few(&format!("store 8, {frame}, behind blocks"), store_many, store_few);
+    }
+    let mut images = [100_000, 10].map(|blocks| Layout { blocks, extent: 32, free: 64, slot_exponent: 15 }.lent());
+    let rounds = bench.best(&mut images, [&mut |l| totals::<Library>(&mut l[0]), &mut |l| totals::<Library>(&mut l[1])]);
+    let [many, few] = rounds.map(|ns| ns / TOTALS as f64);
+    bench.many_and_few("free total, behind blocks", many, few);
+}
+
+/// Beside the library's tally of the same image, which gives the same number.
+pub fn free_totals(bench: &mut Bench) {
+    heading("free total, a call", "tally");
+    for (name, blocks, tallies) in [("1 block", 1, TOTALS), ("1,000 blocks", 1_000, 100), ("100,000 blocks", 100_000, 1)] {
+        let mut lent = Layout { blocks, extent: 32, free: 64, slot_exponent: 15 }.lent();
+        // as if there were as many of them
+        let mut tally = |lent: &mut Lent| repeat(tallies, |_| sink(Library::tally(black_box(lent)).unwrap())) * (TOTALS / tallies) as f64;
+        let rounds = (totals::<Library>, totals::<Model>);
+        bench.line(&format!("free total, {name}"), TOTALS, &mut lent, rounds, Other::Shown(&mut tally));
     }
 }
 

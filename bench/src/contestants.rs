@@ -38,6 +38,7 @@ pub trait Calls {
     fn compare(lent: &Lent, left: u64, right: u64, length: u32) -> CompareAnswer;
     fn copy_text(lent: &mut Lent, target: u64, source: u64) -> Answer;
     fn tally(lent: &Lent) -> TallyAnswer;
+    fn free_total(lent: &Lent) -> Answer;
 }
 
 /// Two closures of one text, in which the type named first is the library and then the model.
@@ -121,6 +122,10 @@ impl Calls for Library {
     fn tally(lent: &Lent) -> TallyAnswer {
         export!(cue_tally, lent, as_ptr, as_ptr; objects live_bytes free_bytes overhead_bytes)
     }
+
+    fn free_total(lent: &Lent) -> Answer {
+        export!(cue_free_total, lent, as_ptr, as_ptr; total).map(first)
+    }
 }
 
 fn nothing(_: [u64; 0]) -> u64 {
@@ -180,5 +185,9 @@ impl Calls for Model {
 
     fn tally(lent: &Lent) -> TallyAnswer {
         model::tally(&lent.image, &lent.table)
+    }
+
+    fn free_total(lent: &Lent) -> Answer {
+        model::free_total(&lent.image, &lent.table)
     }
 }

@@ -2,7 +2,7 @@
 
 use crate::contestants::{Calls, Lent, Library, Model};
 use crate::measure::{heading, sink, time, Bench};
-use cueledger_tests::model::Header;
+use cueledger_tests::model::{self, Header};
 
 /// Images whose only object, of `size` bytes, is freed; what is left of the image is free, and zeroed with it.
 struct Images {
@@ -41,6 +41,7 @@ impl Images {
         for lent in &mut self.lents {
             let extent = lent.image.len() as u64 - 16;
             lent.image[16..32].copy_from_slice(&Header::free(extent).bytes());
+            model::set_total(&mut lent.image, extent);
             lent.table.fill(0);
         }
         self.allocate_again();

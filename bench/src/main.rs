@@ -30,6 +30,7 @@ fn main() {
     accesses::measure(&mut bench);
     refused::measure(&mut bench);
     blocks::independence(&mut bench);
+    blocks::free_totals(&mut bench);
     blocks::few(&mut bench);
     // the longest images do not fit the second-level cache, and the third is shared with other programs: more rounds
     bench.for_each_line = 3 * for_each_line;

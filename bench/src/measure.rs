@@ -150,7 +150,7 @@ impl Bench {
         println!("\nSlower than the model by more than 10 %: {}", list(&self.slower_than_model));
         println!("Slower by at most 10 %, the noise allowed: {}", list(&self.within_noise));
         println!("From 4 KiB on, over {TARGET} times the slice function: {}", list(&self.over_target));
-        println!("Load and store slower behind 100,000 blocks than behind 10 by more than 10 %: {}", list(&self.slower_behind_many));
+        println!("Load, store and free total slower behind 100,000 blocks than behind 10 by more than 10 %: {}", list(&self.slower_behind_many));
         println!("A log over {LOG_TARGET} ms: {}", list(&self.slow_logs));
     }
 }

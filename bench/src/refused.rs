@@ -3,6 +3,7 @@
 use crate::both;
 use crate::contestants::{Calls, Lent, Model};
 use crate::measure::{heading, repeat, Bench, Other};
+use cueledger_tests::model;
 use std::hint::black_box;
 
 const CALLS: usize = 20_000;
@@ -53,6 +54,13 @@ pub fn measure(bench: &mut Bench) {
     refused!(bench, lent, "load, bad width", 14, |C, lent| C::load(lent, small, 9));
     refused!(bench, lent, "free, not the base", 15, |C, lent| C::free(lent, small + 8));
     refused!(bench, lent, "store, value too large", 16, |C, lent| C::store(lent, small, 1, 256));
+    let total = model::total(&lent.image);
+    model::set_total(&mut lent.image, 0);
+    refused!(bench, lent, "allocate, total too small", 22, |C, lent| C::allocate(lent, 16));
+    model::set_total(&mut lent.image, u32::MAX.into());
+    refused!(bench, lent, "free, total too large", 22, |C, lent| C::free(lent, small));
+    refused!(bench, lent, "release, total too large", 22, |C, lent| C::release(lent, 0));
+    model::set_total(&mut lent.image, total);
     lent.table.fill(0);
     refused!(bench, lent, "release, entry lost", 21, |C, lent| C::release(lent, 0));
     lent.image[16] ^= 1;
@@ -60,4 +68,5 @@ pub fn measure(bench: &mut Bench) {
     refused!(bench, lent, "tally, first header unsound", 7, |C, lent| C::tally(lent));
     lent.image[0] ^= 1;
     refused!(bench, lent, "load, bad superblock", 4, |C, lent| C::load(lent, small, 8));
+    refused!(bench, lent, "free total, bad superblock", 4, |C, lent| C::free_total(lent));
 }

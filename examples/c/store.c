@@ -22,7 +22,7 @@ static void report(const char *call, uint32_t number)
 
 int main(void)
 {
-    uint64_t record, name, buffer, moved, value, objects, live_bytes, free_bytes, overhead_bytes;
+    uint64_t record, name, buffer, moved, value, objects, live_bytes, free_bytes, overhead_bytes, total;
     int64_t order;
 
     report("set up", cue_setup(STORE, SLOT_EXPONENT));
@@ -70,8 +70,12 @@ int main(void)
 
     report("allocate 100 for cue 12", cue_allocate_for(STORE, 100, 9, 12, &buffer));
     report("allocate 2000 for cue 12", cue_allocate_for(STORE, 2000, 9, 12, &buffer)); /* large-framed: longer than a slot */
+    report("free total", cue_free_total(STORE, &total));
+    printf("%" PRIu64 " bytes\n", total);
     report("release cue 12", cue_release(STORE, 12, &value));
     printf("%" PRIu64 " objects\n", value);
+    report("free total", cue_free_total(STORE, &total));
+    printf("%" PRIu64 " bytes\n", total);
     report("load from the larger", cue_load(STORE, buffer, 1, &value));
     report("release cue 12 again", cue_release(STORE, 12, &value));
     printf("%" PRIu64 " objects\n", value);

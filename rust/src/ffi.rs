@@ -28,4 +28,5 @@ extern "C" {
         free_bytes: *mut u64,
         overhead_bytes: *mut u64,
     ) -> u32;
+    pub fn cue_free_total(image: *const u8, image_len: usize, table: *const u64, table_len: usize, total: *mut u64) -> u32;
 }

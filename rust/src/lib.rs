@@ -25,6 +25,7 @@
 //!     store.allocate_for(size, 7, 12)?;
 //! }
 //! assert_eq!(store.release(12), Ok(2)); // all objects of cue 12
+//! assert_eq!(store.free_total(), Ok(4080)); // all but the superblock
 //! # Ok::<(), Refusal>(())
 //! ```
 #![no_std]

@@ -53,11 +53,15 @@ pub enum Refusal {
     ///
     /// Something else has written into the table, or it is another image's.
     EntryLost = 21,
+    /// 22: allocate would take the free total below zero, or free or release leave it above the image's length less 16.
+    ///
+    /// Something else has written into the image, as for [`Unsound`](Refusal::Unsound).
+    WrongTotal = 22,
 }
 
 impl Refusal {
     /// Every refusal, in the order of its number.
-    pub const ALL: [Refusal; 18] = [
+    pub const ALL: [Refusal; 19] = [
         Refusal::BadExponent,
         Refusal::BadLength,
         Refusal::TooFewEntries,
@@ -76,9 +80,10 @@ impl Refusal {
         Refusal::TooLarge,
         Refusal::Unterminated,
         Refusal::EntryLost,
+        Refusal::WrongTotal,
     ];
 
-    /// The number that the exports return: 1 to 16, 20 or 21. 17 to 19 are a call log's.
+    /// The number that the exports return: 1 to 16 or 20 to 22. 17 to 19 are a call log's.
     ///
     /// ```
     /// # use cueledger::Refusal;
@@ -99,7 +104,7 @@ impl Refusal {
     pub const fn from_number(number: u32) -> Option<Refusal> {
         let place = match number {
             1..=16 => number - 1,
-            20..=21 => number - 4,
+            20..=22 => number - 4,
             _ => return None,
         };
         Some(Self::ALL[place as usize])
@@ -131,6 +136,7 @@ impl Refusal {
             Refusal::TooLarge => "value too large for the width",
             Refusal::Unterminated => "no zero byte up to the body's end",
             Refusal::EntryLost => "table entry does not hold its header",
+            Refusal::WrongTotal => "free total would leave 0 to L - 16",
         }
     }
 }
@@ -154,6 +160,6 @@ mod tests {
         for number in (0..300).chain([u32::MAX]) {
             assert_eq!(Refusal::from_number(number).map(Refusal::number), numbers.contains(&number).then_some(number));
         }
-        assert!([0, 17, 18, 19, 22].iter().all(|&number| Refusal::from_number(number).is_none()));
+        assert!([0, 17, 18, 19, 23].iter().all(|&number| Refusal::from_number(number).is_none()));
     }
 }

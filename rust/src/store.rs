@@ -52,7 +52,8 @@ impl<'a> Store<'a> {
         48 * ((image_len.saturating_sub(1) >> ((slot_exponent & 15) + 1)) + 1)
     }
 
-    /// A fresh store: zeroes the image, writes its superblock and one free block, and zeroes the used table entries.
+    /// A fresh store: zeroes the image, writes its superblock and one free block, and zeroes the used table entries. The
+    /// [free total](Store::free_total) is the image's length less 16.
     ///
     /// Entries beyond the used ones stay as they are. A larger slot exponent makes the table smaller and more objects
     /// small-framed; with a smaller one [`offset`](Store::offset) refuses nearer to the object.
@@ -136,11 +137,12 @@ impl<'a> Store<'a> {
 
     /// Allocates `size` bytes in the lowest free block that fits and gives the tagged pointer to their start.
     ///
-    /// The body is not written; it is zero on an image that only these calls have written since [`Store::set_up`].
+    /// The body is not written; it is zero on an image that only these calls have written since [`Store::set_up`]. The
+    /// [free total](Store::free_total) falls by the object's extent.
     ///
     /// Refused with, in this order: [`Empty`](Refusal::Empty); [`Unsound`](Refusal::Unsound) or [`NoSpace`](Refusal::NoSpace), as
-    /// the walk over the blocks ends; [`EntryTaken`](Refusal::EntryTaken), which never occurs where only these calls have written,
-    /// through pointers of live objects.
+    /// the walk over the blocks ends; [`EntryTaken`](Refusal::EntryTaken); [`WrongTotal`](Refusal::WrongTotal). The last two never
+    /// occur where only these calls have written, through pointers of live objects.
     ///
     /// ```
     /// # use cueledger::{Refusal, Store};
@@ -252,10 +254,12 @@ impl<'a> Store<'a> {
         answer(number, ())
     }
 
-    /// Frees the object whose start `pointer` is, merges its block with free neighbours and zeroes what it held.
+    /// Frees the object whose start `pointer` is, merges its block with free neighbours and zeroes what it held. The
+    /// [free total](Store::free_total) grows by the object's extent.
     ///
     /// Refused with, in this order: [`BadTag`](Refusal::BadTag), [`Dangling`](Refusal::Dangling), [`NotBase`](Refusal::NotBase),
-    /// [`Unsound`](Refusal::Unsound).
+    /// [`Unsound`](Refusal::Unsound), [`WrongTotal`](Refusal::WrongTotal). The last never occurs where only these calls have written,
+    /// through pointers of live objects.
     ///
     /// ```
     /// # use cueledger::{Refusal, Store};
@@ -279,7 +283,8 @@ impl<'a> Store<'a> {
     /// Image and table are then as if each had been [freed](Store::free), in the order of their addresses. Cue 0 is that of the
     /// objects of [`allocate`](Store::allocate).
     ///
-    /// Refused with, in this order: [`Unsound`](Refusal::Unsound), wherever in the image; [`EntryLost`](Refusal::EntryLost). Neither
+    /// Refused with, in this order: [`Unsound`](Refusal::Unsound), wherever in the image; [`EntryLost`](Refusal::EntryLost);
+    /// [`WrongTotal`](Refusal::WrongTotal), asked of all the objects' extents together, and also where there are none. None of them
     /// occurs where only these calls have written, through pointers of live objects.
     ///
     /// ```
@@ -425,6 +430,32 @@ impl<'a> Store<'a> {
             ffi::cue_tally(image.as_ptr(), image.len(), table.as_ptr(), table.len(), &mut objects, &mut live_bytes, &mut free_bytes, &mut overhead_bytes)
         };
         answer(number, Tally { objects, live_bytes, free_bytes, overhead_bytes })
+    }
+
+    /// The free bytes as the superblock has them, in constant time.
+    ///
+    /// They are [`tally`](Store::tally)'s free bytes where only these calls have written, through pointers of live objects. On a damaged
+    /// image they are any number of 32 bits.
+    ///
+    /// No store that was [opened](Store::open) or [set up](Store::set_up) refuses it.
+    ///
+    /// ```
+    /// # use cueledger::{Refusal, Store};
+    /// # let (mut image, mut table) = ([0u8; 1024], [0u64; Store::table_entries(1024, 9)]);
+    /// let mut store = Store::set_up(&mut image, &mut table, 9)?;
+    /// assert_eq!(store.free_total(), Ok(1008));
+    /// let record = store.allocate(10, 7)?;
+    /// assert_eq!(store.free_total(), Ok(1008 - 26)); // 16 bytes of header, 10 of body
+    /// store.free(record)?;
+    /// assert_eq!(store.free_total(), Ok(1008));
+    /// # Ok::<(), Refusal>(())
+    /// ```
+    #[inline]
+    pub fn free_total(&self) -> Result<u64, Refusal> {
+        let mut total = 0;
+        // SAFETY: as in `offset`.
+        let number = unsafe { ffi::cue_free_total(self.image.as_ptr(), self.image.len(), self.table.as_ptr(), self.table.len(), &mut total) };
+        answer(number, total)
     }
 
     /// The blocks of the image, free and live, in the order of their places.

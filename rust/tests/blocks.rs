@@ -80,6 +80,24 @@ fn last_bytes() {
     assert!(Blocks::new(&image).all(|block| block.unwrap().cue == 0));
 }
 
+/// The free total is that of the free blocks; on a damaged superblock it is given as it stands.
+#[test]
+fn free_total() {
+    let (mut image, mut table) = sample();
+    let free = Blocks::new(&image).map(|block| block.unwrap()).filter(|block| block.kind == Kind::Free).map(|block| u64::from(block.extent)).sum();
+    assert_eq!(Store::open(&mut image, &mut table).unwrap().free_total(), Ok(free));
+    for total in [0, 103, 105, LEN as u32 - 15, 1 << 31, u32::MAX] {
+        image[12..16].copy_from_slice(&total.to_le_bytes());
+        let mut store = Store::open(&mut image, &mut table).unwrap();
+        assert_eq!(store.free_total(), Ok(total.into()));
+        assert_eq!(store.tally().map(|tally| tally.free_bytes), Ok(free));
+        // no object has this cue; the object needs 17 bytes
+        assert_eq!(store.release(1).err(), (total > LEN as u32 - 16).then_some(Refusal::WrongTotal));
+        assert_eq!(store.allocate(1, 0).err(), (total < 17).then_some(Refusal::WrongTotal));
+        (image, table) = sample();
+    }
+}
+
 #[test]
 fn ends_at_the_unsound_header() {
     let (mut image, mut table) = sample();

@@ -28,7 +28,7 @@ static void expect(const char *what, uint32_t number, uint32_t wanted)
 /* 17 to 19 are a call log's */
 static int returned(uint32_t number)
 {
-    return number <= CUE_TOO_LARGE || number == CUE_UNTERMINATED || number == CUE_ENTRY_LOST;
+    return number <= CUE_TOO_LARGE || (number >= CUE_UNTERMINATED && number <= CUE_WRONG_TOTAL);
 }
 
 int main(void)
@@ -45,7 +45,7 @@ int main(void)
         }
 
     /* a reason of its own for each number, and one for all that no call returns */
-    for (number = CUE_ACCEPTED; number <= CUE_ENTRY_LOST + 1; number++)
+    for (number = CUE_ACCEPTED; number <= CUE_WRONG_TOTAL + 1; number++)
         for (other = CUE_ACCEPTED; other < number; other++)
             if ((strcmp(cue_reason(number), cue_reason(other)) == 0) != (!returned(number) && !returned(other))) {
                 printf("%u and %u: \"%s\" and \"%s\"\n", (unsigned)other, (unsigned)number, cue_reason(other), cue_reason(number));

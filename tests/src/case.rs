@@ -4,6 +4,7 @@ use crate::counts::Counts;
 use crate::model::{self, Pointer};
 use crate::random::Random;
 use crate::store::{Access, Answer, Call, Store};
+use crate::totals;
 use std::collections::{BTreeMap, HashMap};
 use std::fmt;
 
@@ -41,6 +42,23 @@ pub enum Damage {
     Entry { index: u64, value: u64 },
     /// The entry of a large-framed pointer; without a value, the place 16 bytes before its address.
     EntryOf { of: Arg, value: Option<u64> },
+    /// The free total: one of these and so much more, in 32 bits.
+    Total { of: Total, more: i64 },
+}
+
+/// A free total. What it comes to is found when the step is taken.
+#[derive(Clone, Copy, Debug, PartialEq, Eq)]
+pub enum Total {
+    /// This many bytes.
+    Bytes(u32),
+    /// As it stands.
+    Stored,
+    /// What the blocks make it.
+    Blocks,
+    /// All bytes behind the superblock.
+    All,
+    /// The last one that row 22 lets pass for this call.
+    Limit(Call<Arg>),
 }
 
 #[derive(Clone, Copy, Debug, PartialEq, Eq)]
@@ -68,7 +86,8 @@ pub struct Buffers {
     pub lent_image: usize,
     pub lent_table: usize,
     pub content: u64,
-    /// A history begun by set-up, on which 9 never occurs, tally is accepted and release takes out the heap's objects.
+    /// A history begun by set-up, on which 9 and 22 never occur, tally is accepted, the free total is its free bytes, and release
+    /// takes out the heap's objects.
     pub history: bool,
 }
 
@@ -87,7 +106,9 @@ pub enum Mismatch {
     NotItsRow { store: &'static str, call: &'static str, refusal: u32 },
     ReadOrRefusalWrote,
     EntryTakenInHistory,
+    WrongTotalInHistory,
     TallyRefusedInHistory,
+    NotTheTallys,
     Unbalanced,
     NotNegated,
     NotTheText,
@@ -103,6 +124,8 @@ impl fmt::Display for Mismatch {
             Mismatch::NotItsRow { store, call, refusal } => write!(f, "the {store} store answered {refusal}, which is no row of {call}"),
             Mismatch::ReadOrRefusalWrote => write!(f, "the expected store wrote something although it refused, or only reads"),
             Mismatch::EntryTakenInHistory => write!(f, "the expected store answered 9 on a history begun by set-up"),
+            Mismatch::WrongTotalInHistory => write!(f, "the expected store answered 22 on a history begun by set-up"),
+            Mismatch::NotTheTallys => write!(f, "the expected store's free total is not its tally's free bytes on a history begun by set-up"),
             Mismatch::TallyRefusedInHistory => write!(f, "the expected store refused a tally on a history begun by set-up"),
             Mismatch::Unbalanced => write!(f, "the expected store's live, free and overhead bytes are not all bytes behind the superblock"),
             Mismatch::NotNegated => write!(f, "the expected store's order is not negated when the operands are swapped"),
@@ -227,6 +250,24 @@ impl<'a, A: Store, B: Store> Run<'a, A, B> {
                     self.set_entry(model::entry(s, p.tag as u32, p.address), value.unwrap_or(p.address.wrapping_sub(16)));
                 }
             }
+            Damage::Total { of, more } => {
+                if let Some(total) = self.total(of) {
+                    for image in [&mut self.expected.image, &mut self.tested.image, &mut self.before.0] {
+                        model::set_total(image, total.wrapping_add(more as u64));
+                    }
+                }
+            }
+        }
+    }
+
+    fn total(&self, total: Total) -> Option<u64> {
+        let image = &self.before.0[..self.lent_image];
+        match total {
+            Total::Bytes(bytes) => Some(bytes.into()),
+            Total::Stored => Some(model::total(&self.before.0)),
+            Total::Blocks => Some(totals::of_blocks(image)),
+            Total::All => Some((image.len() as u64).saturating_sub(model::SUPERBLOCK)),
+            Total::Limit(call) => totals::limit(image, &call.map(|arg| self.resolve(arg))),
         }
     }
 
@@ -293,6 +334,9 @@ impl<'a, A: Store, B: Store> Run<'a, A, B> {
         if self.begun && expected.refusal == 9 {
             return Err(Mismatch::EntryTakenInHistory);
         }
+        if self.begun && expected.refusal == 22 {
+            return Err(Mismatch::WrongTotalInHistory);
+        }
         if call == Call::Tally {
             if self.begun && !expected.accepted() {
                 return Err(Mismatch::TallyRefusedInHistory);
@@ -312,7 +356,18 @@ impl<'a, A: Store, B: Store> Run<'a, A, B> {
                 self.answers.pointers.insert(number, expected.values[0]);
             }
         }
+        if self.begun && expected.accepted() && kind.access == Access::Writes && !self.is_the_tallys() {
+            return Err(Mismatch::NotTheTallys);
+        }
         Ok(expected)
+    }
+
+    /// Whether the free total is the tally's free bytes, where a tally is accepted.
+    fn is_the_tallys(&mut self) -> bool {
+        let side = &mut self.expected;
+        let mut call = |call| side.store.call(&mut side.image[..self.lent_image], &mut side.table[..self.lent_table], call);
+        let (total, tally) = (call(Call::FreeTotal), call(Call::Tally));
+        !tally.accepted() || total == Answer::new(0, [tally.values[2]])
     }
 
     /// Keeps the heap; whether a release is accepted and has done what single frees of the heap's objects do.
@@ -368,6 +423,10 @@ impl Case {
                 }
                 Action::Damage(Damage::Entry { index, value }) => format!("damage: entry {index} = {value:#x}"),
                 Action::Damage(Damage::EntryOf { of, value }) => format!("damage: entry of {:#x} = {value:x?}", run.resolve(of)),
+                Action::Damage(Damage::Total { of, more }) => {
+                    let total = run.total(of).map(|total| total.wrapping_add(more as u64) as u32);
+                    format!("damage: free total = {}", total.map_or("as it is".to_string(), |total| total.to_string()))
+                }
                 Action::Lend { image, table } => format!("lend {image} bytes, {table} entries"),
             };
             let result = match run.step(step, &mut counts) {

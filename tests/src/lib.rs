@@ -3,8 +3,8 @@
 //!
 //! `model` is the documents; `store` the trait that model and library share; `case` a list of calls and damages, and
 //! how it is run on two stores at once; `generate` makes random lists; `counts` and `seen` say what occurred in them;
-//! `shrink` shortens one that fails; `driver` puts them together. `single_pass` is another model of release, `log` the
-//! call log.
+//! `shrink` shortens one that fails; `driver` puts them together. `totals` has the limits of the free total, `single_pass` is
+//! another model of release, `log` the call log.
 
 pub mod case;
 pub mod counts;
@@ -18,6 +18,7 @@ pub mod seen;
 pub mod shrink;
 pub mod single_pass;
 pub mod store;
+pub mod totals;
 
 /// What a test tells, not by println, which the test harness keeps back.
 pub fn print(text: &str) {

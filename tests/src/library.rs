@@ -31,6 +31,7 @@ fn answered(image: &mut [u8], table: &mut [u64], call: Call<Pointer>) -> Result<
         Call::Copy { target, source, length } => store.copy(target, source, length).map(|()| 0)?,
         Call::Compare { left, right, length } => store.compare(left, right, length)? as i64 as u64,
         Call::CopyText { target, source } => store.copy_text(target, source)?,
+        Call::FreeTotal => store.free_total()?,
         Call::Tally => return store.tally().map(|t| [t.objects, t.live_bytes, t.free_bytes, t.overhead_bytes]),
     };
     Ok([value, 0, 0, 0])
@@ -86,6 +87,10 @@ impl Store for Exports {
                 Call::Tally => {
                     let refusal = ffi::cue_tally(bytes, n, entries, m, &mut v, &mut w, &mut x, &mut y);
                     Answer::new(refusal, [v, w, x, y])
+                }
+                Call::FreeTotal => {
+                    let refusal = ffi::cue_free_total(bytes, n, entries, m, &mut v);
+                    Answer::new(refusal, [v])
                 }
             }
         }

@@ -17,6 +17,8 @@ pub type TallyAnswer = Result<[u64; 4], u32>;
 
 pub const SUPERBLOCK: u64 = 16;
 pub const HEADER: u64 = 16;
+/// Where the superblock has the free total.
+pub const TOTAL: usize = 12;
 const FREE: u16 = 1;
 const LIVE: u16 = 2;
 const ENTRIES_PER_DIVISION: u64 = 48;
@@ -40,7 +42,7 @@ pub struct Header {
     pub kind: u16,
     pub type_number: u16,
     pub size: u32,
-    /// A live block's cue number; zero in a free block and in the superblock.
+    /// A live block's cue number, the superblock's free total; zero in a free block.
     pub last: u32,
 }
 
@@ -114,6 +116,41 @@ pub fn blocks(image: &[u8]) -> impl Iterator<Item = (u64, Header)> + '_ {
         at += u64::from(block.1.extent);
         Some(block)
     })
+}
+
+// ---- the free total
+
+/// As the superblock has it, be it damaged: any number of 32 bits. The image has at least 16 bytes.
+pub fn total(image: &[u8]) -> u64 {
+    u64::from(le32(image, TOTAL))
+}
+
+pub fn set_total(image: &mut [u8], total: u64) {
+    image[TOTAL..TOTAL + 4].copy_from_slice(&(total as u32).to_le_bytes());
+}
+
+/// The extent of a live block of `size` bytes made of a free block of `extent`: all of it, where the rest has no room for a header.
+pub fn live_extent(extent: u64, size: u32) -> u64 {
+    let need = HEADER + u64::from(size);
+    if extent - need < HEADER {
+        extent
+    } else {
+        need
+    }
+}
+
+/// The total less what an allocate takes; 22 where that is below zero.
+fn taken(image: &[u8], extent: u64) -> Answer {
+    total(image).checked_sub(extent).ok_or(22)
+}
+
+/// The total and what a free or a release gives back; 22 where that is above L - 16.
+pub fn given_back(image: &[u8], extents: u64) -> Answer {
+    let total = total(image) + extents;
+    if total > image.len() as u64 - SUPERBLOCK {
+        return Err(22);
+    }
+    Ok(total)
 }
 
 // ---- frames, tags, pointers
@@ -193,7 +230,7 @@ pub fn open(image: &[u8], table: &[u64]) -> Result<u32, u32> {
     let length = image.len() as u64;
     let lead = Header::read(image, 0);
     let (s, stated) = (u32::from(lead.type_number), u64::from(lead.size));
-    let laid_out = lead.extent == 16 && lead.kind == 3 && lead.last == 0;
+    let laid_out = lead.extent == 16 && lead.kind == 3;
     if !laid_out || !(6..=15).contains(&s) || !(64..=MAX_LENGTH).contains(&stated) || stated != length {
         return Err(4);
     }
@@ -257,8 +294,9 @@ pub fn set_up(image: &mut [u8], table: &mut [u64], s: u32) -> Answer {
         return Err(3);
     }
     image.fill(0);
-    Header { extent: 16, kind: 3, type_number: s as u16, size: length as u32, last: 0 }.write(image, 0);
-    Header::free(length - SUPERBLOCK).write(image, SUPERBLOCK);
+    let free = length - SUPERBLOCK;
+    Header { extent: 16, kind: 3, type_number: s as u16, size: length as u32, last: free as u32 }.write(image, 0);
+    Header::free(free).write(image, SUPERBLOCK);
     table[..used as usize].fill(0);
     Ok(0)
 }
@@ -286,19 +324,20 @@ pub fn allocate_for(image: &mut [u8], table: &mut [u64], size: u32, type_number:
         h += extent;
     };
     let pointer = Pointer::to(s, h, u64::from(size));
-    if !pointer.small {
-        let held = &mut table[entry(s, pointer.tag as u32, h) as usize];
-        if *held != 0 {
-            return Err(9);
-        }
+    let held = if pointer.small { None } else { Some(&mut table[entry(s, pointer.tag as u32, h) as usize]) };
+    if held.as_ref().is_some_and(|held| **held != 0) {
+        return Err(9);
+    }
+    let live = live_extent(extent, size);
+    let total = taken(image, live)?;
+    if let Some(held) = held {
         *held = h;
     }
-    if extent - need < HEADER {
-        Header::live(extent, type_number, size, cue).write(image, h);
-    } else {
-        Header::live(need, type_number, size, cue).write(image, h);
-        Header::free(extent - need).write(image, h + need);
+    Header::live(live, type_number, size, cue).write(image, h);
+    if live < extent {
+        Header::free(extent - live).write(image, h + live);
     }
+    set_total(image, total);
     Ok(pointer.pack())
 }
 
@@ -375,36 +414,47 @@ pub fn free(image: &mut [u8], table: &mut [u64], pointer: u64) -> Answer {
             to += u64::from(next.extent);
         }
     }
+    let total = given_back(image, u64::from(header.extent))?;
     image[from as usize..to as usize].fill(0);
     Header::free(to - from).write(image, from);
+    set_total(image, total);
     if !p.small {
         table[entry(s, p.tag as u32, h) as usize] = 0;
     }
     Ok(0)
 }
 
-/// The objects that carry the cue: the places of their headers, and their pointers; 7.
-fn carriers(image: &[u8], s: u32, cue: u32) -> Result<Vec<(u64, Pointer)>, u32> {
+/// An object of a cue: the place of its header, its extent and its pointer.
+struct Carrier {
+    h: u64,
+    extent: u64,
+    pointer: Pointer,
+}
+
+/// The objects that carry the cue; 7.
+fn carriers(image: &[u8], s: u32, cue: u32) -> Result<Vec<Carrier>, u32> {
     let mut carriers = Vec::new();
     let mut at = SUPERBLOCK;
     while at != image.len() as u64 {
         let header = sound(image, at).ok_or(7u32)?;
         if header.carries(cue) {
-            carriers.push((at, Pointer::to(s, at, u64::from(header.size))));
+            carriers.push(Carrier { h: at, extent: u64::from(header.extent), pointer: Pointer::to(s, at, u64::from(header.size)) });
         }
         at += u64::from(header.extent);
     }
     Ok(carriers)
 }
 
-/// Document 02's sentence itself: the objects freed singly, in address order.
+/// Document 02's sentence itself: the objects freed singly, in address order. 22 is asked of all their extents before, so that none
+/// of the frees meets it.
 pub fn release(image: &mut [u8], table: &mut [u64], cue: u32) -> Answer {
     let s = open(image, table)?;
     let carriers = carriers(image, s, cue)?;
-    if carriers.iter().any(|&(h, pointer)| !pointer.small && table[entry(s, pointer.tag as u32, h) as usize] != h) {
+    if carriers.iter().any(|&Carrier { h, pointer, .. }| !pointer.small && table[entry(s, pointer.tag as u32, h) as usize] != h) {
         return Err(21);
     }
-    for (h, pointer) in &carriers {
+    given_back(image, carriers.iter().map(|carrier| carrier.extent).sum())?;
+    for Carrier { h, pointer, .. } in &carriers {
         free(image, table, pointer.pack()).unwrap_or_else(|row| panic!("the object at {h} is not freed: {row}"));
     }
     Ok(carriers.len() as u64)
@@ -476,6 +526,11 @@ pub fn tally(image: &[u8], table: &[u64]) -> TallyAnswer {
         at += extent;
     }
     Ok([objects, live_bytes, free_bytes, overhead_bytes])
+}
+
+pub fn free_total(image: &[u8], table: &[u64]) -> Answer {
+    open(image, table)?;
+    Ok(total(image))
 }
 
 #[cfg(test)]

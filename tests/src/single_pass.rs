@@ -1,7 +1,7 @@
 //! Release in time linear in the blocks: the bench's contestant. A walk makes every test; a second one writes, each run of
 //! blocks that become one once.
 
-use crate::model::{entry, open, sound, Answer, Header, Pointer, SUPERBLOCK};
+use crate::model::{entry, given_back, open, set_total, sound, Answer, Header, Pointer, SUPERBLOCK};
 
 /// The table entry of a large-framed object.
 fn entry_of(s: u32, h: u64, header: Header) -> Option<usize> {
@@ -11,20 +11,22 @@ fn entry_of(s: u32, h: u64, header: Header) -> Option<usize> {
 
 pub fn release(image: &mut [u8], table: &mut [u64], cue: u32) -> Answer {
     let s = open(image, table)?;
-    let count = test(image, table, s, cue)?;
+    let (count, total) = test(image, table, s, cue)?;
     if count > 0 {
         write(image, table, s, cue);
+        set_total(image, total);
     }
     Ok(count)
 }
 
-/// 7, 21; gives the number of objects.
-fn test(image: &[u8], table: &[u64], s: u32, cue: u32) -> Answer {
-    let (mut at, mut count, mut lost) = (SUPERBLOCK, 0, false);
+/// 7, 21, 22; gives the number of objects, and the free total with their extents.
+fn test(image: &[u8], table: &[u64], s: u32, cue: u32) -> Result<(u64, u64), u32> {
+    let (mut at, mut count, mut extents, mut lost) = (SUPERBLOCK, 0, 0, false);
     while at != image.len() as u64 {
         let header = sound(image, at).ok_or(7u32)?;
         if header.carries(cue) {
             count += 1;
+            extents += u64::from(header.extent);
             lost |= entry_of(s, at, header).is_some_and(|entry| table[entry] != at);
         }
         at += u64::from(header.extent);
@@ -32,7 +34,7 @@ fn test(image: &[u8], table: &[u64], s: u32, cue: u32) -> Answer {
     if lost {
         return Err(21);
     }
-    Ok(count)
+    Ok((count, given_back(image, extents)?))
 }
 
 /// A free block that ends where the pass stands.

@@ -72,18 +72,19 @@ macro_rules! calls {
 // name, what it does to image and table, its refusals, and its arguments: pointers; others
 calls! {
     SetUp "set-up" Writes [1 2 3] { ; slot_exponent: u32 }
-    Allocate "allocate" Writes [4 5 6 7 8 9] { ; size: u32, type_number: u16 }
-    AllocateFor "allocate for" Writes [4 5 6 7 8 9] { ; size: u32, type_number: u16, cue: u32 }
+    Allocate "allocate" Writes [4 5 6 7 8 9 22] { ; size: u32, type_number: u16 }
+    AllocateFor "allocate for" Writes [4 5 6 7 8 9 22] { ; size: u32, type_number: u16, cue: u32 }
     Move "move" Reads [4 5 10 12] { pointer; distance: i64 }
     Load "load" Reads [4 5 14 10 11 13] { pointer; width: u64 }
     Store "store" Writes [4 5 14 16 10 11 13] { pointer; width: u64, value: u64 }
-    Free "free" Writes [4 5 10 11 15 7] { pointer; }
-    Release "release" Writes [4 5 7 21] { ; cue: u32 }
+    Free "free" Writes [4 5 10 11 15 7 22] { pointer; }
+    Release "release" Writes [4 5 7 21 22] { ; cue: u32 }
     Fill "fill" Writes [4 5 6 10 11 13] { pointer; length: u32, value: u8 }
     Copy "copy" Writes [4 5 6 10 11 13] { target source; length: u32 }
     Compare "compare" Reads [4 5 6 10 11 13] { left right; length: u32 }
     CopyText "text copy" Writes [4 5 10 11 13 20] { target source; }
     Tally "tally" Reads [4 5 7]
+    FreeTotal "free total" Reads [4 5]
 }
 
 impl<P: Copy> Call<P> {
@@ -163,6 +164,7 @@ impl Store for Model {
             Call::Compare { left, right, length } => model::compare(image, table, left, right, length).map(|order| order as u64).into(),
             Call::CopyText { target, source } => model::copy_text(image, table, target, source).into(),
             Call::Tally => model::tally(image, table).into(),
+            Call::FreeTotal => model::free_total(image, table).into(),
         }
     }
 }

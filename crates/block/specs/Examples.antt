@@ -20,7 +20,7 @@ use Rattle.block.specs.declared.walk.Counted.the-variants as counted
 -- live blocks at 16 and 42 of sizes 10 and 20 and of cues 0 and 2^32 - 1, and a free one from 78 to the end
 image : List ℕ
 image =
-    superblock 6 1024
+    superblock 6 1024 946
     ++ (liveHeader 26 1 10 0 ++ (replicate 10 7 ++ (liveHeader 36 2 20 0xFFFFFFFF ++ (replicate 20 8 ++ (freeHeader 946 ++ replicate 930 0)))))
 
 -- the same with an extent at 42 that is too short

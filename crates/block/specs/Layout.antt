@@ -1,23 +1,31 @@
--- The superblock and the block headers of an image: document 01, "The image and its lead-in" and "Blocks"; the cue: document 02, W6. Assumes nothing.
+-- The superblock and the block headers of an image: document 01, "The image and its lead-in" and "Blocks"; the cue and the free total: document 02, W6 and W7. Assumes nothing.
 use Prim.Native.Nat.{ℕ, _+_, _^_}
 use mathlib.Core.Bool.{Bool, cond, _&&_}
 use mathlib.Core.List.{List, _++_}
 use lib.ListN.{length}
 use lib.Dec.{leb, eqb}
-use Rattle.block.specs.Bytes.{encode, field}
+use Rattle.block.specs.Bytes.{encode, field, put}
 use Rattle.block.specs.declared.header.Header.{Header}
 
 -- lo ≤ x ≤ hi
 abbrev pub within : ℕ → ℕ → ℕ → Bool
 within lo hi x = leb lo x && leb x hi
 
--- The superblock, document 01's "lead-in": length 16, kind 3, the slot exponent, the image's length, zero.
-unfoldable pub superblock : ℕ → ℕ → List ℕ
-superblock s L = encode 4 16 ++ (encode 2 3 ++ (encode 2 s ++ (encode 4 L ++ encode 4 0)))
+-- The superblock, document 01's "lead-in": length 16, kind 3, the slot exponent, the image's length, the free total.
+unfoldable pub superblock : ℕ → ℕ → ℕ → List ℕ
+superblock s L total = encode 4 16 ++ (encode 2 3 ++ (encode 2 s ++ (encode 4 L ++ encode 4 total)))
 
 -- the slot exponent that the superblock has
 abbrev pub slotExponent : List ℕ → ℕ
 slotExponent image = field image 6 2
+
+-- the free total that it has, in bytes
+abbrev pub storedTotal : List ℕ → ℕ
+storedTotal image = field image 12 4
+
+-- the image with another free total
+unfoldable pub withTotal : List ℕ → ℕ → List ℕ
+withTotal image total = put image 12 (encode 4 total)
 
 -- document 01's range of slot exponents
 abbrev pub goodExponent : ℕ → Bool
@@ -27,14 +35,14 @@ goodExponent s = within 6 15 s
 abbrev pub goodLength : ℕ → Bool
 goodLength L = within 64 (2 ^ 30) L
 
--- whether the superblock is as laid out, its exponent and length in range, and its length the image's
+-- whether the superblock is as laid out, its exponent and length in range, and its length the image's; its free total may be any
 unfoldable pub superblockGood : List ℕ → Bool
 superblockGood image =
     leb 16 (length image)
     && (eqb (field image 0 4) 16
     && (eqb (field image 4 2) 3
     && (goodExponent (slotExponent image)
-    && (goodLength (field image 8 4) && (eqb (field image 8 4) (length image) && eqb (field image 12 4) 0)))))
+    && (goodLength (field image 8 4) && eqb (field image 8 4) (length image)))))
 
 -- the 16 bytes of a block header: extent (header included), kind, type number, raw size, cue number
 unfoldable pub header : ℕ → ℕ → ℕ → ℕ → ℕ → List ℕ

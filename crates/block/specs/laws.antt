@@ -8,6 +8,7 @@ pub mod Text
 -- superblock and headers
 pub mod Superblock
 pub mod Headers
+pub mod Total
 pub mod Soundness
 -- walks
 pub mod Walks

@@ -3,6 +3,7 @@ use Prim.Native.Nat.{ℕ}
 use mathlib.Core.List.{List}
 use lib.IntN.{ℤ}
 use Rattle.store.specs.State.{Outcome, returned, value, comparisonNumber, comparisonValue, usageNumber, liveObjects, liveBytes, freeBytes, overheadBytes}
+use Rattle.store.specs.declared.answer.Answer.{Answer}
 use Rattle.store.specs.declared.comparing.Comparison.{Comparison}
 use Rattle.store.specs.declared.counting.Usage.{Usage}
 
@@ -34,6 +35,19 @@ export r v image table = record { returned = r; value = v; image = image; table 
 -- what C sees of an outcome with its value
 abbrev pub exported : Outcome → Export
 exported o = export (returned (o .answer)) (value (o .answer)) (o .after .image) (o .after .table)
+
+-- What the export of free total returns and gives: the value is 0 where it is refused.
+pub record Answered : Type 0 where
+  pub returned : ℕ
+  pub value : ℕ
+
+-- made of a returned number and a value
+abbrev pub answered : ℕ → ℕ → Answered
+answered r v = record { returned = r; value = v }
+
+-- what C sees of its answer
+abbrev pub exportedAnswer : Answer → Answered
+exportedAnswer a = answered (returned a) (value a)
 
 -- What the export of compare returns and gives: the value is 0 where it is refused.
 pub record Compared : Type 0 where

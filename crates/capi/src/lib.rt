@@ -2,8 +2,8 @@
 // given through a pointer is 0 where it is refused.
 ghost use mathlib.Core.Path.{_≡_};
 ghost use Rattle.store.specs.State.{state};
-ghost use Rattle.store.specs.Calls.{setUp, allocate, allocateFor, move, load, store, free, fill, copy, compare, copyText, releaseCue, tally};
-ghost use Rattle.capi.specs.Exports.{left, leftBy, export, exported, compared, exportedComparison, tallied, exportedUsage};
+ghost use Rattle.store.specs.Calls.{setUp, allocate, allocateFor, move, load, store, free, fill, copy, compare, copyText, releaseCue, freeTotal, tally};
+ghost use Rattle.capi.specs.Exports.{left, leftBy, export, exported, answered, exportedAnswer, compared, exportedComparison, tallied, exportedUsage};
 use store::Usage;
 
 // A fresh store on the image and table.
@@ -172,6 +172,16 @@ pub extern "C" fn cue_copy_text(
 {
     let a = store::copy_text(image, table, target, source);
     *copied = a.value();
+    a.returned()
+}
+
+// The free total in the superblock goes to `total`.
+#[no_mangle]
+pub extern "C" fn cue_free_total(image: &[u8], table: &[u64], total: &mut u64) -> u32
+    ensures { λ r. ⌜ answered r (now (total .exit)) ≡ exportedAnswer (freeTotal (state (now (image .entry)) (now (table .entry)))) ⌝ }
+{
+    let a = store::free_total(image, table);
+    *total = a.value();
     a.returned()
 }
 

@@ -227,6 +227,52 @@ pub fn cues(run: Run) -> Run {
     run.make(Call::Release(9), NUMBER, 7, 0)
 }
 
+// The free total behind one object more.
+fn taken(run: Run, size: u32, cue: u32, total: u64) -> Run {
+    run.quietly(Call::AllocateFor(size, cue))
+        .make(Call::FreeTotal, NUMBER, 0, total)
+}
+
+// The free total overwritten by these bytes, the third one twice.
+fn with_total(run: Run, low: u8, second: u8, top: u8) -> Run {
+    let mut run = run;
+    run.image[12] = low;
+    run.image[13] = second;
+    run.image[14] = top;
+    run.image[15] = top;
+    run
+}
+
+// The free total beside document 01's four buffers; then overwritten, too low for an allocate, and too high for what is given back: refusal 22.
+pub fn totals(run: Run) -> Run {
+    heading(
+        b"Cases: the free total behind buffers of 10, 20, 32 and 1 bytes for the cues 0, 7, 7 and 0",
+    );
+    let run = lend(run, 1024, 384).quietly(Call::SetUp(6));
+    let run = run.make(Call::FreeTotal, NUMBER, 0, 1008);
+    let run = taken(taken(run, 10, 0, 982), 20, 7, 946);
+    let run = taken(taken(run, 32, 7, 898), 1, 0, 881);
+    heading(b"Cases: the free total overwritten by 0, 2^32-1, 925 and 924");
+    let run = with_total(run, 0, 0, 0).make(Call::Allocate(10), BYTES, 22, 0);
+    let run = with_total(run, 255, 255, 255).make(Call::FreeTotal, NUMBER, 0, 4294967295);
+    let run = run.make(Call::Free(TEN | 32), DONE, 22, 0);
+    let run = run.make(Call::Release(1), NUMBER, 22, 0);
+    let run = with_total(run, 157, 3, 0).make(Call::Release(7), NUMBER, 22, 0);
+    let run = with_total(run, 156, 3, 0).make(Call::Release(7), NUMBER, 0, 2);
+    run.make(Call::FreeTotal, NUMBER, 0, 1008)
+}
+
+// An object that takes all of an image of 64 bytes, whose extent of 48 is more than header and size: refusal 22.
+pub fn spare_totals(run: Run) -> Run {
+    heading(b"Cases: 17 bytes take all of 64; the free total overwritten by 1 and 47");
+    let run = lend(run, 64, 48).quietly(Call::SetUp(6));
+    let run = run.quietly(Call::Allocate(17))
+        .make(Call::FreeTotal, NUMBER, 0, 0);
+    let run = with_total(run, 1, 0, 0).make(Call::Free(TEN | 32), DONE, 22, 0);
+    let run = run.quietly(Call::SetUp(6));
+    with_total(run, 47, 0, 0).make(Call::Allocate(17), BYTES, 22, 0)
+}
+
 // An entry that is taken, a header place near 2^64, and an unsound header: refusals 9, 11 and 7.
 pub fn damaged(run: Run) -> Run {
     let mut run = lend(run, 1024, 384).quietly(Call::SetUp(6));

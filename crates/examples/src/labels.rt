@@ -1,5 +1,5 @@
 // The first column of each call's line: 32 places, in the order of the calls.
-pub const LABELS: [u8; 3904] = *b"set up                          \
+pub const LABELS: [u8; 4416] = *b"set up                          \
 10 bytes                        \
 20 bytes                        \
 32 bytes                        \
@@ -11,6 +11,7 @@ load 4 bytes there              \
 free                            \
 load through its pointer        \
 tally                           \
+free total                      \
 slot exponent 5                 \
 slot exponent 16                \
 63 bytes                        \
@@ -117,6 +118,21 @@ tally                           \
 release 0, of no cue            \
 release 9                       \
 release 9, kind 9 at 64         \
+fresh                           \
+10 bytes more                   \
+20 bytes more                   \
+32 bytes more                   \
+1 byte more                     \
+0: allocate 10                  \
+2^32-1: free total              \
+free at 32                      \
+release 1, of no object         \
+925: release 7                  \
+924: release 7                  \
+free total                      \
+free total                      \
+1: free it                      \
+47: allocate 17                 \
 allocate 32                     \
 load through entry 0            \
 allocate 10                     \

@@ -27,7 +27,8 @@ fn main() {
     let run = cases::texts(cases::compares(run));
     let run = cases::tags(cases::frame_moves(cases::slot_moves(run)));
     let run = cases::frees(cases::not_open(run));
-    let run = cases::damaged(cases::cues(cases::fresh(run)));
+    let run = cases::totals(cases::cues(cases::fresh(run)));
+    let run = cases::damaged(cases::spare_totals(run));
     text(b"\n");
     decimal(run.made);
     text(b" calls, ");

@@ -31,7 +31,7 @@ pub fn heading(t: &[u8]) {
 // The label of the call with this number, 0 the first.
 pub fn label(call: u64) {
     text(b"  ");
-    if call < 122 {
+    if call < 138 {
         let at = 32 * call as usize;
         let end = at + 32;
         text(&LABELS[at..end]);
@@ -39,7 +39,7 @@ pub fn label(call: u64) {
 }
 
 // Why a call was declined, by its number; 17 to 19 are a call log's.
-const REASONS: [u8; 792] = *b"no reason known                     \
+const REASONS: [u8; 828] = *b"no reason known                     \
 slot exponent outside 6 to 15       \
 image length outside 64 to 2^30     \
 table too short to set up           \
@@ -60,7 +60,8 @@ no reason known                     \
 no reason known                     \
 no reason known                     \
 no zero byte up to the body's end   \
-table entry does not hold its header";
+table entry does not hold its header\
+free total would leave 0 to L - 16  ";
 
 // Text without the blanks at its end.
 fn trimmed(t: &[u8]) {
@@ -79,7 +80,7 @@ fn refused(number: u32) {
     text(b"refused ");
     decimal(number as u64);
     text(b": ");
-    if number < 22 {
+    if number < 23 {
         let at = 36 * number as usize;
         let end = at + 36;
         trimmed(&REASONS[at..end]);

@@ -33,6 +33,8 @@ pub enum Call {
     Copy(u64, u64, u32),
     // Target, source.
     CopyText(u64, u64),
+    // No argument.
+    FreeTotal,
 }
 
 // Makes a call.
@@ -49,6 +51,7 @@ fn called(call: Call, image: &mut [u8], table: &mut [u64]) -> Answer {
         Call::Fill(p, length, byte) => store::fill(image, table, p, length, byte),
         Call::Copy(target, source, length) => store::copy(image, table, target, source, length),
         Call::CopyText(target, source) => store::copy_text(image, table, target, source),
+        Call::FreeTotal => store::free_total(image, table),
     }
 }
 

@@ -46,7 +46,7 @@ pub fn used(run: Run) -> Run {
     run.make(Call::Load(STRAY, 4), BYTES, 13, 0)
 }
 
-// A buffer is given back, and what is left is counted.
+// A buffer is given back, and what is in use is counted.
 pub fn freed(run: Run) -> Run {
     heading(b"Free the buffer of 20 bytes");
     let run = run.make(Call::Free(TWENTY), DONE, 0, 0);
@@ -54,6 +54,7 @@ pub fn freed(run: Run) -> Run {
     entry(0, run.table[0]);
     text(b"\n");
     let run = run.make(Call::Load(TWENTY, 4), BYTES, 11, 0);
-    heading(b"Tally: what is in use");
-    run.tally(0, 3, 43, 917, 48)
+    heading(b"Tally: what is in use; and the free total alone");
+    let run = run.tally(0, 3, 43, 917, 48);
+    run.make(Call::FreeTotal, NUMBER, 0, 917)
 }

@@ -22,10 +22,10 @@ use Rattle.block.specs.Walk.{firstFit, LowestFit}
 use Rattle.block.specs.laws.FirstFit.{first-fit-lowest, first-fit-unsound, first-fit-end}
 use Rattle.block.specs.declared.walk.Fit.{Fit}
 use Rattle.block.specs.declared.walk.Fit.the-variants as fit
-use Rattle.store.specs.Calls.{carved}
-use Rattle.store.specs.laws.Allocate.{carved-whole, carved-rest}
-use Rattle.history.proofs.Gaps.{Block, extent, Layout, last, item, zeros, gapBytes, blockBytes, render, GapOk, BlockOk, lookup, blockAt, Placed, Remade, Clear}
-use Rattle.history.proofs.Looks.{gap, regap, gap-ok, gap-le, regap-ok, regap-size, look-first, look-regap, look-inside, look-before}
+use Rattle.store.specs.Calls.{takenExtent, carved}
+use Rattle.store.specs.laws.Allocate.{taken-whole, taken-rest, carved-whole, carved-rest}
+use Rattle.history.proofs.Gaps.{Block, extent, Layout, last, item, zeros, gapBytes, blockBytes, render, gaps, GapOk, BlockOk, lookup, blockAt, Placed, Remade, Clear}
+use Rattle.history.proofs.Looks.{gap, regap, gap-ok, gap-le, regap-ok, regap-size, regap-gaps, look-first, look-regap, look-inside, look-before}
 use Rattle.history.proofs.Rendered.{after, gap-none, gap-some, gap-free, gap-extent, block-not-free, render-regap, gap-cut, Part}
 use Rattle.history.proofs.Focus.{Focus, focus-whole, focus-next, focus-remade, Standing, a-gap, a-block, the-end, standing, no-unsound}
 
@@ -147,6 +147,20 @@ module _ (image : List ℕ) (l : Layout) (k : ℕ) (m : Layout) (f : Focus image
       (tt, new-ok n type cue (gap m) pos fits cue-fits, regap-ok (left n (gap m)) m (left-ok n (gap m)) (f .part .good))
       (omega (arith, new-extent n type cue (gap m), regap-size (left n (gap m)) m, over-left n (gap m) le))
       (carved image k n type cue) (carve-bytes image k m (f .part) n type cue le)
+
+  -- the extent that is taken is the new block's
+  taken-is : takenExtent image k n ≡ 16 + (n + over n (gap m))
+  unfolding over
+  taken-is =
+      let x : gap m ≡ extentAt image k = sym (gap-extent image k m (f .part) (omega arith)) in
+      byBool (ltb (gap m - (16 + n)) 16)
+      (λ t. taken-whole image k n (gap m) x (ltb-true _ _ t) ∙ rw t (omega arith))
+      (λ t. taken-rest image k n (gap m) x (ltb-false _ _ t) ∙ rw t (omega arith))
+
+  -- it is taken from the gaps
+  pub carve-taken : gaps (f .fill (placed-in n type cue m)) + takenExtent image k n ≡ gaps l
+  carve-taken =
+      omega (arith, f .free-bytes (placed-in n type cue m), regap-gaps (left n (gap m)) m, over-left n (gap m) le, taken-is)
 
   pub carve-looks : (j : ℕ) → lookup k (placed-in n type cue m) j ≡ cond (eqb j k) (some (new n type cue (gap m))) (lookup k m j)
   unfolding lookup

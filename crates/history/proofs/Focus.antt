@@ -16,7 +16,7 @@ use Rattle.block.specs.Layout.{extentAt, isFree, sound}
 use Rattle.block.specs.laws.Soundness.{sound-in}
 use Rattle.block.specs.Walk.{walkFrom, walk, reaching, OnWalk, first, next}
 use Rattle.block.specs.laws.Walks.{MeetsUnsound, walk-begins, walk-next}
-use Rattle.history.proofs.Gaps.{Block, extent, Layout, last, item, render, size, Ok, lookup, blockAt, Placed, Remade}
+use Rattle.history.proofs.Gaps.{Block, extent, Layout, last, item, render, size, gaps, Ok, lookup, blockAt, Placed, Remade}
 use Rattle.history.proofs.Looks.{gap, look-rest, look-inside, look-early, look-under, clash}
 use Rattle.history.proofs.Rendered.{Part, length-render, gap-sound, gap-extent, block-sound, block-not-free, block-extent, part-next, over-item}
 
@@ -75,6 +75,7 @@ pub record Focus (image : List ℕ) (l : Layout) (k : ℕ) (m : Layout) : Type 0
   pub fill : Layout → Layout
   pub okay : (n : Layout) → Ok n → Ok (fill n)
   pub same : (n : Layout) → size n ≡ size m → size (fill n) ≡ size l
+  pub free-bytes : (n : Layout) → gaps (fill n) + gaps m ≡ gaps l + gaps n
   pub built : (n : Layout) → take k image ++ render n ≡ take 16 image ++ render (fill n)
   pub looks : (n : Layout) (t : ℕ) (x : Option Block) → k ≤ t → ((j : ℕ) → lookup k n j ≡ cond (eqb j t) x (lookup k m j))
       → (j : ℕ) → blockAt (fill n) j ≡ cond (eqb j t) x (blockAt l j)
@@ -94,6 +95,7 @@ focus-whole image l p =
       fill = λ n. n;
       okay = λ n k. k;
       same = λ n e. e;
+      free-bytes = λ n. omega arith;
       built = λ n. refl;
       looks = λ n t x le e. e;
       looked = λ j le. refl;
@@ -118,6 +120,7 @@ focus-next image l k g b m f =
       fill = λ n. f .fill (item g b n);
       okay = λ n o. f .okay (item g b n) (f .part .good .0, f .part .good .1, o);
       same = λ n e. f .same (item g b n) (omega arith);
+      free-bytes = λ n. omega (arith, f .free-bytes (item g b n));
       built = λ n. over-item image k g b m (f .part) n ∙ f .built (item g b n);
       looks = λ n t x le e. f .looks (item g b n) t x (omega arith) (look-under k g b m n t x (omega arith) e);
       looked = λ j le. f .looked j (omega arith) ∙ look-rest k g b m j (λ q. omega arith);

@@ -17,8 +17,8 @@ use Rattle.block.specs.declared.walk.Met.the-variants as met
 use Rattle.store.specs.Calls.{released, mergeStart, mergeEnd, merged}
 use Rattle.store.specs.laws.Free.{merge-start-here, merge-start-free, merge-end-last, merge-end-free, merge-end-live, released-merges, merged-parts}
 use Rattle.store.specs.declared.release.Release.the-variants as release
-use Rattle.history.proofs.Gaps.{Block, extent, Layout, last, item, zeros, render, lookup, Remade}
-use Rattle.history.proofs.Looks.{gap, regap, gap-ok, gap-le, regap-ok, regap-size, look-regap, look-before}
+use Rattle.history.proofs.Gaps.{Block, extent, Layout, last, item, zeros, render, gaps, lookup, Remade}
+use Rattle.history.proofs.Looks.{gap, regap, gap-ok, gap-le, regap-ok, regap-size, regap-gaps, look-regap, look-before}
 use Rattle.history.proofs.Rendered.{Part, part-after, part-next, gap-some, gap-free, gap-extent, render-regap, block-sound, block-not-free, block-extent}
 use Rattle.history.proofs.Focus.{Crossed, cross-gap, Focus, focus-next, focus-remade, standing-first, standing-sound}
 
@@ -103,6 +103,10 @@ module _ (image : List ℕ) (l : Layout) (k g : ℕ) (b : Block) (m : Layout) (f
       focus-remade image l k (item g b m) f (regap joined m)
       (regap-ok joined m (gap-ok joined (omega arith)) (f .part .good .2)) (omega (arith, regap-size joined m))
       (merged image k (k + joined)) free-bytes
+
+  -- the block's extent is given back to the gaps
+  pub free-given : gaps (f .fill (regap joined m)) ≡ gaps l + extentAt image (k + g)
+  free-given = omega (arith, f .free-bytes (regap joined m), regap-gaps joined m, block-extent image k g b m (f .part))
 
   pub free-looks : (j : ℕ) → lookup k (regap joined m) j ≡ cond (eqb j (k + g)) none (lookup k (item g b m) j)
   unfolding lookup

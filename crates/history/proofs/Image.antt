@@ -12,10 +12,10 @@ use Rattle.block.specs.Layout.{headerAt, sound, isFree, isLive, extentAt, sizeA
 use Rattle.block.specs.Walk.{firstFit, walkTo, countBlocks, OnWalk}
 use Rattle.block.specs.declared.walk.Fit.the-variants as fit
 use Rattle.block.specs.declared.walk.Counted.the-variants as counted
-use Rattle.store.specs.Calls.{fresh, carved, released, merged}
+use Rattle.store.specs.Calls.{fresh, takenExtent, carved, released, merged}
 use Rattle.store.specs.declared.answer.Refusal.the-variants.{Unsound}
 use Rattle.store.specs.declared.release.Release.the-variants as release
-use Rattle.history.proofs.Gaps.{Block, extent, headed, Layout, last, item, blockAt, BlockOk, counts, Placed, Remade, Clear, patched}
+use Rattle.history.proofs.Gaps.{Block, extent, headed, Layout, last, item, gaps, blockAt, BlockOk, counts, Placed, Remade, Clear, patched}
 use Rattle.history.proofs.Looks.{gap, regap, look-apart, look-swap}
 use Rattle.history.proofs.Rendered.{block-header, block-sound}
 use Rattle.history.proofs.Focus.{Focus, Found, found, find, standing}
@@ -23,8 +23,8 @@ use Rattle.history.proofs.Bodies.{read-at, write-remade, patched-length
 use Rattle.history.proofs.Places.{standing-neighbours, standing-free-zero, standing-tail-zero, not-met}
 use Rattle.history.proofs.Counting.{count-layout}
 use Rattle.history.proofs.Fresh.{fresh-placed}
-use Rattle.history.proofs.Fitting.{new, placed-in, carve-remade, carve-looks, carve-vacant, carve-clear, FirstFit, at, nowhere, first-fit}
-use Rattle.history.proofs.Freeing.{joined, free-merges, free-remade, free-looks}
+use Rattle.history.proofs.Fitting.{new, placed-in, carve-remade, carve-taken, carve-looks, carve-vacant, carve-clear, FirstFit, at, nowhere, first-fit}
+use Rattle.history.proofs.Freeing.{joined, free-merges, free-remade, free-given, free-looks}
 
 -- a live block of the layout, in the image
 pub record LiveAt (image : List ℕ) (h : ℕ) (b : Block) : Type 0 where
@@ -63,6 +63,7 @@ read-body image l h b p e i n f = go h (find image l h b p e)
 pub record Rewritten (image : List ℕ) (l : Layout) (h : ℕ) (b after : Block) (image′ : List ℕ) : Type 0 where
   pub next : Layout
   pub remade : Remade image image′ next
+  pub same-gaps : gaps next ≡ gaps l
   pub looks : (k : ℕ) → blockAt next k ≡ cond (eqb k h) (some after) (blockAt l k)
 
 pub write-body : (image : List ℕ) (l : Layout) (h : ℕ) (b : Block) → Placed image l → blockAt l h ≡ some b
@@ -74,6 +75,7 @@ write-body image l h b p e i bytes f = go h (find image l h b p e)
         record {
           next = r .fill (item g (patched b i bytes) m);
           remade = write-remade image l k g b m r i bytes f;
+          same-gaps = omega (arith, r .free-bytes (item g (patched b i bytes) m));
           looks = r .looks (item g (patched b i bytes) m) (k + g) (some (patched b i bytes)) (omega arith)
               (look-swap k g b (patched b i bytes) m (omega (arith, patched-length b i bytes f)));
         }
@@ -88,6 +90,7 @@ pub record Carved (image : List ℕ) (l : Layout) (n type cue h : ℕ) : Type 0 
   pub for-cue : block .cue ≡ cue
   pub next : Layout
   pub remade : Remade image (carved image h n type cue) next
+  pub taken : gaps next + takenExtent image h n ≡ gaps l
   pub looks : (k : ℕ) → blockAt next k ≡ cond (eqb k h) (some block) (blockAt l k)
 
 pub data Fitted (image : List ℕ) (l : Layout) (n type cue : ℕ) : Type 0 where
@@ -111,6 +114,7 @@ fitted image l p n type cue least fits cue-fits = go (first-fit image l p (16 + 
           for-cue = refl;
           next = f .fill (placed-in n type cue m);
           remade = carve-remade image l h m f n type cue (r .room) least fits cue-fits;
+          taken = carve-taken image l h m f n type cue (r .room);
           looks = f .looks (placed-in n type cue m) h (some (new n type cue (gap m))) (omega arith) (carve-looks image l h m f n type cue (r .room));
         })
     go (nowhere e c) = full e c
@@ -122,6 +126,7 @@ pub record Freed (image : List ℕ) (l : Layout) (h : ℕ) (b : Block) : Type 0 
   pub merges : released image h (walkTo image h) ≡ release.Merges h from to
   pub next : Layout
   pub remade : Remade image (merged image from to) next
+  pub given : gaps next ≡ gaps l + extentAt image h
   pub looks : (k : ℕ) → blockAt next k ≡ cond (eqb k h) none (blockAt l k)
 
 pub freed : (image : List ℕ) (l : Layout) (h : ℕ) (b : Block) → Placed image l → blockAt l h ≡ some b → Freed image l h b
@@ -135,6 +140,7 @@ freed image l h b p e = go h (find image l h b p e)
           merges = free-merges image l k g b m f;
           next = f .fill (regap (joined image l k g b m f) m);
           remade = free-remade image l k g b m f;
+          given = free-given image l k g b m f;
           looks = f .looks (regap (joined image l k g b m f) m) (k + g) none (omega arith) (free-looks image l k g b m f);
         }
 

@@ -11,8 +11,9 @@ use borrow.Author.Tests.{eq-eqb}
 use Rattle.frame.specs.Pointers.{unpack, pack, goodTag}
 use Rattle.frame.specs.Tags.{pointerTo, usedEntries}
 use Rattle.frame.specs.laws.Objects.{PointerOf, unpack-address, own-pointer}
-use Rattle.block.specs.Layout.{superblock, superblockGood, slotExponent, isLive, extentAt, sizeAt, cueAt}
-use Rattle.block.specs.laws.Superblock.{superblock-front, exponent-front}
+use Rattle.block.specs.Layout.{superblock, superblockGood, slotExponent, storedTotal, withTotal, isLive, extentAt, sizeAt, cueAt}
+use Rattle.block.specs.laws.Superblock.{superblock-front, exponent-front, total-front}
+use Rattle.block.specs.laws.Total.{length-with-total, with-total-behind, with-total-front}
 use Rattle.block.specs.declared.header.Header.{Header}
 use Rattle.store.specs.State.{State, state, demand}
 use Rattle.store.specs.Calls.{fresh, cleared, opening, headerPlace, leadsBack, located, accessed}
@@ -24,7 +25,8 @@ use Rattle.store.specs.declared.answer.Answer.the-variants.{Accepted}
 use Rattle.store.specs.declared.answer.Refusal.the-variants.{OutOfBounds}
 use Rattle.history.specs.Heap.{Object, Heap, start, holds, ownerOf, inside}
 use Rattle.history.specs.History.{headerOf}
-use Rattle.history.proofs.Gaps.{Block, extent, Layout, last, lookup, blockAt, Placed, Remade}
+use Rattle.history.proofs.Gaps.{Block, extent, Layout, last, gaps, lookup, blockAt, Placed, Remade}
+use Rattle.history.proofs.Looks.{gaps-le}
 use Rattle.history.proofs.Image.{LiveAt, live-at, apart, placed-fresh}
 use Rattle.history.proofs.Heap.{find, Distinct, Owned, owned}
 use Rattle.history.proofs.Table.{nobody, Tabled, Ranged, other-heap}
@@ -54,12 +56,18 @@ abbrev pub objectContent : Option Object → Option Content
 objectContent none = none
 objectContent (some o) = some (content (o .cue) (o .bytes))
 
--- the image is a superblock and a layout, whose live blocks are the heap's objects
+-- an image of L bytes: a superblock, with the layout's gaps as its free total, and the layout
+pub record Formatted (s L : ℕ) (image : List ℕ) (next : Layout) : Type 0 where
+  pub long : length image ≡ L
+  pub front : take 16 image ≡ superblock s L (gaps next)
+  pub placed : Placed image next
+
+-- the image is a superblock and a layout, whose gaps are the free total and whose live blocks are the heap's objects
 pub record Laid (s L : ℕ) (image : List ℕ) (heap : Heap) : Type 0 where
   pub shape : Shape s L
   pub long : length image ≡ L
-  pub front : take 16 image ≡ superblock s L
   pub layout : Layout
+  pub front : take 16 image ≡ superblock s L (gaps layout)
   pub placed : Placed image layout
   pub agree : (k : ℕ) → blockContent (blockAt layout k) ≡ objectContent (find heap k)
   pub fine : (k : ℕ) (o : Object) → find heap k ≡ some o → Fine s k o
@@ -144,28 +152,58 @@ module _ {s L : ℕ} {image : List ℕ} {heap : Heap} (i : Laid s L image heap) 
             omega (arith, apart (i .layout) k j (a .block) (b .block) (a .there) (b .there) l, ap length (a .body), i .fine k o e .counted);
       }
 
-  -- the superblock is good, and has the slot exponent
+  -- the superblock is good, and has the slot exponent and the free total
+
+  in-front : superblock s L (gaps (i .layout)) ++ drop 16 image ≡ image
+  in-front = ap (λ (q : List ℕ). q ++ drop 16 image) (sym (i .front)) ∙ take-append-drop 16 image
 
   pub superblock-is-good : superblockGood image ≡ true
   superblock-is-good =
-      subst (λ (m : List ℕ). superblockGood m ≡ true) (ap (λ (q : List ℕ). q ++ drop 16 image) (sym (i .front)) ∙ take-append-drop 16 image)
-      (superblock-front s L (drop 16 image) (simp length-drop (omega (arith, i .long, i .shape .length-low))) (i .shape .exponent-low) (i .shape .exponent-high)
-      (i .shape .length-low) (i .shape .length-high))
+      subst (λ (m : List ℕ). superblockGood m ≡ true) in-front
+      (superblock-front s L (gaps (i .layout)) (drop 16 image) (simp length-drop (omega (arith, i .long, i .shape .length-low))) (i .shape .exponent-low)
+      (i .shape .exponent-high) (i .shape .length-low) (i .shape .length-high))
 
   pub exponent-is : slotExponent image ≡ s
   exponent-is =
-      subst (λ (m : List ℕ). slotExponent m ≡ s) (ap (λ (q : List ℕ). q ++ drop 16 image) (sym (i .front)) ∙ take-append-drop 16 image)
-      (exponent-front s L (drop 16 image) (omega (arith, i .shape .exponent-high)))
+      subst (λ (m : List ℕ). slotExponent m ≡ s) in-front (exponent-front s L (gaps (i .layout)) (drop 16 image) (omega (arith, i .shape .exponent-high)))
 
-  -- another image with the same superblock, for another heap
-  pub relaid : {image′ : List ℕ} {next : Layout} (new : Heap) → Remade image image′ next → ((k : ℕ) → blockContent (blockAt next k) ≡ objectContent (find new k))
-      → ((k : ℕ) (o : Object) → find new k ≡ some o → Fine s k o) → Distinct new → Laid s L image′ new
+  pub total-is : storedTotal image ≡ gaps (i .layout)
+  total-is =
+      subst (λ (m : List ℕ). storedTotal m ≡ gaps (i .layout)) in-front
+      (total-front s L (gaps (i .layout)) (drop 16 image) (omega (arith, gaps-le (i .layout), i .placed .whole, i .placed .short)))
+
+  -- another image with the same superblock
+  pub remade : {image′ : List ℕ} {next : Layout} → Remade image image′ next → gaps next ≡ gaps (i .layout) → Formatted s L image′ next
+  remade m e = record { long = m .same-length ∙ i .long; front = m .same-front ∙ i .front ∙ ap (superblock s L) (sym e); placed = m .placed }
+
+  -- the same with another free total
+  pub retotalled : {image′ : List ℕ} {next : Layout} (total : ℕ) → Remade image image′ next → gaps next ≡ total → Formatted s L (withTotal image′ total) next
+  retotalled {image′} total m e =
+      let n : length image′ ≡ L = m .same-length ∙ i .long in
+      let room : 16 ≤ length image′ = omega (arith, i .shape .length-low) in
+      let long : length (withTotal image′ total) ≡ length image′ = length-with-total image′ total room in
+      record {
+        long = long ∙ n;
+        front = with-total-front image′ s L (gaps (i .layout)) total (m .same-front ∙ i .front) ∙ ap (superblock s L) (sym e);
+        placed =
+            record {
+              good = m .placed .good;
+              bytes = with-total-behind image′ total room ∙ m .placed .bytes;
+              whole = m .placed .whole ∙ sym long;
+              short = omega (arith, m .placed .short);
+            };
+      }
+
+  -- for another heap
+  pub relaid : {image′ : List ℕ} {next : Layout} (new : Heap) → Formatted s L image′ next
+      → ((k : ℕ) → blockContent (blockAt next k) ≡ objectContent (find new k)) → ((k : ℕ) (o : Object) → find new k ≡ some o → Fine s k o) → Distinct new
+      → Laid s L image′ new
   relaid {next = next} new m a f d =
       record {
         shape = i .shape;
-        long = m .same-length ∙ i .long;
-        front = m .same-front ∙ i .front;
+        long = m .long;
         layout = next;
+        front = m .front;
         placed = m .placed;
         agree = a;
         fine = f;
@@ -239,7 +277,7 @@ pub relisted : {s L : ℕ} {x : State} {heap : Heap} → Invariant s L x heap �
 relisted {s} {L} {x} {heap} i new d same =
     record {
       laid =
-          relaid (i .laid) new (record { placed = i .laid .placed; same-length = refl; same-front = refl })
+          relaid (i .laid) new (record { long = i .laid .long; front = i .laid .front; placed = i .laid .placed })
           (λ k. i .laid .agree k ∙ ap objectContent (same k)) (λ k o e. i .laid .fine k o (same k ∙ e)) d;
       tabled = other-heap s L heap new (x .table) (i .tabled) same;
     }
@@ -259,8 +297,8 @@ begins-with s x u =
       laid = record {
         shape = record { exponent-low = u .exponent-low; exponent-high = u .exponent-high; length-low = u .length-low; length-high = u .length-high };
         long = omega (arith, p .whole, u .length-low);
-        front = fresh-front s L;
         layout = last (L - 16);
+        front = fresh-front s L;
         placed = p;
         agree = λ k. refl;
         fine = λ k o e. let z : _≡_ {A = ℕ} 0 1 = cc in absurd (omega arith);

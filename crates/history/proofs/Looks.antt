@@ -7,7 +7,7 @@ use native.Mathlib.Omega.{arith}
 use lib.Dec.{eqb}
 use borrow.Author.Tests.{eq-eqb, ne-eqb, eqb-true}
 use Rattle.block.specs.laws.Booleans.{byBool}
-use Rattle.history.proofs.Gaps.{Block, extent, Layout, last, item, size, GapOk, Ok, lookup}
+use Rattle.history.proofs.Gaps.{Block, extent, Layout, last, item, size, gaps, GapOk, Ok, lookup}
 
 -- the first gap
 abbrev pub gap : Layout → ℕ
@@ -40,6 +40,14 @@ regap-ok n (item g b l) j k = (j, k .1, k .2)
 pub regap-size : (n : ℕ) (l : Layout) → size (regap n l) + gap l ≡ size l + n
 regap-size n (last g) = omega arith
 regap-size n (item g b l) = omega arith
+
+pub regap-gaps : (n : ℕ) (l : Layout) → gaps (regap n l) + gap l ≡ gaps l + n
+regap-gaps n (last g) = omega arith
+regap-gaps n (item g b l) = omega arith
+
+pub gaps-le : (l : Layout) → gaps l ≤ size l
+gaps-le (last g) = omega arith
+gaps-le (item g b l) = omega (arith, gaps-le l)
 
 pub gap-le : (l : Layout) → gap l ≤ size l
 gap-le (last g) = omega arith

@@ -13,22 +13,24 @@ use borrow.Author.Tests.{eq-eqb, ne-eqb, eqb-true, eqb-false}
 use Rattle.block.specs.laws.Booleans.{byBool, and-both}
 use Rattle.frame.specs.Pointers.{pack}
 use Rattle.frame.specs.Tags.{pointerTo}
-use Rattle.block.specs.Layout.{sizeAt}
+use Rattle.block.specs.Layout.{extentAt, sizeAt}
+use Rattle.block.specs.declared.header.Header.{Header}
 use Rattle.store.specs.State.{State, Outcome, IsAccepted, value}
-use Rattle.store.specs.Calls.{entryHolds, free, allHeld, pointersTo, freeEach, releaseCue}
+use Rattle.store.specs.Calls.{entryHolds, free, allHeld, extentsOf, pointersTo, freeEach, releaseCue}
 use Rattle.store.specs.Step.{releases}
 use Rattle.store.specs.Claims.{EachFreed, none-left, one-freed}
 use Rattle.store.specs.laws.Entries.{entry-holds}
-use Rattle.store.specs.laws.Release.{all-held-none, all-held-one, pointers-to-none, pointers-to-one, free-each-none, free-each-one, release-is}
+use Rattle.store.specs.laws.Release.{all-held-none, all-held-one, extents-none, extents-one, pointers-to-none, pointers-to-one, free-each-none, free-each-one, release-is}
 use Rattle.store.specs.declared.answer.Answer.the-variants.{Accepted}
 use Rattle.history.specs.Heap.{Object, Heap, without, ofCue, withoutCue, hear}
 use Rattle.history.specs.History.{Configuration, In, headerOf}
 use Rattle.history.specs.Release.{answers, FreedSingly}
-use Rattle.history.proofs.Gaps.{extent, Layout, last, item, lookup, blockAt}
+use Rattle.history.proofs.Gaps.{extent, Layout, last, item, size, gaps, lookup, blockAt}
 use Rattle.history.proofs.Looks.{look-first, look-rest, look-inside}
+use Rattle.history.proofs.Image.{live-at}
 use Rattle.history.proofs.Gathering.{placesIn, gather-layout}
 use Rattle.history.proofs.Heap.{find, Distinct, none-some, some-same, find-place, find-in, in-find, Pairs, pairwise, find-without, found-passing, distinct-passing, same-count}
-use Rattle.history.proofs.Invariant.{Invariant, known, object-of, no-object, exponent-is, opens, relisted}
+use Rattle.history.proofs.Invariant.{Invariant, known, object-of, no-object, exponent-is, total-is, opens, relisted}
 use Rattle.history.proofs.Steps.{free-live}
 
 -- in the order of their addresses
@@ -45,7 +47,7 @@ sorted-distinct (o ∷ os) c = (go (find os (headerOf o)) refl, sorted-distinct 
     go (some o′) e = absurd (omega (arith, c .0 o′ (find-in os (headerOf o) o′ e), find-place os (headerOf o) o′ e))
 
 -- The cue's objects from h on, in the order of their addresses, and what release needs of their places.
-record Gathered (s cue : ℕ) (x : State) (heap : Heap) (h : ℕ) (places : List ℕ) : Type 0 where
+record Gathered (s cue : ℕ) (x : State) (heap : Heap) (h : ℕ) (l : Layout) (places : List ℕ) : Type 0 where
   pub objects : Heap
   pub sorted : Sorted objects
   pub low : (o : Object) → In o objects → h ≤ headerOf o
@@ -54,6 +56,7 @@ record Gathered (s cue : ℕ) (x : State) (heap : Heap) (h : ℕ) (places : List
   pub pointers : pointersTo s (x .image) places ≡ answers objects
   pub count : length places ≡ length objects
   pub held : allHeld s places x ≡ true
+  pub extents : extentsOf (x .image) places + gaps l ≤ size l
 
 -- What freeing these objects singly leaves: their places are empty, and the others are as they were.
 record Freed (s L : ℕ) (x : State) (heap os : Heap) : Type 0 where
@@ -77,7 +80,7 @@ module _ {s L : ℕ} {x : State} {heap : Heap} (i : Invariant s L x heap) where
   pointer-kept k o e = ap (λ (n : ℕ). pack (pointerTo s k n)) (known (i .laid) k o e .size) ∙ sym (i .laid .fine k o e .answered)
 
   -- the layout from h on
-  gathered : (cue h : ℕ) (l : Layout) → ((k : ℕ) → h ≤ k → blockAt (i .laid .layout) k ≡ lookup h l k) → Gathered s cue x heap h (placesIn cue h l)
+  gathered : (cue h : ℕ) (l : Layout) → ((k : ℕ) → h ≤ k → blockAt (i .laid .layout) k ≡ lookup h l k) → Gathered s cue x heap h l (placesIn cue h l)
   unfolding placesIn answers lookup
   gathered cue h (last g) looked =
       record {
@@ -89,13 +92,17 @@ module _ {s L : ℕ} {x : State} {heap : Heap} (i : Invariant s L x heap) where
         pointers = pointers-to-none s (x .image);
         count = refl;
         held = all-held-none s x;
+        extents = omega (arith, extents-none (x .image));
       }
   gathered cue h (item g b l) looked =
       let k : ℕ = h + g in
       let end : ℕ = h + g + extent b in
-      let rest : Gathered s cue x heap end (placesIn cue end l) = gathered cue end l (λ j u. looked j (omega arith) ∙ look-rest h g b l j (λ e. omega arith)) in
+      let rest : Gathered s cue x heap end l (placesIn cue end l) = gathered cue end l (λ j u. looked j (omega arith) ∙ look-rest h g b l j (λ e. omega arith)) in
       let (o, e, c, bytes) = object-of (i .laid) k b (looked k (omega arith) ∙ look-first h g b l) in
       let at-k : headerOf o ≡ k = find-place heap k o e in
+      let long : extentAt (x .image) k ≡ extent b =
+      ap (λ (d : Header). d .extent) (live-at (x .image) (i .laid .layout) k b (i .laid .placed) (looked k (omega arith) ∙ look-first h g b l) .header)
+      in
       let behind : (p : Object) → find heap (headerOf p) ≡ some p → h ≤ headerOf p → (headerOf p ≡ k → ⊥) → end ≤ headerOf p =
       λ p f u n.
       let there = known (i .laid) (headerOf p) p f in
@@ -119,6 +126,7 @@ module _ {s L : ℕ} {x : State} {heap : Heap} (i : Invariant s L x heap) where
         pointers = pointers-to-one s (x .image) k (placesIn cue end l) ∙ (λ n. pointer-kept k o e n ∷ rest .pointers n);
         count = ap suc (rest .count);
         held = all-held-one s x k (placesIn cue end l) ∙ and-both _ _ (entry-kept k o e) (rest .held);
+        extents = omega (arith, extents-one (x .image) k (placesIn cue end l), rest .extents, long);
       }))
       (λ t.
       rw t
@@ -135,6 +143,7 @@ module _ {s L : ℕ} {x : State} {heap : Heap} (i : Invariant s L x heap) where
         pointers = rest .pointers;
         count = rest .count;
         held = rest .held;
+        extents = omega (arith, rest .extents);
       }))
 
 -- Freeing them.
@@ -173,7 +182,7 @@ free-all {s} {L} {x} {heap} i (o ∷ os) c live =
 -- The release.
 module _ {s L : ℕ} {x : State} {heap : Heap} (i : Invariant s L x heap) (cue : ℕ) where
   -- the cue's objects
-  mine : Gathered s cue x heap 16 (placesIn cue 16 (i .laid .layout))
+  mine : Gathered s cue x heap 16 (i .laid .layout) (placesIn cue 16 (i .laid .layout))
   mine = gathered i cue 16 (i .laid .layout) (λ k u. refl)
 
   -- which they are
@@ -190,6 +199,7 @@ module _ {s L : ℕ} {x : State} {heap : Heap} (i : Invariant s L x heap) (cue :
   released =
       release-is s cue x (placesIn cue 16 (i .laid .layout)) (opens i) (exponent-is (i .laid))
       (gather-layout cue (x .image) (i .laid .layout) (i .laid .placed)) (mine .held)
+      (omega (arith, mine .extents, total-is (i .laid), i .laid .placed .whole))
       ∙ (λ n. record { answer = Accepted (mine .count n); after = freeEach (mine .pointers n) x })
 
   -- the heap's tests of its objects

@@ -26,15 +26,16 @@ use Rattle.block.specs.Text.{textOf}
 use Rattle.block.specs.laws.Text.{text-bound}
 use Rattle.block.specs.declared.text.Text.{Text}
 use Rattle.block.specs.declared.text.Text.the-variants.{Ends, Endless}
-use Rattle.block.specs.Layout.{sizeAt}
-use Rattle.store.specs.State.{State, state, Outcome, outcome, returned, demand, refuse}
-use Rattle.store.specs.Calls.{entryHolds, carved, noted, merged, located, movedBy, goodWidth, allocateFor, move, load, store, fill, copy, textAnswer, textAt, copyText, free}
-use Rattle.store.specs.laws.TagReading.{Located, located-parts}
+use Rattle.block.specs.Layout.{storedTotal, extentAt, sizeAt}
+use Rattle.store.specs.State.{State, state, Outcome, outcome, refusalNumber, returned, demand, refuse}
+use Rattle.store.specs.Calls.{entryHolds, takenExtent, allotted, noted, givenBack, located, movedBy, goodWidth, totalFits, allocateFor, move, load, store, fill, copy, textAnswer, textAt, copyText, free}
+use Rattle.store.specs.laws.TagReading.{Located, located-parts, located-refusal}
 use Rattle.store.specs.Step.{frees, moves, loads, stores, fills, copies, copiesText, allocatesFor}
 use Rattle.store.specs.laws.Load.{load-leaves}
 use Rattle.store.specs.laws.Move.{moved-bad, moved-out, moved-in, move-outcome}
 use Rattle.store.specs.laws.Entries.{entry-holds}
 use Rattle.store.specs.laws.Access.{through}
+use Rattle.store.specs.laws.Total.{total-fits}
 use Rattle.store.specs.laws.Allocate.{allocate-refuses-empty, allocate-refuses-full, allocate-at}
 use Rattle.store.specs.laws.Store.{store-through, store-refuses-width, store-refuses-large}
 use Rattle.store.specs.laws.Fill.{fill-through, fill-refuses-empty}
@@ -47,11 +48,12 @@ use Rattle.store.specs.declared.answer.Answer.{Answer}
 use Rattle.store.specs.declared.answer.Answer.the-variants.{Accepted, Refused}
 use Rattle.history.specs.Heap.{Object, Heap, start, member, ownerOf, offset, inside, bytesAt, written, pointed, newObject, change, without, write, copied, textIn, copiedText, textCopied, hear}
 use Rattle.history.specs.History.{In, headerOf}
-use Rattle.history.proofs.Gaps.{Block, Layout, blockAt, Remade, Clear, patched}
+use Rattle.history.proofs.Gaps.{Block, Layout, blockAt, Clear, patched}
+use Rattle.history.proofs.Looks.{gaps-le}
 use Rattle.history.proofs.Image.{read-body, Rewritten, write-body, Carved, Fitted, room, full, fitted, Freed, freed, not-freed}
 use Rattle.history.proofs.Heap.{find, none-some, some-same, find-place, find-in, in-find, Owned, owned, find-append, distinct-append, find-change, distinct-change, change-nobody, find-without, distinct-without, without-nobody}
 use Rattle.history.proofs.Table.{Tabled, added, entry-zero, gone, same-table}
-use Rattle.history.proofs.Invariant.{Fine, content, Laid, Invariant, blockContent, objectContent, known, object-of, no-object, ranged, exponent-is, relaid, agree-cond, opens, answer-leads, owner-leads, accesses}
+use Rattle.history.proofs.Invariant.{Fine, content, Formatted, Laid, Invariant, blockContent, objectContent, known, object-of, no-object, ranged, exponent-is, total-is, remade, retotalled, relaid, agree-cond, opens, answer-leads, owner-leads, accesses}
 
 -- every object is fine after one is put in or changed
 fine-cond : (s : ℕ) (heap new : Heap) (h : ℕ) (o : Object) → ((k : ℕ) → find new k ≡ cond (eqb k h) (some o) (find heap k)) → Fine s h o
@@ -84,8 +86,8 @@ pub data Allocated (s L : ℕ) (x : State) (heap : Heap) (i : Invariant s L x he
       → Allocated s L x heap i size type cue
   given :
       (h : ℕ) → Clear (x .image) (i .laid .layout) h (16 + size)
-      → allocateFor size type cue x ≡ outcome (Accepted (pack (pointerTo s h size))) (carved (x .image) h size type cue) (noted s h size h (x .table))
-      → Invariant s L (state (carved (x .image) h size type cue) (noted s h size h (x .table))) (heap ++ (newObject (pack (pointerTo s h size)) size cue ∷ []))
+      → allocateFor size type cue x ≡ outcome (Accepted (pack (pointerTo s h size))) (allotted (x .image) h size type cue) (noted s h size h (x .table))
+      → Invariant s L (state (allotted (x .image) h size type cue) (noted s h size h (x .table))) (heap ++ (newObject (pack (pointerTo s h size)) size cue ∷ []))
       → Allocated s L x heap i size type cue
 
 -- Free.
@@ -94,12 +96,12 @@ pub data Allocated (s L : ℕ) (x : State) (heap : Heap) (i : Invariant s L x he
 abbrev pub Nobody : Heap → ℕ → Type 0
 Nobody heap p = (o : Object) → In o heap → o .answer ≡ p → ⊥
 
--- how free ends: an object is taken out, or the refusal of a number that is nobody's
+-- how free ends: an object is taken out, or the refusal, not by 22, of a number that is nobody's
 pub data Freeing (s L : ℕ) (x : State) (heap : Heap) (p : ℕ) : Type 0 where
   taken :
       (o : Object) → In o heap → o .answer ≡ p → returned (free p x .answer) ≡ 0 → Invariant s L (free p x .after) (without heap p)
       → Freeing s L x heap p
-  declined : (r : Refusal) → free p x ≡ refuse r x → Nobody heap p → Freeing s L x heap p
+  declined : (r : Refusal) → free p x ≡ refuse r x → (refusalNumber r ≡ 22 → ⊥) → Nobody heap p → Freeing s L x heap p
 
 module _ {s L : ℕ} {x : State} {heap : Heap} (i : Invariant s L x heap) where
   -- the new object at h
@@ -134,10 +136,14 @@ module _ {s L : ℕ} {x : State} {heap : Heap} (i : Invariant s L x heap) where
               (λ t. let z : _≡_ {A = ℕ} 0 1 = cc in absurd (omega arith));
         }
 
-    new-laid : Laid s L (carved (x .image) h size type cue) (heap ++ (new ∷ []))
+    -- the total has its extent
+    new-total : takenExtent (x .image) h size ≤ storedTotal (x .image)
+    new-total = omega (arith, c .taken, total-is (i .laid))
+
+    new-laid : Laid s L (allotted (x .image) h size type cue) (heap ++ (new ∷ []))
     unfolding new
     new-laid =
-        relaid (i .laid) (heap ++ (new ∷ [])) (c .remade)
+        relaid (i .laid) (heap ++ (new ∷ [])) (retotalled (i .laid) _ (c .remade) (omega (arith, c .taken, total-is (i .laid))))
         (λ k.
         ap blockContent (c .looks k)
         ∙ agree-cond (eqb k h) (some (c .block)) (blockAt (i .laid .layout) k) (some new) (find heap k) (λ n. some (content (c .for-cue n) (c .zeroed n))) (i .laid .agree k)
@@ -156,7 +162,7 @@ module _ {s L : ℕ} {x : State} {heap : Heap} (i : Invariant s L x heap) where
     new-given : ltb 0 size ≡ true → Allocated s L x heap i size type cue
     unfolding new
     new-given e =
-        given h (c .clear) (allocate-at s x (opens i) size type cue e h (exponent-is (i .laid)) (c .found) new-entry)
+        given h (c .clear) (allocate-at s x (opens i) size type cue e h (exponent-is (i .laid)) (c .found) new-entry new-total)
         (record { laid = new-laid; tabled = new-tabled })
 
   pub allocated : (size type cue : ℕ) → type < 2 ^ 16 → cue < 2 ^ 32 → Allocated s L x heap i size type cue
@@ -200,9 +206,9 @@ module _ {s L : ℕ} {x : State} {heap : Heap} (i : Invariant s L x heap) where
         let q : headerOf o ≡ h = find-place heap h o e in
         find-without heap o k (i .laid .distinct) (ap (find heap) q ∙ e) ∙ ap (λ (z : ℕ). cond (eqb k z) none (find heap k)) q
 
-    gone-laid : Laid s L (merged (x .image) (f .from) (f .to)) (without heap (o .answer))
+    gone-laid : Laid s L (givenBack (x .image) h (f .from) (f .to)) (without heap (o .answer))
     gone-laid =
-        relaid (i .laid) (without heap (o .answer)) (f .remade)
+        relaid (i .laid) (without heap (o .answer)) (retotalled (i .laid) _ (f .remade) (omega (arith, f .given, total-is (i .laid))))
         (λ k.
         ap blockContent (f .looks k) ∙ agree-cond (eqb k h) none (blockAt (i .laid .layout) k) none (find heap k) refl (i .laid .agree k)
         ∙ ap objectContent (sym (gone-law k)))
@@ -212,7 +218,7 @@ module _ {s L : ℕ} {x : State} {heap : Heap} (i : Invariant s L x heap) where
         (λ t. i .laid .fine k y (sym (rw t at (gone-law k)) ∙ g)))
         (distinct-without heap (o .answer) (i .laid .distinct))
 
-    gone-invariant : Invariant s L (state (merged (x .image) (f .from) (f .to)) (noted s h (sizeAt (x .image) h) 0 (x .table))) (without heap (o .answer))
+    gone-invariant : Invariant s L (state (givenBack (x .image) h (f .from) (f .to)) (noted s h (sizeAt (x .image) h) 0 (x .table))) (without heap (o .answer))
     gone-invariant =
         record {
           laid = gone-laid;
@@ -221,13 +227,19 @@ module _ {s L : ℕ} {x : State} {heap : Heap} (i : Invariant s L x heap) where
               (gone s L heap (x .table) (i .tabled) (ranged (i .laid)) (without heap (o .answer)) h o e gone-law);
         }
 
+  -- row 22 lets its free pass
+  free-fits : (h : ℕ) (b : Block) → Freed (x .image) (i .laid .layout) h b → totalFits (x .image) (extentAt (x .image) h) ≡ true
+  free-fits h b f =
+      total-fits (x .image) (extentAt (x .image) h)
+      (omega (arith, f .given, total-is (i .laid), gaps-le (f .next), f .remade .placed .whole, f .remade .same-length))
+
   -- a live object is freed by allocate's answer
   pub free-live : (h : ℕ) (o : Object) → find heap h ≡ some o
       → (returned (free (o .answer) x .answer) ≡ 0) × Invariant s L (free (o .answer) x .after) (without heap (o .answer))
   free-live h o e =
       let n = known (i .laid) h o e in
       let f = freed (x .image) (i .laid .layout) h (n .block) (i .laid .placed) (n .there) in
-      let q = free-merges s x (opens i) (o .answer) h (answer-leads i h o e) (eq-eqb _ _ (n .begins)) (f .from) (f .to) (exponent-is (i .laid)) (f .merges) in (
+      let q = free-merges s x (opens i) (o .answer) h (answer-leads i h o e) (eq-eqb _ _ (n .begins)) (f .from) (f .to) (exponent-is (i .laid)) (f .merges) (free-fits h (n .block) f) in (
         ap (λ (z : Outcome). returned (z .answer)) q,
         subst (λ (z : State). Invariant s L z (without heap (o .answer))) (sym (ap (λ (z : Outcome). z .after) q)) (gone-invariant h (n .block) o e f),
       )
@@ -253,6 +265,7 @@ module _ {s L : ℕ} {x : State} {heap : Heap} (i : Invariant s L x heap) where
           let r : Located s (unpack p) x h = located-parts s (unpack p) x h e in
           declined Unsound
           (free-lost s x (opens i) p h e t Unsound (not-freed (x .image) (i .laid .layout) h (i .laid .placed) g (r .header .is-live) (r .header .is-sound)))
+          (λ z. omega arith)
           (λ o m a. none-some (no-object (i .laid) h g) (ap (find heap) (sym (answer-only p h o m a e)) ∙ in-find heap o (i .laid .distinct) m))
       base h e t (some b) g =
           let o = object-of (i .laid) h b g in
@@ -260,12 +273,12 @@ module _ {s L : ℕ} {x : State} {heap : Heap} (i : Invariant s L x heap) where
 
       read : (r : Answer) → located s (unpack p) x ≡ r → Freeing s L x heap p
       read (Refused r) e =
-          declined r (free-unread s x (opens i) p r e)
+          declined r (free-unread s x (opens i) p r e) (λ z. omega (arith, located-refusal s (unpack p) x r e .1))
           (λ o m a. let f : located s (unpack p) x ≡ Accepted (headerOf o) = answer-found p o m a .0 in let z : _≡_ {A = ℕ} 0 1 = cc in omega arith)
       read (Accepted h) e =
           byBool (eqb (unpack p .address) (h + 16))
           (λ t. base h e t (blockAt (i .laid .layout) h) refl)
-          (λ t. declined NotBase (free-refuses-base s x (opens i) p h e t)
+          (λ t. declined NotBase (free-refuses-base s x (opens i) p h e t) (λ z. omega arith)
           (λ o m a. eqb-false _ _ t (answer-found p o m a .1 ∙ ap (λ (k : ℕ). k + 16) (answer-only p h o m a e))))
 
   pub free-step : (p : ℕ) → p < 2 ^ 64 → Invariant s L (free p x .after) (hear heap (frees p) (free p x .answer))
@@ -274,7 +287,7 @@ module _ {s L : ℕ} {x : State} {heap : Heap} (i : Invariant s L x heap) where
     where
       go : Freeing s L x heap p → Invariant s L (free p x .after) (without heap p)
       go (taken o m a q j) = j
-      go (declined r q n) = rw (q, without-nobody heap p n) i
+      go (declined r q t n) = rw (q, without-nobody heap p n) i
 
   -- An object changes, and neither its answer nor its size.
 
@@ -283,7 +296,7 @@ module _ {s L : ℕ} {x : State} {heap : Heap} (i : Invariant s L x heap) where
     change-law : (k : ℕ) → find (change f heap p) k ≡ cond (eqb k (headerOf o)) (some (f o)) (find heap k)
     change-law k = find-change f same heap p o k (i .laid .distinct) e
 
-    changed : (image′ : List ℕ) (next : Layout) (b : Block) → Remade (x .image) image′ next → b .cue ≡ f o .cue → b .body ≡ f o .bytes
+    changed : (image′ : List ℕ) (next : Layout) (b : Block) → Formatted s L image′ next → b .cue ≡ f o .cue → b .body ≡ f o .bytes
         → ((k : ℕ) → blockAt next k ≡ cond (eqb k (headerOf o)) (some b) (blockAt (i .laid .layout) k))
         → Invariant s L (state image′ (x .table)) (change f heap p)
     changed image′ next b m cue body looks =
@@ -320,7 +333,7 @@ module _ {s L : ℕ} {x : State} {heap : Heap} (i : Invariant s L x heap) where
             (λ u. rw (eqb-true r (pack q) u) (moved-pointer s (headerOf o) (o .size) p q d (f .good p (w .mine)) m))
             (λ u. f .good r (rw u at t));
       })
-      (x .image) (i .laid .layout) (n .block) (record { placed = i .laid .placed; same-length = refl; same-front = refl }) (n .cue) (n .body)
+      (x .image) (i .laid .layout) (n .block) (record { long = i .laid .long; front = i .laid .front; placed = i .laid .placed }) (n .cue) (n .body)
       (λ k. byBool (eqb k (headerOf o)) (λ t. rw t (ap (blockAt (i .laid .layout)) (eqb-true k (headerOf o) t) ∙ n .there)) (λ t. rw t))
 
   move-to : (p : ℕ) (d : ℤ) → goodTag s (unpack p) ≡ true → (r : Moved) → moved (unpack p) (reach s (unpack p)) d ≡ r
@@ -395,7 +408,7 @@ module _ {s L : ℕ} {x : State} {heap : Heap} (i : Invariant s L x heap) where
         counted = length-put (o .bytes) (offset o p) bytes (omega (arith, f .counted, w .fits)) ∙ f .counted;
         good = f .good;
       })
-      (put (x .image) (unpack p .address) bytes) (r .next) (patched (q .block) (offset o p) bytes) (r .remade) (q .cue)
+      (put (x .image) (unpack p .address) bytes) (r .next) (patched (q .block) (offset o p) bytes) (remade (i .laid) (r .remade) (r .same-gaps)) (q .cue)
       (ap (λ (b : List ℕ). put b (offset o p) bytes) (q .body)) (r .looks)
 
   -- so many bytes through a pointer, refused or not

@@ -18,11 +18,12 @@ use Rattle.block.specs.Order.{compareBytes}
 use Rattle.block.specs.declared.order.Ordering.{Ordering}
 use Rattle.block.specs.declared.text.Text.{Text}
 use Rattle.block.specs.declared.text.Text.the-variants.{Ends, Endless}
-use Rattle.block.specs.Layout.{extentAt}
-use Rattle.store.specs.State.{State, Outcome, IsAccepted, returned, comparisonNumber, usageNumber}
-use Rattle.store.specs.Calls.{setUp, allocateFor, free, compare, copyText, tally, located}
+use Rattle.block.specs.Layout.{storedTotal, extentAt}
+use Rattle.store.specs.State.{State, Outcome, IsAccepted, returned, value, comparisonNumber, usageNumber, freeBytes}
+use Rattle.store.specs.Calls.{setUp, allocateFor, free, compare, copyText, freeTotal, tally, located}
 use Rattle.store.specs.laws.Refusals.{demand-iff, refused-some}
 use Rattle.store.specs.Step.{Call, allocates, frees, moves, loads, stores, fills, copies, copiesText, allocatesFor, releases, step}
+use Rattle.store.specs.laws.Total.{free-total-given}
 use Rattle.store.specs.laws.Tally.{tally-counts, tally-balanced}
 use Rattle.store.specs.laws.SetUp.{set-up-accepted}
 use Rattle.store.specs.laws.Access.{through-iff}
@@ -38,12 +39,12 @@ use Rattle.store.specs.declared.counting.Usage.the-variants as usage
 use Rattle.history.specs.Heap.{Object, Heap, holds, ownerOf, inside, textIn, hear, HearsNoOther}
 use Rattle.history.specs.History.{known, admitted, Configuration, next, after, allAdmitted, begun, In, headerOf, FreeRun, EntriesApart, PointersApart, PointersLead, FreesExactly, LoadsExactly, StoresExactly, FillsExactly, BothInside, CopiesExactly, ComparesExactly, TextsExactly, LoadsBytes, ComparesBytes, TextsCounted, EachAllocate, Holds, Demand3}
 use Rattle.history.specs.Release.{ReleasesSingly}
-use Rattle.history.specs.Tidiness.{MeetsNoUnsound, NeverUnsound, Balanced, StaysBalanced, Tidy, StaysTidy}
+use Rattle.history.specs.Tidiness.{MeetsNoUnsound, NeverUnsound, Balanced, StaysBalanced, RightTotal, StaysTotalled, Tidy, StaysTidy}
 use Rattle.history.proofs.Gaps.{Block, extent, Layout, blocks, bodies, gaps, overheads, counts, blockAt, Clear}
 use Rattle.history.proofs.Image.{counted-as, no-neighbours, free-zero, tail-zero}
 use Rattle.history.proofs.Heap.{find, find-in, find-place, in-find, places-apart, two-places, known-owner}
 use Rattle.history.proofs.Table.{entries-differ}
-use Rattle.history.proofs.Invariant.{Invariant, object-of, ranged, exponent-is, opens, Leads, leads, accesses, begins-with}
+use Rattle.history.proofs.Invariant.{Invariant, object-of, ranged, exponent-is, total-is, opens, Leads, leads, accesses, begins-with}
 use Rattle.history.proofs.Invariant as invariant
 use Rattle.history.proofs.Steps.{Allocated, empty, no-room, given, allocated, allocate-step, Freeing, taken, declined, freeing, free-step, move-step, load-step, read-through, store-step, fill-step, copy-step, copies-text, copies-no-text, copy-text-step}
 use Rattle.history.proofs.Releases.{release-counts, release-step, freed-singly}
@@ -120,7 +121,7 @@ module _ {s L : ℕ} (x : Configuration) (i : Invariant s L (x .state) (x .heap)
     where
       go : Freeing s L (x .state) (x .heap) p → IsAccepted (free p (x .state)) ↔ ((o : Object) × In o (x .heap) × (o .answer ≡ p))
       go (taken o m a q j) = ((λ e. (o, m, a)), λ w. q)
-      go (declined r q n) = (
+      go (declined r q t n) = (
         (λ (e : IsAccepted (free p (x .state))). absurd (refused-some r (sym (ap (λ (z : Outcome). returned (z .answer)) q) ∙ e))),
         λ (w : (o : Object) × In o (x .heap) × (o .answer ≡ p)). absurd (n (w .0) (w .1) (w .2)),
       )
@@ -329,6 +330,24 @@ module _ {s L : ℕ} (x : Configuration) (i : Invariant s L (x .state) (x .heap)
   pub balanced : Balanced (x .state)
   balanced = record { tallies = tally-accepted; sum = tally-balanced (x .state) tally-accepted }
 
+  -- the free total is its third number, and 22 comes from no call
+  pub right-total : RightTotal (x .state)
+  right-total =
+      record {
+        given = ap returned (sym total-given);
+        sum = ap value (sym total-given) ∙ total-is (i .laid) ∙ sym (ap freeBytes tallied);
+        allocates = never 22 (λ z. omega arith) (λ z. omega arith) (λ z. omega arith);
+        frees = λ p fits e. not-wrong p e (freeing i p fits);
+        releases = λ cue fits e. omega (arith, release-counts i cue .0);
+      }
+    where
+      total-given : Accepted (storedTotal (x .state .image)) ≡ freeTotal (x .state)
+      total-given = free-total-given (x .state) s (opens i)
+
+      not-wrong : (p : ℕ) → returned (free p (x .state) .answer) ≡ 22 → Freeing s L (x .state) (x .heap) p → ⊥
+      not-wrong p e (taken o m a q j) = omega (arith, q)
+      not-wrong p e (declined r q t n) = t (sym (ap (λ (z : Outcome). returned (z .answer)) q) ∙ e)
+
   pub tidy : Tidy (x .state .image)
   tidy =
       record {
@@ -350,6 +369,10 @@ never-unsound s x e calls a = meets-no-unsound (after calls (begun s x)) (keeps 
 pub stays-balanced : StaysBalanced
 unfolding StaysBalanced
 stays-balanced s x e calls a = balanced (after calls (begun s x)) (keeps calls (begun s x) (begins s x e) a)
+
+pub stays-totalled : StaysTotalled
+unfolding StaysTotalled
+stays-totalled s x e calls a = right-total (after calls (begun s x)) (keeps calls (begun s x) (begins s x e) a)
 
 pub stays-tidy : StaysTidy
 unfolding StaysTidy

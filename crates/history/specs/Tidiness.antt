@@ -1,13 +1,14 @@
--- Further claims about what every history begun by set-up leaves: no unsound header, a balanced tally, and a tidy image. Assumes nothing.
-use Prim.Native.Nat.{ℕ, _+_, _≤_, _<_}
+-- Further claims about what every history begun by set-up leaves: no unsound header, a balanced tally, a right free total, and a tidy image. Assumes
+-- nothing.
+use Prim.Native.Nat.{ℕ, _+_, _^_, _≤_, _<_}
 use mathlib.Core.Path.{_≡_}
 use mathlib.Core.Bool.{true, false}
 use mathlib.Core.List.{List}
 use lib.ListN.{length, getD}
 use Rattle.block.specs.Layout.{extentAt, sizeAt, isFree, isLive}
 use Rattle.block.specs.Walk.{OnWalk}
-use Rattle.store.specs.State.{State, usageNumber, Balances}
-use Rattle.store.specs.Calls.{tally}
+use Rattle.store.specs.State.{State, returned, value, usageNumber, freeBytes, Balances}
+use Rattle.store.specs.Calls.{free, releaseCue, freeTotal, tally}
 use Rattle.history.specs.History.{EachAllocate, AfterEveryHistory}
 
 -- no walk of allocate or tally meets an unsound header
@@ -27,6 +28,18 @@ pub record Balanced (x : State) : Type 0 where
 -- These histories leave it so.
 unfoldable pub StaysBalanced : Type 0
 StaysBalanced = AfterEveryHistory (λ s x. Balanced (x .state))
+
+-- the free total is given, and is tally's free bytes, the sum of the free extents; no call would take it below zero or leave it too high
+pub record RightTotal (x : State) : Type 0 where
+  pub given : returned (freeTotal x) ≡ 0
+  pub sum : value (freeTotal x) ≡ freeBytes (tally x)
+  pub allocates : EachAllocate x (λ size r. r ≡ 22 → ⊥)
+  pub frees : (p : ℕ) → p < 2 ^ 64 → returned (free p x .answer) ≡ 22 → ⊥
+  pub releases : (cue : ℕ) → cue < 2 ^ 32 → returned (releaseCue cue x .answer) ≡ 22 → ⊥
+
+-- These histories leave it so.
+unfoldable pub StaysTotalled : Type 0
+StaysTotalled = AfterEveryHistory (λ s x. RightTotal (x .state))
 
 -- no two free blocks are neighbours; the body of a free block, and what lies behind the body of a live one, is zero
 pub record Tidy (image : List ℕ) : Type 0 where

@@ -12,10 +12,10 @@ use Rattle.frame.specs.Frame.{frameNumber, frameNumberIn}
 use Rattle.frame.specs.Pointers.{unpack, pack, goodTag, reach, landed, moved}
 use Rattle.frame.specs.Tags.{wrapper, tagNumber, pointerTo, tagMatches, usedEntries, entryAt}
 use Rattle.block.specs.Bytes.{encode, decode, field, put}
-use Rattle.block.specs.Layout.{superblock, superblockGood, header, headerAt, wellFormed, sound}
+use Rattle.block.specs.Layout.{superblock, withTotal, superblockGood, header, headerAt, wellFormed, sound}
 use Rattle.block.specs.Walk.{walkIn, walkFrom, walk, fitOf, firstFit, metOf, walkTo}
 use Rattle.store.specs.State.{State, state}
-use Rattle.store.specs.Calls.{setUpChecks, fresh, setUp, opening, entryHolds, fitAnswer, allocateChecks, carved, noted, allocateFor, headerPlace, verified, leadsBack, located, inBody, accessed, movedAnswer, moveAnswer, move, loadAnswer, load, storeChecks, store, fillChecks, fill, copyChecks, copy, mergeEnd, mergeStart, released, freeChecks, releasedAt, freeRelease, merged, freed, free}
+use Rattle.store.specs.Calls.{setUpChecks, fresh, setUp, opening, entryHolds, fitAnswer, takenExtent, allocateChecks, carved, noted, allocateFor, headerPlace, verified, leadsBack, located, inBody, accessed, movedAnswer, moveAnswer, move, loadAnswer, load, storeChecks, store, fillChecks, fill, copyChecks, copy, mergeEnd, mergeStart, released, freeChecks, releasedAt, totalFits, totalled, freeRelease, merged, freed, free}
 use Rattle.log.specs.Records.{faultNumber, fieldBytes, signed, callAt, goodValue, formedAt, nextAt, recordsIn, recordsFrom, records}
 use Rattle.log.specs.Run.{answers, runOver}
 use Rattle.log.specs.Text.{ascii, digit, hexadecimal, decimalIn, decimal, lineOf, answerLines, faultLine, printed}
@@ -37,7 +37,7 @@ fresh8 = setUp 8 (state (replicate 8192 0) (replicate 768 0)) .after
 
 -- there they give exactly its lines
 pub sample-lines : printed (runOver sample fresh8) ≡ ascii "16 0 8010000000000020\n19 0 0000000000000000\n"
-unfolding frameNumber frameNumberIn unpack pack goodTag reach landed moved wrapper tagNumber pointerTo tagMatches usedEntries entryAt encode decode field put superblock superblockGood header headerAt wellFormed sound walkIn walkFrom walk fitOf firstFit metOf walkTo setUpChecks fresh setUp opening entryHolds fitAnswer allocateChecks carved noted allocateFor headerPlace verified leadsBack located inBody accessed movedAnswer moveAnswer move loadAnswer load storeChecks store fillChecks fill copyChecks copy mergeEnd mergeStart released freeChecks releasedAt freeRelease merged freed free signed fieldBytes callAt goodValue formedAt nextAt recordsIn recordsFrom answers digit hexadecimal decimalIn decimal lineOf answerLines faultLine printed
+unfolding frameNumber frameNumberIn unpack pack goodTag reach landed moved wrapper tagNumber pointerTo tagMatches usedEntries entryAt encode decode field put superblock withTotal superblockGood header headerAt wellFormed sound walkIn walkFrom walk fitOf firstFit metOf walkTo setUpChecks fresh setUp opening entryHolds fitAnswer takenExtent allocateChecks carved noted allocateFor headerPlace verified leadsBack located inBody accessed movedAnswer moveAnswer move loadAnswer load storeChecks store fillChecks fill copyChecks copy mergeEnd mergeStart released freeChecks releasedAt totalFits totalled freeRelease merged freed free signed fieldBytes callAt goodValue formedAt nextAt recordsIn recordsFrom answers digit hexadecimal decimalIn decimal lineOf answerLines faultLine printed
 sample-lines = refl
 
 -- two objects, the second large-framed; numbers of 4 and 3 bytes are written, copied over and read; a load past the end and one after free are refused
@@ -63,7 +63,7 @@ calls =
 pub calls-lines :
     printed (runOver (logOf calls ++ (0x0A ∷ 0x00 ∷ 0x10 ∷ 0x00 ∷ 0x01 ∷ 0x00 ∷ 0x00 ∷ 0x00 ∷ [])) fresh8)
     ≡ ascii "16 0 8010000000000020\n16 0 000900000000003A\n20 0 0000000000000000\n19 0 00000000000004E2\n18 0 8010000000000023\n19 13 0000000000000000\n18 0 8010000000000022\n20 0 0000000000000000\n21 0 0000000000000000\n22 0 0000000000000000\n19 0 000000ABCDEF04E2\n17 0 0000000000000000\n19 11 0000000000000000\n17 0 0000000000000000\nlog 17\n"
-unfolding frameNumber frameNumberIn unpack pack goodTag reach landed moved wrapper tagNumber pointerTo tagMatches usedEntries entryAt encode decode field put superblock superblockGood header headerAt wellFormed sound walkIn walkFrom walk fitOf firstFit metOf walkTo setUpChecks fresh setUp opening entryHolds fitAnswer allocateChecks carved noted allocateFor headerPlace verified leadsBack located inBody accessed movedAnswer moveAnswer move loadAnswer load storeChecks store fillChecks fill copyChecks copy mergeEnd mergeStart released freeChecks releasedAt freeRelease merged freed free signed fieldBytes callAt goodValue formedAt nextAt recordsIn recordsFrom answers digit hexadecimal decimalIn decimal lineOf answerLines faultLine printed encodeAll unsigned fieldsOf recordOf logOf
+unfolding frameNumber frameNumberIn unpack pack goodTag reach landed moved wrapper tagNumber pointerTo tagMatches usedEntries entryAt encode decode field put superblock withTotal superblockGood header headerAt wellFormed sound walkIn walkFrom walk fitOf firstFit metOf walkTo setUpChecks fresh setUp opening entryHolds fitAnswer takenExtent allocateChecks carved noted allocateFor headerPlace verified leadsBack located inBody accessed movedAnswer moveAnswer move loadAnswer load storeChecks store fillChecks fill copyChecks copy mergeEnd mergeStart released freeChecks releasedAt totalFits totalled freeRelease merged freed free signed fieldBytes callAt goodValue formedAt nextAt recordsIn recordsFrom answers digit hexadecimal decimalIn decimal lineOf answerLines faultLine printed encodeAll unsigned fieldsOf recordOf logOf
 calls-lines = refl
 
 -- A log, and the number of the malformed record that it ends with; 0 for none.

@@ -15,18 +15,18 @@ use Rattle.frame.specs.laws.Objects.{own-pointer}
 use Rattle.block.specs.Bytes.{encode, put}
 use Rattle.block.specs.laws.Fields.{length-encode}
 use Rattle.block.specs.laws.Writes.{length-put, field-put}
-use Rattle.block.specs.Layout.{slotExponent, sizeAt, extentAt}
+use Rattle.block.specs.Layout.{slotExponent, headerAt, sizeAt, extentAt, fields}
 use Rattle.block.specs.laws.Soundness.{sound-low, sound-end, sound-live-at}
 use Rattle.block.specs.declared.header.Header.{Header}
 use Rattle.store.specs.State.{State, state, Outcome, IsAccepted, returned, value, comparisonNumber, comparisonValue, usageNumber, liveObjects, liveBytes, freeBytes, overheadBytes}
-use Rattle.store.specs.Calls.{setUpChecks, setUp, fresh, cleared, allocateChecks, allocateFor, carved, noted, freeRelease, free, move, moveAnswer, load, loadAnswer, storeChecks, store, fillChecks, fill, copyChecks, copy, compare, copyTextChecks, copyText, releaseChecks, pointersTo, cuePointers, freeEach, releaseCue, tally}
+use Rattle.store.specs.Calls.{setUpChecks, setUp, fresh, cleared, takenExtent, allocateChecks, noted, allotted, allocateFor, freeRelease, free, move, moveAnswer, load, loadAnswer, storeChecks, store, fillChecks, fill, copyChecks, copy, compare, copyTextChecks, copyText, releaseChecks, pointersTo, cuePointers, freeEach, releaseCue, freeTotal, tally}
 use Rattle.store.specs.laws.Refusals.{refused-some}
 use Rattle.store.specs.laws.SetUp.{Settable, settable-parts, set-up-declined, set-up-done, length-fresh}
 use Rattle.store.specs.laws.Opening.{Open, opening-kept}
 use Rattle.store.specs.laws.TagReading.{Stands, Located, located-object, located-leads, located-at}
 use Rattle.store.specs.laws.Access.{accessed-again}
-use Rattle.store.specs.laws.Allocate.{Allocates, allocate-parts, allocate-declined, allocate-done, length-carved, carved-exponent, CarvedHeader, carved-header}
-use Rattle.store.specs.laws.Free.{Frees, free-parts, free-declined, free-done, length-merged, merged-front}
+use Rattle.store.specs.laws.Allocate.{Allocates, allocate-parts, allocate-declined, allocate-done, CarvedHeader, carved-header, length-allotted, allotted-exponent, allotted-header}
+use Rattle.store.specs.laws.Free.{Frees, free-parts, free-declined, free-done, length-given-back, given-back-front}
 use Rattle.store.specs.laws.Release.{free-each-none, free-each-one, cue-pointers, length-pointers, release-parts, release-declined, release-done}
 use Rattle.store.specs.laws.Store.{Stores, store-parts, store-declined, store-done}
 use Rattle.store.specs.laws.Fill.{fill-parts, fill-declined, fill-done}
@@ -137,7 +137,7 @@ module _ (x : State) where
           subst (Ended exponent x) (allocate-done size x type cue h exponent _ _ _ _ e refl refl refl refl refl)
           (accepted refl
           (entered exponent x _ h size h (a .opens) (a .inside)
-          (length-carved (x .image) h size type cue (a .lowest .fits-in) (sound-end (x .image) h (a .lowest .is-sound)))))
+          (length-allotted (x .image) h size type cue (a .lowest .fits-in) (sound-end (x .image) h (a .lowest .is-sound)))))
 
   -- free
   ended-free : (word : ℕ) → Ended exponent x (free word x)
@@ -150,7 +150,7 @@ module _ (x : State) where
           let f : Frees word x h from to = free-parts word x h from to e in
           subst (Ended exponent x) (free-done word x h from to exponent _ _ e refl refl refl)
           (accepted refl
-          (entered exponent x _ h (sizeAt (x .image) h) 0 (f .opens) (f .inside) (length-merged (x .image) from to (f .room) (f .high))))
+          (entered exponent x _ h (sizeAt (x .image) h) 0 (f .opens) (f .inside) (length-given-back (x .image) from to (f .room) (f .high) h)))
 
   -- move
   ended-move : (word : ℕ) (d : ℤ) → Ended exponent x (move word d x)
@@ -217,7 +217,7 @@ free-exponent word x = go (freeRelease word x) refl
     go (release.Merges h from to) e =
         let f : Frees word x h from to = free-parts word x h from to e in
         ap (λ (o : Outcome). slotExponent (o .after .image)) (sym (free-done word x h from to (exponent x) _ _ e refl refl refl))
-        ∙ merged-front (x .image) from to (f .room) (f .high) (f .low) .1
+        ∙ given-back-front (x .image) from to (f .room) (f .high) h (f .low) .1
 
 -- and the shape
 freed-shape : (ps : List ℕ) (x : State) → KeepsShape (exponent x) x (freeEach ps x)
@@ -256,6 +256,11 @@ comparison-refused : (c : Comparison) → (comparisonNumber c ≡ 0 → ⊥) →
 comparison-refused (comparison.Ordered o) n = absurd (n refl)
 comparison-refused (comparison.Refused r) n = refl
 
+-- a refused answer gives no value
+answer-refused : (a : Answer) → (returned a ≡ 0 → ⊥) → value a ≡ 0
+answer-refused (Accepted v) n = absurd (n refl)
+answer-refused (Refused r) n = refl
+
 -- a refused tally gives no values
 usage-refused : (u : Usage) → (usageNumber u ≡ 0 → ⊥) → (liveObjects u ≡ 0) × (liveBytes u ≡ 0) × (freeBytes u ≡ 0) × (overheadBytes u ≡ 0)
 usage-refused (usage.Counts objects live free overhead) n = absurd (n refl)
@@ -270,6 +275,7 @@ refusals-keep =
       set-up = λ s x n. ended-keeps s x (setUp s x) (ended-set-up s x) n;
       calls = λ c x n. ended-keeps (exponent x) x (step c x) (ended x c) n;
       compares = λ p q n x e. comparison-refused (compare p q n x) e;
+      totals = λ x n. answer-refused (freeTotal x) n;
       counts = λ x n. usage-refused (tally x) n;
     }
 
@@ -282,57 +288,63 @@ shapes-kept =
       calls = λ c x. ended-shape (exponent x) x (step c x) (ended x c);
     }
 
--- the header that allocate carves at h
-carved-at : (size type cue : ℕ) (x : State) (h : ℕ) → type < 2 ^ 16 → cue < 2 ^ 32 → (a : Allocates size x h)
-    → CarvedHeader (x .image) h size type cue (a .lowest .fits-in) (sound-end (x .image) h (a .lowest .is-sound))
-carved-at size type cue x h fits cue-fits a =
-    carved-header (x .image) h size type cue (a .lowest .fits-in) (sound-end (x .image) h (a .lowest .is-sound)) (a .opens .short) fits cue-fits
+-- what allocate leaves, where it takes the block at h
+abbrev left : (size type cue : ℕ) (x : State) (h : ℕ) → State
+left size type cue x h = state (allotted (x .image) h size type cue) (noted (slotExponent (x .image)) h size h (x .table))
 
--- the object stands there, on what allocate leaves
-carved-stands : (size type cue : ℕ) (x : State) (h : ℕ) → type < 2 ^ 16 → cue < 2 ^ 32 → Allocates size x h
-    → Stands (slotExponent (x .image)) (state (carved (x .image) h size type cue) (noted (slotExponent (x .image)) h size h (x .table))) h size
-carved-stands size type cue x h fits cue-fits a =
-    let room : 16 + size ≤ extentAt (x .image) h = a .lowest .fits-in in
-    let ends : h + extentAt (x .image) h ≤ length (x .image) = sound-end (x .image) h (a .lowest .is-sound) in
-    let long : length (carved (x .image) h size type cue) ≡ length (x .image) = length-carved (x .image) h size type cue room ends in
-    let c = carved-at size type cue x h fits cue-fits a in
-    record {
-      exponent = a .opens .high;
-      inside = omega (arith, a .inside);
-      short = omega (arith, a .opens .short);
-      is-sound =
-          sound-live-at (carved (x .image) h size type cue) h (c .extent) type size cue (c .is-header) (sound-low (x .image) h (a .lowest .is-sound))
-          (omega (arith, c .ends)) (a .some-size) (c .holds) (c .tight);
-      is-live = eq-eqb _ _ (ap (λ (d : Header). d .kind) (c .is-header));
-      size-is = ap (λ (d : Header). d .size) (c .is-header);
-      entry = noted-entry (slotExponent (x .image)) h size h (x .table) (a .indexed);
-    }
+module _ (size type cue : ℕ) (x : State) (h : ℕ) (fits : type < 2 ^ 16) (cue-fits : cue < 2 ^ 32) (a : Allocates size x h) where
+  -- the free block lies behind the superblock
+  low : 16 ≤ h
+  low = sound-low (x .image) h (a .lowest .is-sound)
 
--- and its pointer leads to it
-carved-leads : (size type cue : ℕ) (x : State) (h : ℕ) → type < 2 ^ 16 → cue < 2 ^ 32 → Allocates size x h
-    → PointsBack size type cue x (state (carved (x .image) h size type cue) (noted (slotExponent (x .image)) h size h (x .table)))
-    (pack (pointerTo (slotExponent (x .image)) h size))
-carved-leads size type cue x h fits cue-fits a =
-    let s : ℕ = slotExponent (x .image) in
-    let y : State = state (carved (x .image) h size type cue) (noted s h size h (x .table)) in
-    let p : ℕ = pack (pointerTo s h size) in
-    let o : Stands s y h size = carved-stands size type cue x h fits cue-fits a in
-    let l : Located s (unpack p) y h = located-object s y h size p o (own-pointer s h size (a .opens .high) (omega (arith, a .inside, a .opens .short))) in
-    record {
-      exponent-kept =
-          carved-exponent (x .image) h size type cue (a .lowest .fits-in) (sound-end (x .image) h (a .lowest .is-sound))
-          (sound-low (x .image) h (a .lowest .is-sound));
-      place = h;
-      found = a .found;
-      pointer = refl;
-      good-tag = l .good;
-      leads = located-leads s (unpack p) y h l;
-      header = sym (l .place);
-      read = located-at s (unpack p) y h l;
-      size-kept = o .size-is;
-      type-kept = ap (λ (d : Header). d .ty) (carved-at size type cue x h fits cue-fits a .is-header);
-      cue-kept = ap (λ (d : Header). d .cue) (carved-at size type cue x h fits cue-fits a .is-header);
-    }
+  -- and ends in the image
+  ends : h + extentAt (x .image) h ≤ length (x .image)
+  ends = sound-end (x .image) h (a .lowest .is-sound)
+
+  -- the header that is carved in it
+  carved-at : CarvedHeader (x .image) h size type cue (a .lowest .fits-in) ends
+  carved-at = carved-header (x .image) h size type cue (a .lowest .fits-in) ends (a .opens .short) fits cue-fits
+
+  -- and left there
+  left-header : headerAt (allotted (x .image) h size type cue) h ≡ fields (takenExtent (x .image) h size) 2 type size cue
+  left-header = allotted-header (x .image) h size type cue (a .lowest .fits-in) ends h low ∙ carved-at .is-header
+
+  -- the object stands there, on what allocate leaves
+  left-stands : Stands (slotExponent (x .image)) (left size type cue x h) h size
+  left-stands =
+      let long : length (allotted (x .image) h size type cue) ≡ length (x .image) = length-allotted (x .image) h size type cue (a .lowest .fits-in) ends in
+      record {
+        exponent = a .opens .high;
+        inside = omega (arith, a .inside);
+        short = omega (arith, a .opens .short);
+        is-sound =
+            sound-live-at (allotted (x .image) h size type cue) h (takenExtent (x .image) h size) type size cue left-header low (omega (arith, carved-at .ends))
+            (a .some-size) (carved-at .holds) (carved-at .tight);
+        is-live = eq-eqb _ _ (ap (λ (d : Header). d .kind) left-header);
+        size-is = ap (λ (d : Header). d .size) left-header;
+        entry = noted-entry (slotExponent (x .image)) h size h (x .table) (a .indexed);
+      }
+
+  -- and its pointer leads to it
+  left-leads : PointsBack size type cue x (left size type cue x h) (pack (pointerTo (slotExponent (x .image)) h size))
+  left-leads =
+      let s : ℕ = slotExponent (x .image) in
+      let y : State = left size type cue x h in
+      let p : ℕ = pack (pointerTo s h size) in
+      let l : Located s (unpack p) y h = located-object s y h size p left-stands (own-pointer s h size (a .opens .high) (omega (arith, a .inside, a .opens .short))) in
+      record {
+        exponent-kept = allotted-exponent (x .image) h size type cue (a .lowest .fits-in) ends low;
+        place = h;
+        found = a .found;
+        pointer = refl;
+        good-tag = l .good;
+        leads = located-leads s (unpack p) y h l;
+        header = sym (l .place);
+        read = located-at s (unpack p) y h l;
+        size-kept = left-stands .size-is;
+        type-kept = ap (λ (d : Header). d .ty) left-header;
+        cue-kept = ap (λ (d : Header). d .cue) left-header;
+      }
 
 -- demand 2, of allocate
 pub leads-back : LeadsBack
@@ -343,7 +355,7 @@ leads-back size type cue x fits cue-fits e = go (allocateChecks size x) refl
     go (Refused r) q = absurd (refused-some r (ap (λ (o : Outcome). returned (o .answer)) (allocate-declined size x type cue r q) ∙ e))
     go (Accepted h) q =
         subst (λ (o : Outcome). PointsBack size type cue x (o .after) (value (o .answer)))
-        (allocate-done size x type cue h (slotExponent (x .image)) _ _ _ _ q refl refl refl refl refl) (carved-leads size type cue x h fits cue-fits (allocate-parts size x h q))
+        (allocate-done size x type cue h (slotExponent (x .image)) _ _ _ _ q refl refl refl refl refl) (left-leads size type cue x h fits cue-fits (allocate-parts size x h q))
 
 -- on what a store leaves, the load gives its value
 stored-read : (p width v : ℕ) (x : State) (a : ℕ) → Stores p width v x a

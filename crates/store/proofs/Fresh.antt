@@ -53,9 +53,13 @@ zeros L h =
     ∙ ap (λ (x : List ℕ). replicate 16 0 ++ x) (sym (replicate-append-replicate {A = ℕ} 16 (L - 32) 0))
 
 -- the superblock and the header of the free block, written into zeros
-pub laid-out : (image : List ℕ) (s L : ℕ) → length image ≡ L → 32 ≤ L → put (put (put image 0 (replicate L 0)) 0 (superblock s L)) 16 (freeHeader (L - 16)) ≡ fresh s L
+pub laid-out : (image : List ℕ) (s L : ℕ) → length image ≡ L → 32 ≤ L
+    → put (put (put image 0 (replicate L 0)) 0 (superblock s L (L - 16))) 16 (freeHeader (L - 16)) ≡ fresh s L
 unfolding fresh
 laid-out image s L e h =
-    ap (λ (x : List ℕ). put (put x 0 (superblock s L)) 16 (freeHeader (L - 16))) (zeroed image L e ∙ zeros L h)
-    ∙ ap (λ (x : List ℕ). put x 16 (freeHeader (L - 16))) (put-at [] (replicate 16 0) (replicate 16 0 ++ replicate (L - 32) 0) (superblock s L) 0 refl (sym (length-superblock s L)))
-    ∙ put-at (superblock s L) (replicate 16 0) (replicate (L - 32) 0) (freeHeader (L - 16)) 16 (length-superblock s L) (sym (length-header (L - 16) 1 0 0 0))
+    let front : List ℕ = superblock s L (L - 16) in
+    let sixteen : length front ≡ 16 = length-superblock s L (L - 16) in
+    let block : List ℕ = freeHeader (L - 16) in
+    ap (λ (x : List ℕ). put (put x 0 front) 16 block) (zeroed image L e ∙ zeros L h)
+    ∙ ap (λ (x : List ℕ). put x 16 block) (put-at [] (replicate 16 0) (replicate 16 0 ++ replicate (L - 32) 0) front 0 refl (sym sixteen))
+    ∙ put-at front (replicate 16 0) (replicate (L - 32) 0) block 16 sixteen (sym (length-header (L - 16) 1 0 0 0))

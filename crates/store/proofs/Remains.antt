@@ -16,7 +16,7 @@ use Rattle.block.specs.Walk.{isOfCue}
 use Rattle.block.specs.laws.Gathering.{cue-live}
 use Rattle.block.specs.declared.header.Header.{Header}
 use Rattle.store.specs.State.{State}
-use Rattle.store.specs.Calls.{entryHolds, mergeEnd, pointersTo}
+use Rattle.store.specs.Calls.{entryHolds, mergeEnd, extentsOf, pointersTo}
 use Rattle.store.specs.laws.Free.{merge-end-last, merge-end-free, merge-end-live}
 
 -- the blocks of x from h on are sound to the image's end; those of the cue stand at these places, and each holds its entry
@@ -124,3 +124,10 @@ module _ {s cue low : ℕ} {x y : State} (q : SameFrom s low x y) where
   pointers-same l (taken h hs o t n r) =
       ap (λ (d : Header). pack (pointerTo s h (d .size)) ∷ pointersTo s (y .image) hs) (q .headers h l)
       ∙ ap (λ (ps : List ℕ). pack (pointerTo s h (sizeAt (x .image) h)) ∷ ps) (pointers-same (omega arith) r)
+
+  -- and the same extents
+  pub extents-same : {h : ℕ} {hs : List ℕ} → low ≤ h → Left s cue x h hs → extentsOf (y .image) hs ≡ extentsOf (x .image) hs
+  unfolding extentsOf
+  extents-same l (no-more h e) = refl
+  extents-same l (passed h hs o t r) = extents-same (omega arith) r
+  extents-same l (taken h hs o t n r) = omega (arith, ap (λ (d : Header). d .extent) (q .headers h l), extents-same (omega arith) r)

@@ -1,5 +1,5 @@
 -- The pass of a release, block by block, on the states that freeing singly goes through. Assumes nothing.
-use Prim.Native.Nat.{ℕ, zero, suc, _+_, _<_}
+use Prim.Native.Nat.{ℕ, zero, suc, _+_, _-_, _≤_, _<_}
 use mathlib.Core.Path.{_≡_, sym, ap, _∙_, subst}
 use mathlib.Core.Bool.{true, false}
 use mathlib.Core.List.{List, _∷_}
@@ -8,24 +8,26 @@ use lib.Dec.{eqb}
 use lib.ListN.{length}
 use borrow.Author.Tests.{eqb-true, eqb-false}
 use Rattle.block.specs.laws.Booleans.{byBool}
-use Rattle.block.specs.Layout.{headerAt, extentAt, sound}
+use Rattle.block.specs.Layout.{storedTotal, headerAt, extentAt, sound}
 use Rattle.block.specs.laws.Soundness.{sound-extent}
 use Rattle.block.specs.Walk.{isOfCue}
 use Rattle.block.specs.laws.WalkTo.{Behind, at-later, behind-on-walk}
 use Rattle.store.specs.State.{State, Outcome, returned}
-use Rattle.store.specs.Calls.{opening, pointersTo, freeEach}
-use Rattle.store.specs.laws.Release.{pointers-to-none, pointers-to-one, free-each-none, free-each-one}
+use Rattle.store.specs.Calls.{opening, extentsOf, pointersTo, freeEach}
+use Rattle.store.specs.laws.Release.{extents-one, pointers-to-none, pointers-to-one, free-each-none, free-each-one}
 use Rattle.store.specs.Claims.{EachFreed, none-left, one-freed}
 use Rattle.store.specs.declared.answer.Answer.the-variants.{Accepted}
-use Rattle.store.proofs.Remains.{Left, of-cue-live, left-ends, left-sound, left-in, left-good, left-passed, left-taken, left-merged, left-same, pointers-same}
-use Rattle.store.proofs.Freeing.{Freeable, from, to, without, frees, free-one, without-same, without-opens, without-behind}
+use Rattle.store.proofs.Remains.{Left, of-cue-live, left-ends, left-sound, left-in, left-good, left-passed, left-taken, left-merged, left-same, pointers-same, extents-same}
+use Rattle.store.proofs.Freeing.{Freeable, from, to, without, frees, free-one, without-total, without-same, without-opens, without-behind}
 
 -- the objects of the cue before h are freed, which left x; freeing those at these places leaves `goal`. The block before h stands at `before`.
+-- The total has room for what they give back.
 pub record Sweep (s cue : ℕ) (goal x : State) (before h : ℕ) (places : List ℕ) : Type 0 where
   pub opens : opening x ≡ Accepted s
   pub behind : Behind (x .image) before h
   pub left : Left s cue x h places
   pub same : freeEach (pointersTo s (x .image) places) x ≡ goal
+  pub total : storedTotal (x .image) + extentsOf (x .image) places ≤ length (x .image) - 16
 
 -- the object at h is the first of these places and can be freed; then the others are left, behind the merged block
 pub record Step (s cue : ℕ) (goal x : State) (before h : ℕ) (places : List ℕ) : Type 0 where
@@ -63,12 +65,16 @@ module _ {s cue : ℕ} {goal x : State} {before h : ℕ} {places : List ℕ} (w 
           behind = at-later h (behind-on-walk (w .behind)) sweep-sound;
           left = left-passed (w .left) below t;
           same = w .same;
+          total = w .total;
         }
 
     -- an object of the cue is freed
     pub sweep-takes : isOfCue cue (headerAt (x .image) h) ≡ true → Step s cue goal x before h places
     sweep-takes t =
         let r = left-taken (w .left) below t in
+        let gives : extentsOf (x .image) places ≡ extentAt (x .image) h + extentsOf (x .image) (r .rest) =
+        ap (extentsOf (x .image)) (r .places) ∙ extents-one (x .image) h (r .rest)
+        in
         let f : Freeable s x before h =
         record {
           opens = w .opens;
@@ -77,6 +83,7 @@ module _ {s cue : ℕ} {goal x : State} {before h : ℕ} {places : List ℕ} (w 
           is-live = of-cue-live cue (x .image) h t;
           holds = r .holds;
           next-good = left-good (r .left);
+          total = omega (arith, w .total, gives);
         }
         in
         let l = left-merged (r .left) in
@@ -94,6 +101,7 @@ module _ {s cue : ℕ} {goal x : State} {before h : ℕ} {places : List ℕ} (w 
                 same =
                     ap (λ (qs : List ℕ). freeEach qs (without f)) ps ∙ frees-first (r .rest) f
                     ∙ ap (λ (hs : List ℕ). freeEach (pointersTo s (x .image) hs) x) (sym (r .places)) ∙ w .same;
+                total = omega (arith, w .total, gives, without-total f, without-same f .long, extents-same (without-same f) (omega arith) l);
               };
         }
 

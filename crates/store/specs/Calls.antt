@@ -15,7 +15,7 @@ use Rattle.frame.specs.declared.parts.Moved.the-variants.{To, Outside}
 use Rattle.block.specs.Bytes.{encode, field, put}
 use Rattle.block.specs.Order.{compareBytes}
 use Rattle.block.specs.Text.{textOf}
-use Rattle.block.specs.Layout.{within, superblock, superblockGood, slotExponent, goodExponent, goodLength, freeHeader, liveHeader, sound, isFree, isLive, extentAt, sizeAt}
+use Rattle.block.specs.Layout.{within, superblock, superblockGood, slotExponent, storedTotal, withTotal, goodExponent, goodLength, freeHeader, liveHeader, sound, isFree, isLive, extentAt, sizeAt}
 use Rattle.block.specs.Walk.{Walked, stopped, unsound, ended, firstFit, walkTo, countBlocks, walkCue}
 use Rattle.block.specs.declared.text.Text.{Text}
 use Rattle.block.specs.declared.text.Text.the-variants.{Ends, Endless}
@@ -26,7 +26,7 @@ use Rattle.block.specs.declared.walk.Met.the-variants as met
 use Rattle.block.specs.declared.walk.Counted.{Counted}
 use Rattle.block.specs.declared.walk.Counted.the-variants as counted
 use Rattle.store.specs.State.{State, Outcome, outcome, demand, andThen, refuse, conclude}
-use Rattle.store.specs.declared.answer.Refusal.the-variants.{BadExponent, BadLength, TooFewEntries, BadSuperblock, ShortTable, Empty, Unsound, NoSpace, EntryTaken, BadTag, Dangling, Leaves, OutOfBounds, BadWidth, NotBase, TooLarge, Unterminated, EntryLost}
+use Rattle.store.specs.declared.answer.Refusal.the-variants.{BadExponent, BadLength, TooFewEntries, BadSuperblock, ShortTable, Empty, Unsound, NoSpace, EntryTaken, BadTag, Dangling, Leaves, OutOfBounds, BadWidth, NotBase, TooLarge, Unterminated, EntryLost, WrongTotal}
 use Rattle.store.specs.declared.answer.Answer.{Answer}
 use Rattle.store.specs.declared.answer.Answer.the-variants.{Accepted, Refused}
 use Rattle.store.specs.declared.release.Release.{Release}
@@ -45,9 +45,9 @@ setUpChecks s x =
     (demand (goodLength (length (x .image))) BadLength
     (demand (leb (usedEntries s (length (x .image))) (length (x .table))) TooFewEntries (Accepted 0)))
 
--- a fresh image: the superblock, and one free block of zeros
+-- a fresh image: the superblock, with all bytes behind it free, and one free block of zeros
 unfoldable pub fresh : ℕ → ℕ → List ℕ
-fresh s L = superblock s L ++ (freeHeader (L - 16) ++ replicate (L - 32) 0)
+fresh s L = superblock s L (L - 16) ++ (freeHeader (L - 16) ++ replicate (L - 32) 0)
 
 -- the table with the used entries of an image of L bytes zero
 abbrev pub cleared : ℕ → ℕ → List ℕ → List ℕ
@@ -66,7 +66,7 @@ opening x =
     (demand (leb (usedEntries (slotExponent (x .image)) (length (x .image))) (length (x .table))) ShortTable
     (Accepted (slotExponent (x .image))))
 
--- Allocate, for a cue or for none: 6, 7 or 8 as the walk ends, 9 where the new object's entry is not zero.
+-- Allocate, for a cue or for none: 6, 7 or 8 as the walk ends, 9 where the new object's entry is not zero, 22.
 
 -- whether the object at h needs no table entry, or its entry holds v
 unfoldable pub entryHolds : ℕ → ℕ → ℕ → ℕ → List ℕ → Bool
@@ -78,12 +78,18 @@ fitAnswer (fit.At h) next = next h
 fitAnswer (fit.Unsound h) next = Refused Unsound
 fitAnswer fit.End next = Refused NoSpace
 
--- its tests; the number is the place of the block that is taken
+-- the extent of a live block in the free one at h: all of that where a rest would be under 16 bytes
+unfoldable pub takenExtent : List ℕ → ℕ → ℕ → ℕ
+takenExtent image h size = cond (ltb (extentAt image h - (16 + size)) 16) (extentAt image h) (16 + size)
+
+-- its tests; the number is the place of the block that is taken. 22: the free total would go below zero
 unfoldable pub allocateChecks : ℕ → State → Answer
 allocateChecks size x =
     andThen (opening x) λ s.
     demand (ltb 0 size) Empty
-    (fitAnswer (firstFit (x .image) (16 + size)) λ h. demand (entryHolds s h size 0 (x .table)) EntryTaken (Accepted h))
+    (fitAnswer (firstFit (x .image) (16 + size)) λ h.
+    demand (entryHolds s h size 0 (x .table)) EntryTaken
+    (demand (leb (takenExtent (x .image) h size) (storedTotal (x .image))) WrongTotal (Accepted h)))
 
 -- the image with a live block in the free one at h; a rest of 16 bytes or more becomes a free block
 unfoldable pub carved : List ℕ → ℕ → ℕ → ℕ → ℕ → List ℕ
@@ -97,12 +103,16 @@ carved image h size type cue =
 unfoldable pub noted : ℕ → ℕ → ℕ → ℕ → List ℕ → List ℕ
 noted s h size entry table = cond (isSmall s h size) table (set table (entryOf s h size) entry)
 
+-- the image that it leaves: the live block, its extent taken from the free total
+abbrev pub allotted : List ℕ → ℕ → ℕ → ℕ → ℕ → List ℕ
+allotted image h size type cue = withTotal (carved image h size type cue) (storedTotal image - takenExtent image h size)
+
 -- its outcome: the tagged base
 unfoldable pub allocateFor : ℕ → ℕ → ℕ → State → Outcome
 allocateFor size type cue x =
     let s : ℕ = slotExponent (x .image) in
     conclude x (allocateChecks size x) λ h.
-    outcome (Accepted (pack (pointerTo s h size))) (carved (x .image) h size type cue) (noted s h size h (x .table))
+    outcome (Accepted (pack (pointerTo s h size))) (allotted (x .image) h size type cue) (noted s h size h (x .table))
 
 -- the call that takes no cue stores 0
 abbrev pub allocate : ℕ → ℕ → State → Outcome
@@ -251,7 +261,7 @@ copyText target source x =
     conclude x (copyTextChecks target source x) λ n.
     outcome (Accepted n) (put (x .image) (unpack target .address) (take n (drop (unpack source .address) (x .image)))) (x .table)
 
--- Free: 10, 11, 15, 7.
+-- Free: 10, 11, 15, 7, 22.
 
 -- where the merged block starts: at the block before h, where there is one (not 0) and it is free
 unfoldable pub mergeStart : List ℕ → ℕ → ℕ → ℕ
@@ -283,21 +293,35 @@ unfoldable pub releasedAt : Answer → List ℕ → Release
 releasedAt (Accepted h) image = released image h (walkTo image h)
 releasedAt (Refused r) image = release.Refused r
 
+-- 22: with n bytes given back, the free total is not above all bytes behind the superblock
+unfoldable pub totalFits : List ℕ → ℕ → Bool
+totalFits image n = leb (storedTotal image + n) (length image - 16)
+
+-- 22, where 7 is passed: the object's extent is given back
+unfoldable pub totalled : Release → List ℕ → Release
+totalled (release.Merges h from to) image =
+    cond (totalFits image (extentAt image h)) (release.Merges h from to) (release.Refused WrongTotal)
+totalled (release.Refused r) image = release.Refused r
+
 -- all its tests
 unfoldable pub freeRelease : ℕ → State → Release
-freeRelease word x = releasedAt (freeChecks word x) (x .image)
+freeRelease word x = totalled (releasedAt (freeChecks word x) (x .image)) (x .image)
+
+-- the image that it leaves: one free block, the object's own extent given back to the free total
+abbrev pub givenBack : List ℕ → ℕ → ℕ → ℕ → List ℕ
+givenBack image h from to = withTotal (merged image from to) (storedTotal image + extentAt image h)
 
 -- what the release of an object leaves
 unfoldable pub freed : Release → State → Outcome
 freed (release.Merges h from to) x =
-    outcome (Accepted 0) (merged (x .image) from to) (noted (slotExponent (x .image)) h (sizeAt (x .image) h) 0 (x .table))
+    outcome (Accepted 0) (givenBack (x .image) h from to) (noted (slotExponent (x .image)) h (sizeAt (x .image) h) 0 (x .table))
 freed (release.Refused r) x = refuse r x
 
 -- its outcome
 unfoldable pub free : ℕ → State → Outcome
 free word x = freed (freeRelease word x) x
 
--- Release, the end of a cue: 7 in a walk over the whole image, 21.
+-- Release, the end of a cue: 7 in a walk over the whole image, 21, 22.
 
 -- 7: what follows where no header is unsound, on the places of the cue's objects; the walk never stops before the end
 unfoldable pub gatheredAnswer : Walked (List ℕ) → (List ℕ → Answer) → Answer
@@ -316,11 +340,18 @@ unfoldable pub allHeld : ℕ → List ℕ → State → Bool
 allHeld s [] x = true
 allHeld s (h ∷ hs) x = entryHolds s h (sizeAt (x .image) h) h (x .table) && allHeld s hs x
 
--- its tests; the number is how many objects the cue has
+-- the sum of their extents
+unfoldable pub extentsOf : List ℕ → List ℕ → ℕ
+extentsOf image [] = 0
+extentsOf image (h ∷ hs) = extentAt image h + extentsOf image hs
+
+-- its tests; the number is how many objects the cue has. 22 is asked where it has none, too
 unfoldable pub releaseChecks : ℕ → State → Answer
 releaseChecks cue x =
     andThen (opening x) λ s.
-    gatheredAnswer (walkCue cue (x .image)) λ places. demand (allHeld s places x) EntryLost (Accepted (length places))
+    gatheredAnswer (walkCue cue (x .image)) λ places.
+    demand (allHeld s places x) EntryLost
+    (demand (totalFits (x .image) (extentsOf (x .image) places)) WrongTotal (Accepted (length places)))
 
 -- the tagged bases of the objects at these places
 unfoldable pub pointersTo : ℕ → List ℕ → List ℕ → List ℕ
@@ -340,6 +371,12 @@ freeEach (p ∷ ps) x = freeEach ps (free p x .after)
 unfoldable pub releaseCue : ℕ → State → Outcome
 releaseCue cue x =
     conclude x (releaseChecks cue x) λ n. record { answer = Accepted n; after = freeEach (cuePointers cue (x .image)) x }
+
+-- Free total: no further row.
+
+-- its answer: the number in the superblock, as it stands there
+unfoldable pub freeTotal : State → Answer
+freeTotal x = andThen (opening x) λ s. Accepted (storedTotal (x .image))
 
 -- Tally, the memory in use: 7; live objects, live bytes (the sum of their raw sizes), free bytes (the sum of the extents of free blocks) and overhead
 -- bytes (16 for each live header, and each live extent's bytes beyond header and size).

@@ -12,8 +12,8 @@ use Rattle.frame.specs.Tags.{pointerTo, usedEntries}
 use Rattle.block.specs.Layout.{slotExponent, typeAt, sizeAt, cueAt}
 use Rattle.block.specs.Walk.{firstFit}
 use Rattle.block.specs.declared.walk.Fit.the-variants as fit
-use Rattle.store.specs.State.{State, IsAccepted, value, comparisonNumber, comparisonValue, usageNumber, liveObjects, liveBytes, freeBytes, overheadBytes, Balances}
-use Rattle.store.specs.Calls.{setUp, allocateFor, load, store, free, compare, cuePointers, releaseCue, tally, leadsBack, headerPlace, located}
+use Rattle.store.specs.State.{State, IsAccepted, returned, value, comparisonNumber, comparisonValue, usageNumber, liveObjects, liveBytes, freeBytes, overheadBytes, Balances}
+use Rattle.store.specs.Calls.{setUp, allocateFor, load, store, free, compare, cuePointers, releaseCue, freeTotal, tally, leadsBack, headerPlace, located}
 use Rattle.store.specs.Step.{Call, step}
 use Rattle.store.specs.declared.answer.Answer.the-variants.{Accepted}
 
@@ -22,6 +22,7 @@ pub record RefusalsKeep : Type 0 where
   pub set-up : (s : ℕ) (x : State) → (IsAccepted (setUp s x) → ⊥) → (setUp s x .after ≡ x) × (value (setUp s x .answer) ≡ 0)
   pub calls : (c : Call) (x : State) → (IsAccepted (step c x) → ⊥) → (step c x .after ≡ x) × (value (step c x .answer) ≡ 0)
   pub compares : (p q n : ℕ) (x : State) → (comparisonNumber (compare p q n x) ≡ 0 → ⊥) → comparisonValue (compare p q n x) ≡ pos 0
+  pub totals : (x : State) → (returned (freeTotal x) ≡ 0 → ⊥) → value (freeTotal x) ≡ 0
   pub counts :
       (x : State) → (usageNumber (tally x) ≡ 0 → ⊥)
       → (liveObjects (tally x) ≡ 0) × (liveBytes (tally x) ≡ 0) × (freeBytes (tally x) ≡ 0) × (overheadBytes (tally x) ≡ 0)
@@ -32,7 +33,7 @@ KeepsShape s x y =
     (length (y .image) ≡ length (x .image)) × (length (y .table) ≡ length (x .table))
     × (drop (usedEntries s (length (x .image))) (y .table) ≡ drop (usedEntries s (length (x .image))) (x .table))
 
--- No call changes a length, or writes a table entry beyond the used ones; compare and tally leave all as it was, by their definitions.
+-- No call changes a length, or writes a table entry beyond the used ones; compare, free total and tally leave all as it was, by their definitions.
 pub record ShapesKept : Type 0 where
   pub set-up : (s : ℕ) (x : State) → KeepsShape s x (setUp s x .after)
   pub calls : (c : Call) (x : State) → KeepsShape (slotExponent (x .image)) x (step c x .after)

@@ -13,10 +13,11 @@ use Rattle.frame.specs.Tags.{lastHeld, wrapper, isSmall, tagNumber, pointerTo, 
 use Rattle.block.specs.Bytes.{encode, decode, field, put}
 use Rattle.block.specs.Order.{compareBytes}
 use Rattle.block.specs.Text.{textFrom, textOf}
-use Rattle.block.specs.Layout.{superblock, superblockGood, header, headerAt, wellFormed, sound, isFree, extentAt}
+use Rattle.block.specs.Layout.{superblock, withTotal, superblockGood, header, headerAt, wellFormed, sound, isFree, extentAt}
 use Rattle.block.specs.Walk.{Search, walkIn, walkFrom, walk, fitOf, firstFit, metOf, walkTo, countOf, countBlocks, walkCue}
 use Rattle.store.specs.State.{State, state, Outcome, returned, value, comparisonNumber, comparisonValue, usageNumber, liveObjects, liveBytes, freeBytes, overheadBytes}
-use Rattle.store.specs.Calls.{setUpChecks, fresh, setUp, opening, entryHolds, fitAnswer, allocateChecks, carved, noted, allocateFor, allocate, headerPlace, verified, leadsBack, located, inBody, accessed, movedAnswer, moveAnswer, move, loadAnswer, load, storeChecks, store, copyChecks, compared, compare, textAnswer, textAt, copyTextChecks, copyText, mergeEnd, mergeStart, released, freeChecks, releasedAt, freeRelease, merged, freed, free, gatheredAnswer, placesOf, allHeld, releaseChecks, pointersTo, cuePointers, freeEach, releaseCue, tallyOpened, tallyCounted, tally}
+use Rattle.store.specs.Calls.{setUpChecks, fresh, setUp, opening, entryHolds, fitAnswer, takenExtent, allocateChecks, carved, noted, allocateFor, allocate, headerPlace, verified, leadsBack, located, inBody, accessed, movedAnswer, moveAnswer, move, loadAnswer, load, storeChecks, store, copyChecks, compared, compare, textAnswer, textAt, copyTextChecks, copyText, mergeEnd, mergeStart, released, freeChecks, releasedAt, totalFits, totalled, freeRelease, merged, freed, free, gatheredAnswer, placesOf, allHeld, extentsOf, releaseChecks, pointersTo, cuePointers, freeEach, releaseCue, freeTotal, tallyOpened, tallyCounted, tally}
+use Rattle.store.specs.Step as call
 use Rattle.store.specs.declared.answer.Answer.{Answer}
 use Rattle.store.specs.declared.comparing.Comparison.{Comparison}
 use Rattle.store.specs.declared.counting.Usage.{Usage}
@@ -52,6 +53,11 @@ pub data Case : Type 0 where
   releases : (L : ℕ) (sizes cues gone : List ℕ) (index v cue number count : ℕ) (blocks entries : List ℕ) → Case
   -- W6: with another table entry and another byte the release returns that number, gives 0, and leaves image and table as they are
   keeps : (L : ℕ) (sizes cues : List ℕ) (index v at byte cue number : ℕ) → Case
+  -- W7: what free total gives
+  totals : (L : ℕ) (before : List ℕ) (total : ℕ) → Case
+  -- W7: objects of these sizes and cues; with another free total, table entry and byte a call returns that number, and free total gives `left` then; a
+  -- refusal leaves image and table as they are
+  retotals : (L : ℕ) (sizes cues : List ℕ) (total index v at byte : ℕ) (c : call.Call) (number left : ℕ) → Case
 
 -- a store set up on an image and table that were full of other bytes
 abbrev begun : ℕ → State
@@ -153,10 +159,27 @@ holds (keeps L sizes cues index v at byte cue number) =
     let o : Outcome = releaseCue cue y in
     eqb (returned (o .answer)) number
     && (eqb (value (o .answer)) 0 && (sameNumbers (o .after .image) (y .image) && sameNumbers (o .after .table) (y .table)))
+holds (totals L before total) =
+    let a : Answer = freeTotal (placed before (begun L)) in
+    eqb (returned a) 0 && eqb (value a) total
+holds (retotals L sizes cues total index v at byte c number left) =
+    let x : State = placedFor sizes cues (begun L) in
+    let y : State = state (set (withTotal (x .image) total) at byte) (set (x .table) index v) in
+    let o : Outcome = call.step c y in
+    eqb (returned (o .answer)) number
+    && (eqb (value (freeTotal (o .after))) left
+    && cond (eqb number 0) true (sameNumbers (o .after .image) (y .image) && sameNumbers (o .after .table) (y .table)))
 
 abbrev pub all : List Case → Bool
 all [] = true
 all (c ∷ cs) = holds c && all cs
+
+-- document 01's four objects, of two cues in turn
+abbrev four : List ℕ
+four = 10 ∷ 20 ∷ 32 ∷ 1 ∷ []
+
+abbrev odd : List ℕ
+odd = 7 ∷ 9 ∷ 7 ∷ 9 ∷ []
 
 -- a text's letters
 abbrev hello : List ℕ
@@ -239,8 +262,44 @@ cases =
     ∷ keeps 1024 (10 ∷ 20 ∷ 32 ∷ []) (7 ∷ 7 ∷ 7 ∷ []) 0 0 130 9 8 7
     ∷ keeps 1024 (10 ∷ 20 ∷ 32 ∷ []) (7 ∷ 9 ∷ 7 ∷ []) 0 0 0 16 8 0
     ∷ keeps 1024 (10 ∷ 20 ∷ 32 ∷ []) (7 ∷ 7 ∷ 7 ∷ []) 0 0 4 0 7 4
+    ∷ totals 1024 [] 1008
+    ∷ totals 1024 (10 ∷ []) 982
+    ∷ totals 1024 (10 ∷ 20 ∷ []) 946
+    ∷ totals 1024 (10 ∷ 20 ∷ 32 ∷ []) 898
+    ∷ totals 1024 (10 ∷ 20 ∷ 32 ∷ 1 ∷ []) 881
+    ∷ totals 64 (16 ∷ []) 16
+    ∷ totals 64 (17 ∷ []) 0
+    ∷ retotals 256 four odd 0 2 0 0 16 (call.allocates 10 0) 22 0
+    ∷ retotals 256 four odd 25 2 0 0 16 (call.allocates 10 0) 22 25
+    ∷ retotals 256 four odd 26 2 0 0 16 (call.allocates 10 0) 0 0
+    ∷ retotals 256 four odd 0xFFFFFFFF 2 0 0 16 (call.allocates 10 0) 0 0xFFFFFFE5
+    ∷ retotals 256 four odd 25 2 0 0 16 (call.allocatesFor 10 0 9) 22 25
+    ∷ retotals 64 [] [] 47 2 0 0 16 (call.allocates 17 0) 22 47
+    ∷ retotals 64 [] [] 48 2 0 0 16 (call.allocates 17 0) 0 0
+    ∷ retotals 256 four odd 0 2 0 0 16 (call.allocates 0 0) 6 0
+    ∷ retotals 256 four odd 0 2 0 0 16 (call.allocates 1000 0) 8 0
+    ∷ retotals 256 (10 ∷ []) (0 ∷ []) 0 0 5 0 16 (call.allocates 20 0) 9 0
+    ∷ retotals 256 four odd 0 2 0 0 16 (call.frees 0x8010000000000020) 0 26
+    ∷ retotals 256 four odd 0 2 0 0 16 (call.frees 0x000800000000008E) 0 17
+    ∷ retotals 256 four odd 214 2 0 0 16 (call.frees 0x8010000000000020) 0 240
+    ∷ retotals 256 four odd 215 2 0 0 16 (call.frees 0x8010000000000020) 22 215
+    ∷ retotals 256 four odd 0xFFFFFFFF 2 0 0 16 (call.frees 0x8010000000000020) 22 0xFFFFFFFF
+    ∷ retotals 256 four odd 0xFFFFFFFF 2 0 0 16 (call.frees 0x8010000000000021) 15 0xFFFFFFFF
+    ∷ retotals 256 four odd 0xFFFFFFFF 2 0 42 1 (call.frees 0x8010000000000020) 7 0xFFFFFFFF
+    ∷ retotals 256 four odd 0 2 0 0 16 (call.releases 7) 0 74
+    ∷ retotals 256 four odd 0 2 0 0 16 (call.releases 9) 0 53
+    ∷ retotals 256 four odd 166 2 0 0 16 (call.releases 7) 0 240
+    ∷ retotals 256 four odd 167 2 0 0 16 (call.releases 7) 22 167
+    ∷ retotals 256 four odd 0xFFFFFFFF 2 0 0 16 (call.releases 7) 22 0xFFFFFFFF
+    ∷ retotals 256 four odd 240 2 0 0 16 (call.releases 8) 0 240
+    ∷ retotals 256 four odd 241 2 0 0 16 (call.releases 8) 22 241
+    ∷ retotals 256 four odd 0xFFFFFFFF 2 0 0 16 (call.releases 8) 22 0xFFFFFFFF
+    ∷ retotals 256 four odd 0xFFFFFFFF 0 0 0 16 (call.releases 9) 21 0xFFFFFFFF
+    ∷ retotals 256 four odd 0xFFFFFFFF 2 0 78 1 (call.releases 7) 7 0xFFFFFFFF
+    ∷ retotals 256 four odd 0xFFFFFFFF 2 0 0 16 (call.stores 0x8010000000000020 4 5) 0 0xFFFFFFFF
+    ∷ retotals 256 four odd 113 2 0 4 0 (call.loads 0x8010000000000020 4) 4 0
     ∷ []
 
 pub worked : T (all cases)
-unfolding frameNumber frameNumberIn unpack pack goodTag reach landed moved wrapper tagNumber pointerTo tagMatches usedEntries entryAt encode decode field put superblock superblockGood header headerAt wellFormed sound walkIn walkFrom walk fitOf firstFit setUpChecks fresh setUp opening entryHolds fitAnswer allocateChecks carved noted allocateFor headerPlace verified leadsBack located inBody accessed movedAnswer moveAnswer move loadAnswer load storeChecks store compareBytes textFrom textOf copyChecks compared compare textAnswer textAt copyTextChecks copyText countOf countBlocks tallyOpened tallyCounted tally metOf walkTo mergeEnd mergeStart released freeChecks releasedAt freeRelease merged freed free walkCue gatheredAnswer placesOf allHeld releaseChecks pointersTo cuePointers freeEach releaseCue
+unfolding frameNumber frameNumberIn unpack pack goodTag reach landed moved wrapper tagNumber pointerTo tagMatches usedEntries entryAt encode decode field put superblock withTotal superblockGood header headerAt wellFormed sound walkIn walkFrom walk fitOf firstFit setUpChecks fresh setUp opening entryHolds fitAnswer takenExtent allocateChecks carved noted allocateFor headerPlace verified leadsBack located inBody accessed movedAnswer moveAnswer move loadAnswer load storeChecks store compareBytes textFrom textOf copyChecks compared compare textAnswer textAt copyTextChecks copyText countOf countBlocks tallyOpened tallyCounted tally metOf walkTo mergeEnd mergeStart released freeChecks releasedAt totalFits totalled freeRelease merged freed free walkCue gatheredAnswer placesOf allHeld extentsOf releaseChecks pointersTo cuePointers freeEach releaseCue freeTotal
 worked = tt

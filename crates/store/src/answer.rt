@@ -22,6 +22,7 @@ pub enum Refusal {
     TooLarge,
     Unterminated,
     EntryLost,
+    WrongTotal,
 }
 
 // A number, 0 where a call has none to give; or why there is none.
@@ -54,6 +55,7 @@ impl Refusal {
             Refusal::TooLarge => 16,
             Refusal::Unterminated => 20,
             Refusal::EntryLost => 21,
+            Refusal::WrongTotal => 22,
         }
     }
 }

@@ -13,6 +13,7 @@ mod release;
 mod setup;
 mod sweep;
 mod text;
+mod total;
 
 pub use access::fill;
 pub use access::load;
@@ -31,3 +32,4 @@ pub use release::free;
 pub use setup::set_up;
 pub use sweep::release_cue;
 pub use text::copy_text;
+pub use total::free_total;

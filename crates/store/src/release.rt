@@ -4,16 +4,17 @@ ghost use mathlib.Core.Bool.{true, cond};
 ghost use Prim.Native.Nat.{_+_, _≤_, _<_, _^_};
 ghost use lib.Dec.{eqb};
 ghost use lib.ListN.{length};
-ghost use Rattle.block.specs.Layout.{sound};
+ghost use Rattle.block.specs.Layout.{sound, extentAt, storedTotal};
 ghost use Rattle.block.specs.Walk.{walkTo};
 ghost use Rattle.store.specs.State.{state, outcome};
-ghost use Rattle.store.specs.Calls.{opening, mergeStart, released, freeRelease, merged, free};
+ghost use Rattle.store.specs.Calls.{opening, mergeStart, released, totalled, freeRelease, merged, givenBack, free};
 use crate::answer::Answer;
 use crate::answer::Refusal;
 use crate::entries::clear_entry;
 use crate::locate::Found;
 use crate::locate::locate;
 use crate::opening::opening;
+use crate::total::total_fits;
 use block::bytes::fill;
 use block::header::Examined;
 use block::header::Header;
@@ -21,6 +22,8 @@ use block::header::examine;
 use block::header::extent_at;
 use block::header::kind_at;
 use block::header::write_free;
+use block::superblock::stored_total;
+use block::superblock::write_total;
 use block::walk::Met;
 use block::walk::walk_to;
 use frame::Pointer;
@@ -75,6 +78,23 @@ fn coalesce(image: &[u8], h: u64) -> Release
     }
 }
 
+// Rows 7 and 22 of free, and what is merged with the sound block at h.
+fn mergeable(image: &[u8], h: u64) -> Release
+    requires { ⌜ sound (now image) h ≡ true ⌝ }
+    ensures { λ r. ⌜ r ≡ totalled (released (now (image .entry)) h (walkTo (now (image .entry)) h)) (now (image .entry)) ⌝ }
+{
+    match coalesce(image, h) {
+        Release::Refused(r) => Release::Refused(r),
+        Release::Merges(_, from, to) => {
+            if total_fits(image, extent_at(image, h as usize)) {
+                Release::Merges(h, from, to)
+            } else {
+                Release::Refused(Refusal::WrongTotal)
+            }
+        }
+    }
+}
+
 // The rows of free after 4 and 5.
 fn releasable(image: &[u8], table: &[u64], s: u32, pointer: u64) -> Release
     requires { ⌜ opening (state (now image) (now table)) ≡ Answer.Accepted s ⌝ }
@@ -87,7 +107,7 @@ fn releasable(image: &[u8], table: &[u64], s: u32, pointer: u64) -> Release
             if p.address != o.header + 16 {
                 return Release::Refused(Refusal::NotBase);
             }
-            coalesce(image, o.header)
+            mergeable(image, o.header)
         }
     }
 }
@@ -101,6 +121,16 @@ pub fn merge(image: &mut [u8], from: u64, to: u64)
     write_free(image, from as usize, to - from);
 }
 
+// One free block from `from` to `to` in the place of the block at h, whose extent is given back to the free total.
+fn give_back(image: &mut [u8], h: u64, from: u64, to: u64)
+    requires { ⌜ (h + 16 ≤ length (now image)) × (from + 16 ≤ to) × (to ≤ length (now image)) × (storedTotal (now image) + extentAt (now image) h < 2 ^ 64) ⌝ }
+    ensures { λ _. ⌜ now (image .exit) ≡ givenBack (now (image .entry)) h from to ⌝ }
+{
+    let total = stored_total(image) + extent_at(image, h as usize);
+    merge(image, from, to);
+    write_total(image, total);
+}
+
 // Ends the life of the object whose base pointer this is.
 pub fn free(image: &mut [u8], table: &mut [u64], pointer: u64) -> Answer
     ensures { λ r. ⌜ outcome r (now (image .exit)) (now (table .exit)) ≡ free pointer (state (now (image .entry)) (now (table .entry))) ⌝ }
@@ -109,8 +139,8 @@ pub fn free(image: &mut [u8], table: &mut [u64], pointer: u64) -> Answer
         Answer::Refused(r) => Answer::Refused(r),
         Answer::Accepted(s) => match releasable(image, table, s as u32, pointer) {
             Release::Refused(r) => Answer::Refused(r),
-            Release::Merges(_, from, to) => {
-                merge(image, from, to);
+            Release::Merges(h, from, to) => {
+                give_back(image, h, from, to);
                 clear_entry(table, s as u32, Pointer::unpack(pointer));
                 Answer::Accepted(0)
             }

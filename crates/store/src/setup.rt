@@ -35,15 +35,16 @@ fn settable(image: &[u8], table: &[u64], s: u32) -> Answer
     Answer::Accepted(0)
 }
 
-// Lays out a fresh image: the superblock, and one free block of zeros.
+// Lays out a fresh image: the superblock, with all bytes behind it free, and one free block of zeros.
 fn lay_out(image: &mut [u8], s: u32)
     requires { ⌜ (64 ≤ length (now image)) × (length (now image) < 2 ^ 32) ⌝ }
     ensures { λ _. ⌜ now (image .exit) ≡ fresh s (length (now (image .entry))) ⌝ }
 {
     let len = image.len();
+    let free = len as u64 - 16;
     fill(image, 0, len, 0);
-    write_superblock(image, s);
-    write_free(image, 16, len as u64 - 16);
+    write_superblock(image, s, free);
+    write_free(image, 16, free);
 }
 
 // A fresh store with slot exponent s.

@@ -16,12 +16,15 @@ use crate::entries::entry_holds;
 use crate::entries::note;
 use crate::opening::opening;
 use crate::release::merge;
+use crate::total::total_fits;
 use block::header::Examined;
 use block::header::Header;
 use block::header::examine;
 use block::header::extent_at;
 use block::header::kind_at;
 use block::header::read_header;
+use block::superblock::stored_total;
+use block::superblock::write_total;
 use frame::tag_object;
 
 // Whether the header is that of a live block of the cue.
@@ -51,19 +54,24 @@ fn cue_releasable(image: &[u8], table: &[u64], s: u32, cue: u64) -> Answer
     let len = image.len() as u64;
     let mut held = true;
     let mut count: u64 = 0;
+    let mut given: u64 = 0;
     let mut h: u64 = 16;
     loop {
         if h == len {
-            if held {
-                break Answer::Accepted(count);
+            if !held {
+                break Answer::Refused(Refusal::EntryLost);
             }
-            break Answer::Refused(Refusal::EntryLost);
+            if !total_fits(image, given) {
+                break Answer::Refused(Refusal::WrongTotal);
+            }
+            break Answer::Accepted(count);
         }
         let Examined::Sound(d) = examine(image, h) else {
             break Answer::Refused(Refusal::Unsound);
         };
         if is_of_cue(d, cue) {
             count = count + 1;
+            given = given + d.extent;
             held = still_held(held, table, s, h, d.size);
         }
         h = h + d.extent;
@@ -103,7 +111,7 @@ fn settle(image: &mut [u8], run: bool, from: u64, h: u64)
     }
 }
 
-// Frees the objects of the cue in one pass: a run of neighbours is kept back, and written once, where it ends.
+// Frees the objects of the cue in one pass: a run of neighbours is kept back, and written once, where it ends; the free total behind them all.
 fn sweep(image: &mut [u8], table: &mut [u64], s: u32, cue: u64)
     requires { ⌜ (opening (state (now image) (now table)) ≡ Answer.Accepted s) × (returned (releaseChecks cue (state (now image) (now table))) ≡ 0) ⌝ }
     ensures { λ _. ⌜ state (now (image .exit)) (now (table .exit)) ≡ freeEach (cuePointers cue (now (image .entry))) (state (now (image .entry)) (now (table .entry))) ⌝ }
@@ -112,12 +120,14 @@ fn sweep(image: &mut [u8], table: &mut [u64], s: u32, cue: u64)
     // where a free of the block at h would merge from, and whether a run from there to h is kept back
     let mut from: u64 = 16;
     let mut run = false;
+    let mut total = stored_total(image);
     let mut h: u64 = 16;
     while h != len {
         let d = read_header(image, h as usize);
         let next = h + d.extent;
         if is_of_cue(d, cue) {
             note(table, tag_object(s, h, d.size), 0);
+            total = total + d.extent;
             run = true;
             h = merge_end_at(image, next);
         } else {
@@ -128,6 +138,7 @@ fn sweep(image: &mut [u8], table: &mut [u64], s: u32, cue: u64)
         }
     }
     settle(image, run, from, len);
+    write_total(image, total);
 }
 
 // Ends the lives of all objects of the cue; the number is how many they were.

@@ -3,7 +3,8 @@
 use crate::model::{self, Header, Pointer};
 
 /// Live blocks of one extent from 16 on, one for each cue, with bodies that are not clear and with their table entries; then a
-/// free block up to the image's end. As allocate would leave a fresh store, without its walk for each. Gives their pointers.
+/// free block up to the image's end, and the free total. As allocate would leave a fresh store, without its walk for each. Gives their
+/// pointers.
 pub fn live_blocks(image: &mut [u8], table: &mut [u64], slot_exponent: u32, extent: usize, cues: impl Iterator<Item = u32>) -> Vec<u64> {
     let (mut pointers, mut h, size) = (Vec::new(), 16, extent as u32 - 16);
     for cue in cues {
@@ -17,7 +18,8 @@ pub fn live_blocks(image: &mut [u8], table: &mut [u64], slot_exponent: u32, exte
         pointers.push(pointer.pack());
         h += extent;
     }
-    let free = Header::free((image.len() - h) as u64);
-    image[h..h + 16].copy_from_slice(&free.bytes());
+    let free = (image.len() - h) as u64;
+    image[h..h + 16].copy_from_slice(&Header::free(free).bytes());
+    model::set_total(image, free);
     pointers
 }

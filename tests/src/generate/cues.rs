@@ -49,7 +49,7 @@ impl Generator {
     }
 
     /// The first blocks of the walk.
-    fn blocks(&self, view: &View<'_>) -> Vec<(u64, Header)> {
+    pub(super) fn blocks(&self, view: &View<'_>) -> Vec<(u64, Header)> {
         if view.image.len() < 64 {
             return Vec::new();
         }
@@ -68,6 +68,9 @@ impl Generator {
             return;
         }
         let cue = self.random.pick(&live).1.last;
+        if self.random.percent(85) {
+            self.mend_total();
+        }
         let lost = if self.random.percent(50) { self.lose_entry(&live, cue) } else { None };
         let unsound = if self.random.percent(25) { Some(self.random.pick(&blocks)) } else { None };
         if let Some((h, header)) = unsound {
@@ -127,7 +130,7 @@ impl Generator {
     }
 
     /// Takes the entry of a large-framed object, mostly of this cue; gives its pointer.
-    fn lose_entry(&mut self, blocks: &[(u64, Header)], cue: u32) -> Option<Arg> {
+    pub(super) fn lose_entry(&mut self, blocks: &[(u64, Header)], cue: u32) -> Option<Arg> {
         let of_cue = self.random.percent(80);
         let pointer = |(h, header): (u64, Header)| Pointer::to(self.slot_exponent, h, u64::from(header.size));
         let large: Vec<(u64, Header)> = blocks.iter().copied().filter(|&block| !pointer(block).small && (block.1.last == cue || !of_cue)).collect();

@@ -2,16 +2,17 @@
 
 use super::{Generator, Make};
 use crate::case::{Action, Arg, Damage, View};
-use crate::model::{Header, Pointer};
+use crate::model::{Header, Pointer, TOTAL};
 use crate::store::Call;
 
-const DAMAGES: [(u64, Make); 8] = [
+const DAMAGES: [(u64, Make); 9] = [
     (2, Generator::misuse),
     (2, Generator::damage_superblock),
     (2, Generator::damage_byte),
     (7, Generator::damage_header),
     (7, Generator::damage_table),
-    (8, Generator::damage_for_release),
+    (10, Generator::damage_for_release),
+    (16, Generator::damage_total),
     (1, Generator::short_image),
     (1, Generator::low_header),
 ];
@@ -24,6 +25,10 @@ fn sixteen(view: &View<'_>, at: usize) -> [u8; 16] {
 impl Generator {
     pub(super) fn damage(&mut self, view: &View<'_>) {
         self.random.weighted(&DAMAGES)(self, view);
+        // or frees and allocates are refused for the rest of the case
+        if self.random.percent(70) {
+            self.mend_total();
+        }
     }
 
     pub(super) fn overwrite(&mut self, at: u64, bytes: [u8; 16]) {
@@ -52,7 +57,12 @@ impl Generator {
         }
         self.overwrite(0, header.bytes());
         self.any_calls(view);
-        self.overwrite(0, before);
+        self.put_back(before);
+    }
+
+    /// The superblock, but for the free total, which accepted calls have changed.
+    fn put_back(&mut self, bytes: [u8; 16]) {
+        self.push(Action::Damage(Damage::Image { at: Arg::Number(0), bytes, count: TOTAL }));
     }
 
     /// An image that is too short, with a superblock that says its length.
@@ -64,18 +74,15 @@ impl Generator {
         self.any_calls(view);
         self.call(Call::Tally);
         self.lend_all();
-        self.overwrite(0, before);
+        self.put_back(before);
     }
 
-    /// A header that would be sound but for its place, 15: the superblock's last byte is its extent's lowest.
+    /// A header that would be sound but for its place, 15: the free total's highest byte is its extent's lowest.
     fn low_header(&mut self, view: &View<'_>) {
-        if view.image.len() < 15 + 256 {
-            return;
-        }
         let before = sixteen(view, 15);
-        let size = 256 - 16 - self.random.below(16) as u32;
-        let pointer = Arg::Number(Pointer::to(self.slot_exponent, 15, u64::from(size)).pack());
-        self.overwrite(15, Header::live(256, 0, size, 0).bytes());
+        let (size, spare) = (self.random.within(1, 240.min(view.image.len() as u64 - 46)), self.random.below(16));
+        let pointer = Arg::Number(Pointer::to(self.slot_exponent, 15, size).pack());
+        self.overwrite(15, Header::live(16 + size + spare, 0, size as u32, 0).bytes());
         self.push(Action::Damage(Damage::EntryOf { of: pointer, value: None }));
         self.call(Call::Load { pointer, width: 1 });
         self.call(Call::Free { pointer });
@@ -90,6 +97,9 @@ impl Generator {
         } else {
             let damaged = self.damaged(h, header);
             self.overwrite(h, damaged.bytes());
+            if self.random.percent(30) {
+                self.mend_total();
+            }
             if self.random.percent(50) {
                 self.any_calls(view);
                 self.overwrite(h, header.bytes());

@@ -30,7 +30,7 @@ impl Generator {
     }
 
     /// Sixteen bytes through a pointer, this far behind its address.
-    fn write_header(&mut self, pointer: Arg, offset: u64, header: Header) {
+    pub(super) fn write_header(&mut self, pointer: Arg, offset: u64, header: Header) {
         let bytes = header.bytes();
         for (place, word) in [(0, &bytes[..8]), (8, &bytes[8..])] {
             let distance = (offset + place) as i64;

@@ -20,6 +20,9 @@ impl Generator {
         let (objects, queue) = (Vec::new(), VecDeque::new());
         let mut generator = Generator { random, mode, buffers, slot_exponent: SLOT_EXPONENT, cues, objects, queue, next_number: 0, steps_left: u32::MAX };
         generator.set_up();
+        if mode == Mode::Log && generator.random.percent(30) {
+            generator.reach_for_total();
+        }
         generator
     }
 }

@@ -1,8 +1,9 @@
 //! Random cases. What is generated depends on the seed and on the expected store's answers, never on the tested store's.
 //!
 //! Here are the case, its buffers and its book of objects; `calls` makes one call, `texts` those of texts, `cues` those of
-//! cues with damages for them, `pointers` the pointers, `forge` headers inside bodies, `misuse` wrong slices and set-ups,
-//! `damage` what is written behind the store's back; `log` makes a list of calls alone, `blocks` an image of many blocks.
+//! cues with damages for them, `totals` free totals, `pointers` the pointers, `forge` headers inside bodies, `misuse` wrong
+//! slices and set-ups, `damage` what is written behind the store's back; `log` makes a list of calls alone, `blocks` an image
+//! of many blocks.
 
 pub mod blocks;
 mod calls;
@@ -13,6 +14,7 @@ pub mod log;
 mod misuse;
 mod pointers;
 mod texts;
+mod totals;
 
 use crate::case::{Action, Arg, Buffers, Step, View};
 use crate::model;
@@ -39,7 +41,7 @@ const MODES: [(u64, Mode); 3] = [(40, Mode::History), (30, Mode::Hostile), (30, 
 type Make = fn(&mut Generator, &View<'_>);
 
 /// The mix: how often in a case's ordinary course, and how often on wrong slices or damaged bytes.
-const MIX: [(u64, u64, Make); 13] = [
+const MIX: [(u64, u64, Make); 14] = [
     (24, 1, Generator::allocate),
     (9, 1, Generator::allocate_for),
     (12, 1, Generator::free),
@@ -52,6 +54,7 @@ const MIX: [(u64, u64, Make); 13] = [
     (4, 1, Generator::compare),
     (4, 1, Generator::copy_text),
     (2, 1, Generator::tally),
+    (4, 1, Generator::free_total),
     (4, 0, Generator::forge),
 ];
 
@@ -150,7 +153,7 @@ impl Generator {
     fn generate(&mut self, view: &View<'_>) {
         match self.mode {
             Mode::Hostile if self.random.percent(4) => self.misuse(view),
-            Mode::Damaged if self.random.percent(15) => self.damage(view),
+            Mode::Damaged if self.random.percent(18) => self.damage(view),
             Mode::Log if self.random.percent(3) => self.reach_over(view),
             _ => self.random.weighted(&MIX.map(|(ordinary, _, make)| (ordinary, make)))(self, view),
         }

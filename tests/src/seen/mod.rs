@@ -1,12 +1,14 @@
-//! What occurs in the calls with two pointers, and in release, beside their answers: seen in image and table as they were
-//! before.
+//! What occurs in the calls with two pointers, in release, and with the free total, beside their answers: seen in image and
+//! table as they were before.
 
 mod releases;
+mod totals;
 
 use crate::model::{self, Pointer};
 use crate::store::{Answer, Call};
 use releases::Releases;
 use std::fmt;
+use totals::Totals;
 
 const CALLS: [&str; 3] = ["copy", "compare", "text copy"];
 /// A pointer's rows.
@@ -23,6 +25,7 @@ pub struct Seen {
     differences: [u64; PLACES],
     texts: [u64; TEXTS.len()],
     releases: Releases,
+    totals: Totals,
 }
 
 /// A pointer, the bytes from its address to its body's end, and those behind. A pointer whose first byte is refused has none.
@@ -105,6 +108,7 @@ fn add(counts: &mut [u64], rows: &[Row], looked: &Looked<'_>) {
 
 impl Seen {
     pub fn look(&mut self, image: &[u8], table: &[u64], call: &Call<u64>, answer: &Answer) {
+        self.totals.look(image, call, answer);
         let (place, first, second, bytes) = match *call {
             Call::Copy { target, source, length } => (0, target, source, length as usize),
             Call::Compare { left, right, length } => (1, left, right, length as usize),
@@ -142,6 +146,7 @@ impl Seen {
         all.extend(self.differences.iter().enumerate().map(|(place, &count)| (format!("compare: differs at {place}"), count)));
         all.extend(TEXTS.iter().zip(self.texts).map(|((what, _), count)| (format!("text copy: {what}"), count)));
         all.extend(self.releases.all().map(|(what, count)| (format!("release: {what}"), count)));
+        all.extend(self.totals.all().map(|(call, what, count)| (format!("{call}, total: {what}"), count)));
         all
     }
 
@@ -160,6 +165,7 @@ impl fmt::Display for Seen {
         writeln!(f, "compares: {}", list(&COMPARES, &self.compares))?;
         writeln!(f, "accepted by the place of the first difference 0..{}: {:?}", PLACES - 1, self.differences)?;
         writeln!(f, "text copies: {}", list(&TEXTS, &self.texts))?;
-        write!(f, "releases: {}", self.releases.all().map(|(what, count)| format!("{what} {count}")).collect::<Vec<_>>().join(", "))
+        writeln!(f, "releases: {}", self.releases.all().map(|(what, count)| format!("{what} {count}")).collect::<Vec<_>>().join(", "))?;
+        write!(f, "free totals: {}", self.totals.all().map(|(call, what, count)| format!("{call} {what} {count}")).collect::<Vec<_>>().join(", "))
     }
 }

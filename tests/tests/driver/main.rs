@@ -3,6 +3,7 @@
 mod compares;
 mod cues;
 mod texts;
+mod totals;
 
 use cueledger_tests::case::Mismatch;
 use cueledger_tests::driver::{compare, Failure};

@@ -3,7 +3,13 @@
 use super::*;
 
 const L: u64 = 1024;
-const SUPERBLOCK_BYTES: [u8; 16] = [16, 0, 0, 0, 3, 0, 6, 0, 0, 4, 0, 0, 0, 0, 0, 0];
+/// Up to the free total.
+const SUPERBLOCK_BYTES: [u8; 12] = [16, 0, 0, 0, 3, 0, 6, 0, 0, 4, 0, 0];
+
+/// The free total's bytes.
+fn total_bytes(blocks: impl Iterator<Item = Header>) -> [u8; 4] {
+    blocks.filter(|header| header.is_free()).map(|header| header.extent).sum::<u32>().to_le_bytes()
+}
 
 impl<S: Store> Lent<S> {
     /// An object of type 7 for a cue, its body and spare bytes filled; gives its place.
@@ -16,7 +22,8 @@ impl<S: Store> Lent<S> {
         h
     }
 
-    /// The image has these blocks, live ones filled as `place_for` does and free ones clear, and the table these entries.
+    /// The image has these blocks, live ones filled as `place_for` does and free ones clear, and their free total; and the table these
+    /// entries.
     fn stands(&self, blocks: &[(u64, Header)], entries: &[(usize, u64)]) {
         let filled: Vec<_> = blocks.iter().map(|&(h, header)| (h, header, if header.is_live() { 0xee } else { 0 })).collect();
         self.stands_filled(&filled, entries);
@@ -25,7 +32,8 @@ impl<S: Store> Lent<S> {
     /// The same, with what stands behind each header. An entry beyond the used ones is as it was before set-up.
     fn stands_filled(&self, blocks: &[(u64, Header, u8)], entries: &[(usize, u64)]) {
         let (mut image, mut table) = (vec![0; self.image.len()], vec![0; self.table.len()]);
-        image[..16].copy_from_slice(&SUPERBLOCK_BYTES);
+        image[..12].copy_from_slice(&SUPERBLOCK_BYTES);
+        image[12..16].copy_from_slice(&total_bytes(blocks.iter().map(|block| block.1)));
         let mut at = 16;
         for &(h, header, byte) in blocks {
             assert_eq!(h, at);
@@ -51,8 +59,9 @@ impl<S: Store> Lent<S> {
         assert!((&self.image, &self.table) == (&before.0, &before.1));
     }
 
-    /// Blocks written behind the store's back, up to the image's end; bytes behind headers are 0xee.
+    /// Blocks written behind the store's back, up to the image's end, and their free total; bytes behind headers are 0xee.
     fn lay_out(&mut self, blocks: &[Header]) {
+        self.image[12..16].copy_from_slice(&total_bytes(blocks.iter().copied()));
         self.image[16..].fill(0xee);
         let mut at = 16;
         for header in blocks {

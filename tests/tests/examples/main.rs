@@ -71,12 +71,13 @@ impl<S: Store> Lent<S> {
 
 fn set_up<S: Store>(store: S) {
     let mut lent = Lent::fresh(store, 1024);
-    assert_eq!(lent.image[..16], [16, 0, 0, 0, 3, 0, 6, 0, 0, 4, 0, 0, 0, 0, 0, 0]);
+    assert_eq!(lent.image[..16], [16, 0, 0, 0, 3, 0, 6, 0, 0, 4, 0, 0, 0xf0, 3, 0, 0]);
     assert_eq!(lent.image[16..32], [0xf0, 3, 0, 0, 1, 0, 0, 0, 0, 0, 0, 0, 0, 0, 0, 0]);
     assert!(lent.image[32..].iter().all(|&byte| byte == 0));
     assert!(lent.table[..384].iter().all(|&entry| entry == 0));
     assert_eq!(lent.table[384], 9);
     assert_eq!(lent.call(Call::Tally), Answer::new(0, [0, 0, 1008, 0]));
+    assert_eq!(lent.call(Call::FreeTotal), Answer::new(0, [1008]));
 
     for (length, entries, slot_exponent, refusal) in [(1024, 384, 5, 1), (1024, 384, 16, 1), (63, 384, 6, 2), (63, 0, 16, 1), (63, 0, 6, 2), (1024, 383, 6, 3)]
     {
@@ -398,16 +399,20 @@ fn largest_image<S: Store>(store: S) {
     assert_eq!(lent.call(Call::CopyText { target: pointer, source: pointer }), Answer::new(0, [u64::from(length)]));
     assert_eq!(lent.call(Call::Compare { left: pointer, right: pointer + 1, length: length - 1 }), ABOVE);
     assert_eq!(lent.call(Call::Tally).values, [1, (1 << 30) - 32, 0, 16]);
+    assert_eq!(lent.call(Call::FreeTotal), Answer::new(0, [0]));
     assert_eq!(lent.refusal(Call::Free { pointer }), 0);
     assert_eq!(lent.table[31 - 15 - 1], 0);
     assert_eq!(lent.call(Call::Tally).values, [0, 0, (1 << 30) - 16, 0]);
+    assert_eq!(lent.call(Call::FreeTotal), Answer::new(0, [(1 << 30) - 16]));
     assert_eq!(lent.refusal(Call::Load { pointer, width: 1 }), 11);
     // the same by release
     assert_eq!(lent.call(Call::AllocateFor { size: length, type_number: 0, cue: u32::MAX }).values[0], pointer);
     assert_eq!(lent.table[31 - 15 - 1], 16);
+    assert_eq!(lent.call(Call::FreeTotal), Answer::new(0, [0]));
     assert_eq!(lent.call(Call::Release { cue: u32::MAX }), Answer::new(0, [1]));
     assert_eq!(lent.table[31 - 15 - 1], 0);
     assert_eq!(lent.call(Call::Tally).values, [0, 0, (1 << 30) - 16, 0]);
+    assert_eq!(lent.call(Call::FreeTotal), Answer::new(0, [(1 << 30) - 16]));
 }
 
 /// Above 2^30 nothing but the superblock may be looked at; the pages of this buffer are never touched otherwise.
@@ -461,3 +466,4 @@ on_each_store!(set_up in_succession largest_small moves bounds widths compares t
 on_each_store!(tallies kinds largest_image past_the_largest_image past_32_bits);
 
 mod cues;
+mod totals;

@@ -11,16 +11,16 @@ use Rattle.block.specs.Bytes.{encode, field, put}
 use Rattle.block.specs.laws.Fields.{decode-encode, field-ext}
 use Rattle.block.specs.laws.Writes.{length-put, getD-put-below}
 use Rattle.block.specs.laws.Booleans.{byBool, refuted, and-both, and-left, and-right}
-use Rattle.block.specs.Layout.{superblock, slotExponent, goodExponent, goodLength, superblockGood}
+use Rattle.block.specs.Layout.{superblock, slotExponent, storedTotal, goodExponent, goodLength, superblockGood}
 use Rattle.block.specs.declared.superblock.Opened.the-variants as opening
 use Rattle.block.specs.declared.superblock.Opened.{Opened}
 
 -- the superblock
 
 -- a superblock has 16 bytes
-pub length-superblock : (s L : ℕ) → length (superblock s L) ≡ 16
+pub length-superblock : (s L total : ℕ) → length (superblock s L total) ≡ 16
 unfolding superblock encode
-length-superblock s L = refl
+length-superblock s L total = refl
 
 -- what a good superblock says
 pub record Superblock (image : List ℕ) : Type 0 where
@@ -32,7 +32,6 @@ pub record Superblock (image : List ℕ) : Type 0 where
   pub length-low : 64 ≤ length image
   pub length-high : length image ≤ 2 ^ 30
   pub has-length : field image 8 4 ≡ length image
-  pub zero-last : field image 12 4 ≡ 0
 
 -- taken apart
 pub superblock-parts : (image : List ℕ) → superblockGood image ≡ true → Superblock image
@@ -45,7 +44,7 @@ superblock-parts image e =
     let r5 = and-right (goodLength (field image 8 4)) _ r4 in
     let x = and-left (goodExponent (slotExponent image)) _ r3 in
     let y = and-left (goodLength (field image 8 4)) _ r4 in
-    let same : field image 8 4 ≡ length image = eqb-true _ _ (and-left _ _ r5) in
+    let same : field image 8 4 ≡ length image = eqb-true _ _ r5 in
     let low : 64 ≤ field image 8 4 = leb-true _ _ (and-left _ _ y) in
     let high : field image 8 4 ≤ 2 ^ 30 = leb-true _ _ (and-right (leb 64 (field image 8 4)) _ y) in
     record {
@@ -57,7 +56,6 @@ superblock-parts image e =
       length-low = omega arith;
       length-high = omega arith;
       has-length = same;
-      zero-last = eqb-true _ _ (and-right (eqb (field image 8 4) (length image)) _ r5);
     }
 
 -- put together
@@ -70,24 +68,31 @@ superblock-good image p =
     (and-both _ _ (eq-eqb _ _ (p .own-length))
     (and-both _ _ (eq-eqb _ _ (p .own-kind))
     (and-both _ _ (and-both _ _ (le-leb _ _ (p .exponent-low)) (le-leb _ _ (p .exponent-high)))
-    (and-both _ _ (and-both _ _ (le-leb _ _ low) (le-leb _ _ high)) (and-both _ _ (eq-eqb _ _ (p .has-length)) (eq-eqb _ _ (p .zero-last)))))))
+    (and-both _ _ (and-both _ _ (le-leb _ _ low) (le-leb _ _ high)) (eq-eqb _ _ (p .has-length))))))
 
 -- the slot exponent of a superblock
-pub exponent-front : (s L : ℕ) (rest : List ℕ) → s < 2 ^ 16 → slotExponent (superblock s L ++ rest) ≡ s
+pub exponent-front : (s L total : ℕ) (rest : List ℕ) → s < 2 ^ 16 → slotExponent (superblock s L total ++ rest) ≡ s
 unfolding superblock field encode
-exponent-front s L rest h = decode-encode 2 s h
+exponent-front s L total rest h = decode-encode 2 s h
 
-superblock-fields : (s L : ℕ) (rest : List ℕ) → L < 2 ^ 32 → (field (superblock s L ++ rest) 0 4 ≡ 16) × (field (superblock s L ++ rest) 4 2 ≡ 3) × (field (superblock s L ++ rest) 8 4 ≡ L) × (field (superblock s L ++ rest) 12 4 ≡ 0)
+-- and its free total
+pub total-front : (s L total : ℕ) (rest : List ℕ) → total < 2 ^ 32 → storedTotal (superblock s L total ++ rest) ≡ total
 unfolding superblock field encode
-superblock-fields s L rest h = (decode-encode 4 16 (lit< tt), decode-encode 2 3 (lit< tt), decode-encode 4 L h, decode-encode 4 0 (lit< tt))
+total-front s L total rest h = decode-encode 4 total h
+
+superblock-fields : (s L total : ℕ) (rest : List ℕ) → L < 2 ^ 32
+    → (field (superblock s L total ++ rest) 0 4 ≡ 16) × (field (superblock s L total ++ rest) 4 2 ≡ 3) × (field (superblock s L total ++ rest) 8 4 ≡ L)
+unfolding superblock field encode
+superblock-fields s L total rest h = (decode-encode 4 16 (lit< tt), decode-encode 2 3 (lit< tt), decode-encode 4 L h)
 
 -- an image that begins with its superblock
-pub superblock-front : (s L : ℕ) (rest : List ℕ) → 16 + length rest ≡ L → 6 ≤ s → s ≤ 15 → 64 ≤ L → L ≤ 2 ^ 30 → superblockGood (superblock s L ++ rest) ≡ true
-superblock-front s L rest n a b c d =
-    let image : List ℕ = superblock s L ++ rest in
-    let f = superblock-fields s L rest (omega arith) in
-    let x : slotExponent image ≡ s = exponent-front s L rest (omega arith) in
-    let m : length image ≡ L = length-append (superblock s L) rest ∙ ap (λ (k : ℕ). k + length rest) (length-superblock s L) ∙ n in
+pub superblock-front : (s L total : ℕ) (rest : List ℕ) → 16 + length rest ≡ L → 6 ≤ s → s ≤ 15 → 64 ≤ L → L ≤ 2 ^ 30
+    → superblockGood (superblock s L total ++ rest) ≡ true
+superblock-front s L total rest n a b c d =
+    let image : List ℕ = superblock s L total ++ rest in
+    let f = superblock-fields s L total rest (omega arith) in
+    let x : slotExponent image ≡ s = exponent-front s L total rest (omega arith) in
+    let m : length image ≡ L = length-append (superblock s L total) rest ∙ ap (λ (k : ℕ). k + length rest) (length-superblock s L total) ∙ n in
     superblock-good image
     (record {
       long = omega arith;
@@ -98,23 +103,21 @@ superblock-front s L rest n a b c d =
       length-low = omega arith;
       length-high = omega arith;
       has-length = f .2 ∙ sym m;
-      zero-last = f .3;
     })
 
--- the first 16 bytes and the length decide
-pub superblock-same : (a b : List ℕ) → length a ≡ length b → ((k : ℕ) → k < 16 → getD a k 0 ≡ getD b k 0) → (superblockGood a ≡ superblockGood b) × (slotExponent a ≡ slotExponent b)
+-- the first 12 bytes and the length decide
+pub superblock-same : (a b : List ℕ) → length a ≡ length b → ((k : ℕ) → k < 12 → getD a k 0 ≡ getD b k 0) → (superblockGood a ≡ superblockGood b) × (slotExponent a ≡ slotExponent b)
 unfolding superblockGood
 superblock-same a b l e =
-    let f : (at w : ℕ) → at + w ≤ 16 → field a at w ≡ field b at w = λ at w h. field-ext a b w at (λ k p q. e k (omega arith)) in
+    let f : (at w : ℕ) → at + w ≤ 12 → field a at w ≡ field b at w = λ at w h. field-ext a b w at (λ k p q. e k (omega arith)) in
     let f0 = f 0 4 (omega arith) in
     let f4 = f 4 2 (omega arith) in
     let f6 = f 6 2 (omega arith) in
     let f8 = f 8 4 (omega arith) in
-    let f12 = f 12 4 (omega arith) in
-    (rw (l, f0, f4, f6, f8, f12) refl, f6)
+    (rw (l, f0, f4, f6, f8) refl, f6)
 
--- bytes replaced behind the superblock
-pub superblock-kept : (image : List ℕ) (at : ℕ) (bs : List ℕ) → at + length bs ≤ length image → 16 ≤ at → (superblockGood (put image at bs) ≡ superblockGood image) × (slotExponent (put image at bs) ≡ slotExponent image)
+-- bytes replaced behind these, in the free total or behind the superblock
+pub superblock-kept : (image : List ℕ) (at : ℕ) (bs : List ℕ) → at + length bs ≤ length image → 12 ≤ at → (superblockGood (put image at bs) ≡ superblockGood image) × (slotExponent (put image at bs) ≡ slotExponent image)
 superblock-kept image at bs fits low =
     superblock-same (put image at bs) image (length-put image at bs fits) (λ k l. getD-put-below image at bs fits k (omega arith))
 

@@ -10,7 +10,7 @@ use native.Mathlib.Omega.{arith}
 use borrow.Author.Tests.{eq-eqb, ne-eqb, eqb-true, eqb-false}
 use Rattle.block.specs.Layout.{headerAt, extentAt, sound}
 use Rattle.block.specs.laws.Booleans.{byBool}
-use Rattle.block.specs.laws.Soundness.{sound-same, sound-in, sound-extent, unsound-past}
+use Rattle.block.specs.laws.Soundness.{sound-same, sound-low, sound-in, sound-extent, unsound-past}
 use Rattle.block.specs.Walk.{Walked, stopped, unsound, ended, Search, walkIn, walkFrom, walk, OnWalk, first, next}
 use Rattle.block.specs.declared.header.Header.{Header}
 
@@ -178,11 +178,11 @@ module _ {A : Type 0} (s : Search A) (image : List ℕ) where
       record { on-walk = r .0 .1; before-end = r .1; is-unsound = r .2 }
 
 -- a walk over headers that stay comes by the same places
-pub on-walk-kept : (image other : List ℕ) (top : ℕ) → length other ≡ length image → ((k : ℕ) → k + 16 ≤ top → headerAt other k ≡ headerAt image k)
+pub on-walk-kept : (image other : List ℕ) (top : ℕ) → length other ≡ length image → ((k : ℕ) → 16 ≤ k → k + 16 ≤ top → headerAt other k ≡ headerAt image k)
     → (k : ℕ) → OnWalk image k → k ≤ top → OnWalk other k
 on-walk-kept image other top l e _ first u = first
 on-walk-kept image other top l e _ (next k w o) u =
     let x : 16 ≤ extentAt image k = sound-extent image k o in
-    let q : headerAt other k ≡ headerAt image k = e k (omega arith) in
+    let q : headerAt other k ≡ headerAt image k = e k (sound-low image k o) (omega arith) in
     subst (λ (d : Header). OnWalk other (k + d .extent)) q
     (next k (on-walk-kept image other top l e k w (omega arith)) (sound-same image k other l q ∙ o))

@@ -7,7 +7,7 @@ use Prim.Native.Nat.{ℕ, suc, _+_, _-_, _/_, _^_, _≤_, _<_}
 use native.Mathlib.Nat.{add-zero}
 use native.Mathlib.Omega.{arith}
 use lib.ListN.{length, getD, set, take, drop, length-append, length-take, length-drop, length-set, take-append-drop}
-use lib.Seq.{sets, sets-eq, take-at, drop-at, drop-drop, length-take-le, getD-append-add, getD-take, getD-drop, take-suc-set, take-set-lt, set-append-left, drop-append-add, ext-getD, take-take}
+use lib.Seq.{sets, sets-eq, take-at, drop-at, drop-drop, length-take-le, getD-append-add, getD-take, getD-drop, take-suc-set, take-set-lt, set-append-left, drop-append-add, ext-getD, take-take, take-add}
 use Rattle.block.specs.Bytes.{encode, field, put}
 use Rattle.block.specs.laws.Fields.{length-encode, encode-add, decode-encode, field-ext, field-drop, field-front}
 
@@ -216,3 +216,36 @@ put-again image at a b l fits =
     ∙ ap (λ (x : List ℕ). x ++ (b ++ drop (at + length b) (put image at a))) (take-put image at a room)
     ∙ ap (λ (x : List ℕ). take at image ++ (b ++ x)) (drop-put-above image at a room (at + length b) (omega arith))
     ∙ sym (put-def image at b)
+
+-- two runs apart from each other, in either order
+pub put-swap : (image : List ℕ) (at : ℕ) (a : List ℕ) (n : ℕ) (b : List ℕ) → at + length a ≤ n → n + length b ≤ length image
+    → put (put image at a) n b ≡ put (put image n b) at a
+put-swap image at a n b l fits =
+    let m : ℕ = at + length a in
+    let r : ℕ = n - m in
+    let e : n ≡ m + r = omega arith in
+    let room : at + length a ≤ length image = omega arith in
+    let x : List ℕ = put image at a in
+    let y : List ℕ = put image n b in
+    let z : List ℕ = b ++ drop (n + length b) image in
+    let mid : List ℕ = take r (drop m image) in
+    let front : take n x ≡ take at image ++ (a ++ mid) =
+    ap (λ (k : ℕ). take k x) e ∙ take-add m r x ∙ ap (λ (q : List ℕ). q ++ take r (drop m x)) (take-put-end image at a room)
+    ∙ ap (λ (q : List ℕ). take at image ++ a ++ take r q) (drop-put-above image at a room m (omega arith)) ∙ append-assoc (take at image) a mid
+    in
+    let split : take n image ≡ take m image ++ mid = ap (λ (k : ℕ). take k image) e ∙ take-add m r image in
+    let back : drop m y ≡ mid ++ z =
+    ap (drop m) (put-def image n b ∙ ap (λ (q : List ℕ). q ++ z) split ∙ append-assoc (take m image) mid z)
+    ∙ drop-at (take m image) (mid ++ z) m (length-take-le m image (omega arith))
+    in
+    let begin : take at y ≡ take at image =
+    sym (take-take at n y (omega arith)) ∙ ap (take at) (take-put image n b fits) ∙ take-take at n image (omega arith)
+    in
+    let parts : (take at image ++ (a ++ mid)) ++ z ≡ take at image ++ (a ++ (mid ++ z)) = simp append-assoc in
+    put-def x n b
+    ∙ ap (λ (q : List ℕ). q ++ (b ++ drop (n + length b) x)) front
+    ∙ ap (λ (q : List ℕ). (take at image ++ (a ++ mid)) ++ (b ++ q)) (drop-put-above image at a room (n + length b) (omega arith))
+    ∙ parts
+    ∙ ap (λ (q : List ℕ). take at image ++ (a ++ q)) (sym back)
+    ∙ ap (λ (q : List ℕ). q ++ (a ++ drop m y)) (sym begin)
+    ∙ sym (put-def y at a)

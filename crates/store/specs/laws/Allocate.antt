@@ -1,20 +1,21 @@
 -- Allocate.
--- In order: what is known where its rows are passed; each row, and what is left by the answer; its outcomes; the carved image. Assumes nothing.
+-- In order: the extent that is taken; what is known where its rows are passed; each row, and what is left by the answer; its outcomes; the carved image;
+-- the image that is left. Assumes nothing.
 use Prim.Native.Nat.{ℕ, _+_, _^_, _≤_, _<_, _-_}
 use mathlib.Core.Path.{_≡_, refl, sym, ap, _∙_}
 use mathlib.Core.Bool.{true, false}
 use mathlib.Core.List.{List}
 use native.Mathlib.Omega.{arith}
-use lib.Dec.{ltb}
+use lib.Dec.{leb, ltb}
 use lib.ListN.{length}
-use borrow.Author.Tests.{ltb-true, lt-ltb, le-ltb, ltb-false}
+use borrow.Author.Tests.{leb-true, le-leb, lt-leb, ltb-true, lt-ltb, le-ltb, ltb-false}
 use mathlib.Core.Logic.{inl}
 use Rattle.frame.specs.Tags.{pointerTo, entryOf}
 use Rattle.frame.specs.laws.Tags.{tagged}
 use Rattle.frame.specs.Pointers.{pack}
 use Rattle.frame.specs.declared.parts.Pointer.{Pointer}
 use Rattle.block.specs.laws.Booleans.{byBool}
-use Rattle.block.specs.Layout.{slotExponent, extentAt, freeHeader, liveHeader, fields, headerAt}
+use Rattle.block.specs.Layout.{slotExponent, storedTotal, extentAt, freeHeader, liveHeader, fields, headerAt}
 use Rattle.block.specs.laws.Soundness.{sound-end}
 use Rattle.block.specs.Walk.{firstFit, LowestFit}
 use Rattle.block.specs.laws.FirstFit.{first-fit-lowest}
@@ -22,19 +23,35 @@ use Rattle.block.specs.Bytes.{put}
 use Rattle.block.specs.laws.Writes.{length-put}
 use Rattle.block.specs.laws.Headers.{length-header, headerAt-put, headerAt-put-other}
 use Rattle.block.specs.laws.Superblock.{superblock-kept}
+use Rattle.block.specs.laws.Total.{length-with-total, with-total-opens, with-total-header}
 use Rattle.block.specs.declared.walk.Fit.{Fit}
 use Rattle.store.specs.State.{State, outcome, refuse}
-use Rattle.store.specs.Calls.{opening, entryHolds, fitAnswer, allocateChecks, carved, noted, allocateFor}
+use Rattle.store.specs.Calls.{opening, entryHolds, fitAnswer, takenExtent, allocateChecks, carved, noted, allotted, allocateFor}
 use Rattle.store.specs.laws.Refusals.{demand-met, and-then-met}
 use Rattle.store.specs.laws.Opening.{Open, opening-parts, entry-in}
 use Rattle.store.specs.declared.answer.Refusal.{Refusal}
-use Rattle.store.specs.declared.answer.Refusal.the-variants.{Empty, Unsound, NoSpace, EntryTaken}
+use Rattle.store.specs.declared.answer.Refusal.the-variants.{Empty, Unsound, NoSpace, EntryTaken, WrongTotal}
 use Rattle.store.specs.declared.answer.Answer.{Answer}
 use Rattle.store.specs.declared.allocation.Site.{Site}
 use Rattle.store.specs.declared.allocation.Site.the-variants as site
 use Rattle.frame.specs.declared.tag.Tagged.{Tagged}
 use Rattle.store.specs.declared.answer.Answer.the-variants.{Accepted, Refused}
 use Rattle.block.specs.declared.walk.Fit.the-variants as fit
+
+-- The extent that is taken, for that of the free block that was read.
+
+module _ (image : List ℕ) (h size extent : ℕ) (e : extent ≡ extentAt image h) where
+  -- all of the block
+  pub taken-whole : extent - (16 + size) < 16 → takenExtent image h size ≡ extent
+  unfolding takenExtent
+  taken-whole l = rw (← e, lt-ltb _ _ l) refl
+
+  -- a rest stays free
+  pub taken-rest : 16 ≤ extent - (16 + size) → takenExtent image h size ≡ 16 + size
+  unfolding takenExtent
+  taken-rest l = rw (← e, le-ltb _ _ l) refl
+
+-- What is known where its rows are passed.
 
 -- a fit that came through is a block's place
 pub fit-met : (f : Fit) (next : ℕ → Answer) (v : ℕ) → fitAnswer f next ≡ Accepted v → (h : ℕ) × (f ≡ fit.At h) × (next h ≡ Accepted v)
@@ -51,6 +68,7 @@ pub record Allocates (size : ℕ) (x : State) (h : ℕ) : Type 0 where
   pub lowest : LowestFit (x .image) (16 + size) h
   pub inside : h + 16 + size ≤ length (x .image)
   pub free-entry : entryHolds (slotExponent (x .image)) h size 0 (x .table) ≡ true
+  pub total-holds : takenExtent (x .image) h size ≤ storedTotal (x .image)
   pub indexed : entryOf (slotExponent (x .image)) h size < length (x .table)
 
 -- an accepted allocation passes them
@@ -62,6 +80,7 @@ allocate-parts size x h e =
     let c = demand-met (ltb 0 size) Empty _ h b in
     let (k, f, g) = fit-met (firstFit (x .image) (16 + size)) _ h (c .1) in
     let d = demand-met (entryHolds s k size 0 (x .table)) EntryTaken _ h g in
+    let t = demand-met (leb (takenExtent (x .image) k size) (storedTotal (x .image))) WrongTotal _ h (d .1) in
     let q : h ≡ k = cc in
     let w = first-fit-lowest (x .image) (16 + size) k f in
     let i : k + 16 + size ≤ length (x .image) = omega (arith, w .fits-in, sound-end (x .image) k (w .is-sound)) in
@@ -74,6 +93,7 @@ allocate-parts size x h e =
       lowest = w;
       inside = i;
       free-entry = rw (← o .exponent) (d .0);
+      total-holds = leb-true _ _ (t .0);
       indexed = entry-in x (slotExponent (x .image)) k size p i;
     })
 
@@ -107,19 +127,26 @@ module _ (size : ℕ) (x : State) where
       unfolding allocateChecks fitAnswer
       allocate-taken h f t = rw (o, lt-ltb 0 size (omega arith), f, t)
 
-      -- all are passed
-      pub allocate-given : (h : ℕ) → firstFit (x .image) (16 + size) ≡ fit.At h → entryHolds s h size 0 (x .table) ≡ true → Accepted h ≡ allocateChecks size x
+      -- row 22
+      pub allocate-wrong : (h : ℕ) → firstFit (x .image) (16 + size) ≡ fit.At h → entryHolds s h size 0 (x .table) ≡ true
+          → storedTotal (x .image) < takenExtent (x .image) h size → Refused WrongTotal ≡ allocateChecks size x
       unfolding allocateChecks fitAnswer
-      allocate-given h f t = rw (o, lt-ltb 0 size (omega arith), f, t)
+      allocate-wrong h f t l = rw (o, lt-ltb 0 size (omega arith), f, t, lt-leb _ _ l)
+
+      -- all are passed
+      pub allocate-given : (h : ℕ) → firstFit (x .image) (16 + size) ≡ fit.At h → entryHolds s h size 0 (x .table) ≡ true
+          → takenExtent (x .image) h size ≤ storedTotal (x .image) → Accepted h ≡ allocateChecks size x
+      unfolding allocateChecks fitAnswer
+      allocate-given h f t l = rw (o, lt-ltb 0 size (omega arith), f, t, le-leb _ _ l)
 
   -- a refusal leaves all as it was
   pub allocate-declined : (type cue : ℕ) (r : Refusal) → allocateChecks size x ≡ Refused r → outcome (Refused r) (x .image) (x .table) ≡ allocateFor size type cue x
   unfolding allocateFor
   allocate-declined type cue r e = rw e
 
-  -- otherwise the block is carved and its entry noted
+  -- otherwise the block is carved, its extent taken from the total, and its entry noted
   pub allocate-done : (type cue h s word : ℕ) (p : Pointer) (image table : List ℕ) → allocateChecks size x ≡ Accepted h → s ≡ slotExponent (x .image)
-      → image ≡ carved (x .image) h size type cue → p ≡ pointerTo s h size → table ≡ noted s h size h (x .table) → word ≡ pack p
+      → image ≡ allotted (x .image) h size type cue → p ≡ pointerTo s h size → table ≡ noted s h size h (x .table) → word ≡ pack p
       → outcome (Accepted word) image table ≡ allocateFor size type cue x
   unfolding allocateFor
   allocate-done type cue h s word p image table e k i q t w = rw (e, w, q, i, t, k)
@@ -171,9 +198,10 @@ module _ (s : ℕ) (x : State) (o : opening x ≡ Accepted s) where
 
     -- the block at h is taken
     pub allocate-at : (h : ℕ) → slotExponent (x .image) ≡ s → firstFit (x .image) (16 + size) ≡ fit.At h → entryHolds s h size 0 (x .table) ≡ true
-        → allocateFor size type cue x ≡ outcome (Accepted (pack (pointerTo s h size))) (carved (x .image) h size type cue) (noted s h size h (x .table))
-    allocate-at h q f g =
-        sym (allocate-done size x type cue h s _ _ _ _ (sym (allocate-given size x s o not-empty h f g)) (sym q) refl refl refl refl)
+        → takenExtent (x .image) h size ≤ storedTotal (x .image)
+        → allocateFor size type cue x ≡ outcome (Accepted (pack (pointerTo s h size))) (allotted (x .image) h size type cue) (noted s h size h (x .table))
+    allocate-at h q f g l =
+        sym (allocate-done size x type cue h s _ _ _ _ (sym (allocate-given size x s o not-empty h f g l)) (sym q) refl refl refl refl)
 
 -- The carved image.
 
@@ -219,21 +247,20 @@ module _ (image : List ℕ) (h size type cue : ℕ) (room : 16 + size ≤ extent
       byBool (ltb (extent - (16 + size)) 16)
       (λ t.
       ap slotExponent (carved-whole image h size type cue extent refl (ltb-true _ _ t))
-      ∙ superblock-kept image h (liveHeader extent type size cue) (omega arith) low .1)
+      ∙ superblock-kept image h (liveHeader extent type size cue) (omega arith) (omega arith) .1)
       (λ t.
       let rest : 16 ≤ extent - (16 + size) = ltb-false _ _ t in
       let one : length (put image h (liveHeader (16 + size) type size cue)) ≡ length image = length-put image h (liveHeader (16 + size) type size cue) (omega arith) in
       ap slotExponent (carved-rest image h size type cue extent refl rest)
       ∙ superblock-kept (put image h (liveHeader (16 + size) type size cue)) (h + (16 + size)) (freeHeader (extent - (16 + size))) (omega arith) (omega arith) .1
-      ∙ superblock-kept image h (liveHeader (16 + size) type size cue) (omega arith) low .1)
+      ∙ superblock-kept image h (liveHeader (16 + size) type size cue) (omega arith) (omega arith) .1)
 
-  -- its header: an extent with at most 15 spare bytes, the type, the size and the cue
+  -- its header: the extent that is taken, with at most 15 spare bytes, the type, the size and the cue
   pub record CarvedHeader : Type 0 where
-    pub extent : ℕ
-    pub is-header : headerAt (carved image h size type cue) h ≡ fields extent 2 type size cue
-    pub holds : 16 + size ≤ extent
-    pub tight : extent ≤ 31 + size
-    pub ends : h + extent ≤ length image
+    pub is-header : headerAt (carved image h size type cue) h ≡ fields (takenExtent image h size) 2 type size cue
+    pub holds : 16 + size ≤ takenExtent image h size
+    pub tight : takenExtent image h size ≤ 31 + size
+    pub ends : h + takenExtent image h size ≤ length image
 
   -- it can be read back
   pub carved-header : length image ≤ 2 ^ 30 → type < 2 ^ 16 → cue < 2 ^ 32 → CarvedHeader
@@ -244,27 +271,47 @@ module _ (image : List ℕ) (h size type cue : ℕ) (room : 16 + size ≤ extent
       byBool (ltb (extent - (16 + size)) 16)
       (λ t.
       let few : extent - (16 + size) < 16 = ltb-true _ _ t in
+      let taken : takenExtent image h size ≡ extent = taken-whole image h size extent refl few in
       record {
-        extent = extent;
         is-header =
             ap (λ (i : List ℕ). headerAt i h) (carved-whole image h size type cue extent refl few)
             ∙ headerAt-put image h extent 2 type size cue (omega arith)
-            (record { extent-fits = omega arith; kind-fits = omega arith; type-fits = fits; size-fits = omega arith; cue-fits = cue-fits });
-        holds = room;
-        tight = omega arith;
-        ends = inside;
-      })
-      (λ t.
-      let rest : 16 ≤ extent - (16 + size) = ltb-false _ _ t in
-      let one : length (put image h (liveHeader (16 + size) type size cue)) ≡ length image = length-put image h (liveHeader (16 + size) type size cue) (omega arith) in
-      record {
-        extent = 16 + size;
-        is-header =
-            ap (λ (i : List ℕ). headerAt i h) (carved-rest image h size type cue extent refl rest)
-            ∙ headerAt-put-other (put image h (liveHeader (16 + size) type size cue)) (h + (16 + size)) (freeHeader (extent - (16 + size))) h (omega arith) (inl (omega arith))
-            ∙ headerAt-put image h (16 + size) 2 type size cue (omega arith)
-            (record { extent-fits = omega arith; kind-fits = omega arith; type-fits = fits; size-fits = omega arith; cue-fits = cue-fits });
+            (record { extent-fits = omega arith; kind-fits = omega arith; type-fits = fits; size-fits = omega arith; cue-fits = cue-fits })
+            ∙ ap (λ (e : ℕ). fields e 2 type size cue) (sym taken);
         holds = omega arith;
         tight = omega arith;
         ends = omega arith;
       })
+      (λ t.
+      let rest : 16 ≤ extent - (16 + size) = ltb-false _ _ t in
+      let taken : takenExtent image h size ≡ 16 + size = taken-rest image h size extent refl rest in
+      let one : length (put image h (liveHeader (16 + size) type size cue)) ≡ length image = length-put image h (liveHeader (16 + size) type size cue) (omega arith) in
+      record {
+        is-header =
+            ap (λ (i : List ℕ). headerAt i h) (carved-rest image h size type cue extent refl rest)
+            ∙ headerAt-put-other (put image h (liveHeader (16 + size) type size cue)) (h + (16 + size)) (freeHeader (extent - (16 + size))) h (omega arith) (inl (omega arith))
+            ∙ headerAt-put image h (16 + size) 2 type size cue (omega arith)
+            (record { extent-fits = omega arith; kind-fits = omega arith; type-fits = fits; size-fits = omega arith; cue-fits = cue-fits })
+            ∙ ap (λ (e : ℕ). fields e 2 type size cue) (sym taken);
+        holds = omega arith;
+        tight = omega arith;
+        ends = omega arith;
+      })
+
+  -- What is left: the carved image, with a lower free total.
+
+  -- the carved image has room for a superblock
+  carved-room : 16 ≤ length (carved image h size type cue)
+  carved-room = omega (arith, length-carved)
+
+  -- the length stays
+  pub length-allotted : length (allotted image h size type cue) ≡ length image
+  length-allotted = length-with-total (carved image h size type cue) _ carved-room ∙ length-carved
+
+  -- and the slot exponent
+  pub allotted-exponent : 16 ≤ h → slotExponent (allotted image h size type cue) ≡ slotExponent image
+  allotted-exponent low = with-total-opens (carved image h size type cue) _ carved-room .1 ∙ carved-exponent low
+
+  -- its headers are those of the carved image
+  pub allotted-header : (k : ℕ) → 16 ≤ k → headerAt (allotted image h size type cue) k ≡ headerAt (carved image h size type cue) k
+  allotted-header k low = with-total-header (carved image h size type cue) _ carved-room k low

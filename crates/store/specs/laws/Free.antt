@@ -1,6 +1,6 @@
 -- Free.
--- In order: where the merged block starts and ends; what is known where the rows are passed; each row, and what is left by the answer; its outcomes; the merged image.
--- Assumes nothing.
+-- In order: where the merged block starts and ends; what is known where the rows are passed; each row, and what is left by the answer; its outcomes; the merged
+-- image; the image that is left. Assumes nothing.
 use Prim.Native.Nat.{ℕ, _+_, _-_, _^_, _≤_, _<_}
 use mathlib.Core.Path.{_≡_, refl, sym, ap, _∙_}
 use mathlib.Core.Bool.{Bool, true, false, cond, _&&_, _||_, and-false}
@@ -12,26 +12,29 @@ use lib.ListN.{length, take, drop, replicate, length-append, length-replicate}
 use borrow.Author.Tests.{lt-leb, le-ltb, lt-ltb, eq-eqb, ne-eqb, ltb-true, eqb-true, eqb-false}
 use Rattle.frame.specs.Pointers.{unpack}
 use Rattle.frame.specs.Tags.{entryOf}
-use Rattle.block.specs.Layout.{superblockGood, slotExponent, sound, isFree, headerAt, extentAt, sizeAt, fields, freeHeader}
+use Rattle.block.specs.Layout.{superblockGood, slotExponent, storedTotal, withTotal, sound, isFree, headerAt, extentAt, sizeAt, fields, freeHeader}
 use Rattle.block.specs.Bytes.{put}
 use Rattle.block.specs.Walk.{walkTo}
 use Rattle.block.specs.laws.Booleans.{byBool, and-left}
 use Rattle.block.specs.laws.Soundness.{sound-live, sound-extent, sound-end, sound-low, sound-free-at}
 use Rattle.block.specs.laws.Superblock.{superblock-kept}
+use Rattle.block.specs.laws.Total.{length-with-total, with-total-opens, with-total-header, stored-with-total, with-total-put}
 use Rattle.block.specs.laws.WalkTo.{Behind, at-first, at-later, MeetsBlock, walk-to-meets}
 use Rattle.block.specs.laws.Writes.{length-put, put-def, drop-put, put-again}
 use Rattle.block.specs.laws.Headers.{length-header, headerAt-drop, headerAt-put-other}
 use Rattle.block.specs.declared.walk.Met.{Met}
 use Rattle.store.specs.State.{State, outcome, refuse}
-use Rattle.store.specs.Calls.{opening, noted, located, mergeStart, mergeEnd, released, freeChecks, releasedAt, freeRelease, merged, freed, free}
+use Rattle.store.specs.Calls.{opening, noted, located, mergeStart, mergeEnd, released, freeChecks, releasedAt, totalFits, totalled, freeRelease, merged, givenBack, freed, free}
 use Rattle.store.specs.laws.Refusals.{demand-met, and-then-met}
 use Rattle.store.specs.laws.Opening.{Open, opening-parts, entry-in}
 use Rattle.store.specs.laws.TagReading.{Located, located-parts}
+use Rattle.store.specs.laws.Total.{total-within}
 use Rattle.store.specs.declared.answer.Refusal.{Refusal}
-use Rattle.store.specs.declared.answer.Refusal.the-variants.{Unsound, NotBase}
+use Rattle.store.specs.declared.answer.Refusal.the-variants.{Unsound, NotBase, WrongTotal}
 use Rattle.store.specs.declared.answer.Answer.the-variants.{Accepted, Refused}
 use Rattle.store.specs.declared.answer.Answer.{Answer}
 use Rattle.block.specs.declared.walk.Met.the-variants as met
+use Rattle.store.specs.declared.release.Release.{Release}
 use Rattle.store.specs.declared.release.Release.the-variants as release
 
 -- where the merged block starts
@@ -148,6 +151,41 @@ released-at-parts (Accepted k) image h from to e =
     rw q (refl, before, r)
 released-at-parts (Refused r) image h from to e = let z : _≡_ {A = ℕ} 0 1 = cc in absurd (omega arith)
 
+-- the place in a release is that of the block that is asked for
+pub released-place : (image : List ℕ) (k h from to : ℕ) → released image k (walkTo image k) ≡ release.Merges h from to → h ≡ k
+released-place image k h from to e = released-parts image k h from to e .0
+
+-- row 22
+
+module _ (image : List ℕ) where
+  -- it is passed
+  pub totalled-merges : (h from to : ℕ) → totalFits image (extentAt image h) ≡ true → totalled (release.Merges h from to) image ≡ release.Merges h from to
+  unfolding totalled
+  totalled-merges h from to e = rw e refl
+
+  -- it is not
+  pub totalled-wrong : (h from to : ℕ) → totalFits image (extentAt image h) ≡ false → totalled (release.Merges h from to) image ≡ release.Refused WrongTotal
+  unfolding totalled
+  totalled-wrong h from to e = rw e refl
+
+  -- it is not reached
+  pub totalled-refused : (r : Refusal) → totalled (release.Refused r) image ≡ release.Refused r
+  unfolding totalled
+  totalled-refused r = refl
+
+  -- a release that passed it
+  totalled-parts : (a : Release) (h from to : ℕ) → totalled a image ≡ release.Merges h from to
+      → (a ≡ release.Merges h from to) × (totalFits image (extentAt image h) ≡ true)
+  unfolding totalled
+  totalled-parts (release.Merges k f t) h from to e =
+      byBool (totalFits image (extentAt image k))
+      (λ b.
+      let q : release.Merges k f t ≡ release.Merges h from to = rw b at e in
+      let k-is : k ≡ h = cc in
+      (q, ap (λ (j : ℕ). totalFits image (extentAt image j)) (sym k-is) ∙ b))
+      (λ b. let q : release.Refused WrongTotal ≡ release.Merges h from to = rw b at e in let z : _≡_ {A = ℕ} 0 1 = cc in absurd (omega arith))
+  totalled-parts (release.Refused r) h from to e = let z : _≡_ {A = ℕ} 0 1 = cc in absurd (omega arith)
+
 -- the rows of free are passed: the object at h goes, and a free block reaches from `from` to `to`
 pub record Frees (word : ℕ) (x : State) (h from to : ℕ) : Type 0 where
   pub opens : Open x (slotExponent (x .image))
@@ -161,6 +199,7 @@ pub record Frees (word : ℕ) (x : State) (h from to : ℕ) : Type 0 where
   pub ends : h + extentAt (x .image) h ≤ to
   pub room : from + 16 ≤ to
   pub high : to ≤ length (x .image)
+  pub total-fits : storedTotal (x .image) + extentAt (x .image) h ≤ length (x .image) - 16
   pub inside : h + 16 + sizeAt (x .image) h ≤ length (x .image)
   pub indexed : entryOf (slotExponent (x .image)) h (sizeAt (x .image) h) < length (x .table)
 
@@ -168,9 +207,10 @@ pub record Frees (word : ℕ) (x : State) (h from to : ℕ) : Type 0 where
 pub free-parts : (word : ℕ) (x : State) (h from to : ℕ) → freeRelease word x ≡ release.Merges h from to → Frees word x h from to
 unfolding freeRelease freeChecks
 free-parts word x h from to e =
-    let (a, before, r) = released-at-parts (freeChecks word x) (x .image) h from to e in
-    let (s, o, m) = and-then-met (opening x) _ h a in
-    let (k, l, n) = and-then-met (located s (unpack word) x) _ h m in
+    let (m, total) = totalled-parts (x .image) (releasedAt (freeChecks word x) (x .image)) h from to e in
+    let (a, before, r) = released-at-parts (freeChecks word x) (x .image) h from to m in
+    let (s, o, c) = and-then-met (opening x) _ h a in
+    let (k, l, n) = and-then-met (located s (unpack word) x) _ h c in
     let d = demand-met (eqb (unpack word .address) (k + 16)) NotBase _ h n in
     let g : h ≡ k = cc in
     let b : unpack word .address ≡ h + 16 = eqb-true _ _ (d .0) ∙ ap (λ (j : ℕ). j + 16) (sym g) in
@@ -197,6 +237,7 @@ free-parts word x h from to e =
       ends = rw (r .ends) (t .0);
       room = omega (arith, r .starts, r .ends, f .1, t .0);
       high = rw (r .ends) (t .1);
+      total-fits = total-within (x .image) (extentAt (x .image) h) total;
       inside = i;
       indexed = entry-in x (slotExponent (x .image)) h (sizeAt (x .image) h) op i;
     }
@@ -206,23 +247,23 @@ free-parts word x h from to e =
 module _ (word : ℕ) (x : State) where
   -- row 4 or 5
   pub free-shut : (r : Refusal) → opening x ≡ Refused r → release.Refused r ≡ freeRelease word x
-  unfolding freeRelease releasedAt freeChecks
+  unfolding freeRelease totalled releasedAt freeChecks
   free-shut r e = rw e
 
   module _ (s : ℕ) (o : opening x ≡ Accepted s) where
     -- row 10 or 11
     pub free-refused : (r : Refusal) → located s (unpack word) x ≡ Refused r → release.Refused r ≡ freeRelease word x
-    unfolding freeRelease releasedAt freeChecks
+    unfolding freeRelease totalled releasedAt freeChecks
     free-refused r e = rw (o, e)
 
     module _ (h : ℕ) (l : located s (unpack word) x ≡ Accepted h) where
       -- row 15
       pub free-off-base : (unpack word .address ≡ h + 16 → ⊥) → release.Refused NotBase ≡ freeRelease word x
-      unfolding freeRelease releasedAt freeChecks
+      unfolding freeRelease totalled releasedAt freeChecks
       free-off-base n = rw (o, l, ne-eqb (unpack word .address) (h + 16) n)
 
-      -- then row 7
-      pub free-at-base : unpack word .address ≡ h + 16 → released (x .image) h (walkTo (x .image) h) ≡ freeRelease word x
+      -- then rows 7 and 22
+      pub free-at-base : unpack word .address ≡ h + 16 → totalled (released (x .image) h (walkTo (x .image) h)) (x .image) ≡ freeRelease word x
       unfolding freeRelease releasedAt freeChecks
       free-at-base e = rw (o, l, eq-eqb (unpack word .address) (h + 16) e)
 
@@ -231,9 +272,9 @@ module _ (word : ℕ) (x : State) where
   unfolding free freed
   free-declined r e = rw e
 
-  -- otherwise the blocks are merged and the entry cleared
+  -- otherwise the blocks are merged, the object's extent given back, and the entry cleared
   pub free-done : (h from to s : ℕ) (image table : List ℕ) → freeRelease word x ≡ release.Merges h from to → s ≡ slotExponent (x .image)
-      → image ≡ merged (x .image) from to → table ≡ noted s h (sizeAt (x .image) h) 0 (x .table)
+      → image ≡ givenBack (x .image) h from to → table ≡ noted s h (sizeAt (x .image) h) 0 (x .table)
       → outcome (Accepted 0) image table ≡ free word x
   unfolding free freed
   free-done h from to s image table e k i t = rw (e, i, t, k)
@@ -253,13 +294,20 @@ module _ (s : ℕ) (x : State) (o : opening x ≡ Accepted s) where
     module _ (f : eqb (unpack p .address) (h + 16) ≡ true) where
       -- the walk meets an unsound header
       pub free-lost : (r : Refusal) → released (x .image) h (walkTo (x .image) h) ≡ release.Refused r → free p x ≡ refuse r x
-      free-lost r g = sym (free-declined p x r (sym (free-at-base p x s o h e (eqb-true _ _ f)) ∙ g))
+      free-lost r g =
+          sym
+          (free-declined p x r
+          (sym (free-at-base p x s o h e (eqb-true _ _ f)) ∙ ap (λ (a : Release). totalled a (x .image)) g ∙ totalled-refused (x .image) r))
 
       -- the blocks are merged
       pub free-merges : (from to : ℕ) → slotExponent (x .image) ≡ s → released (x .image) h (walkTo (x .image) h) ≡ release.Merges h from to
-          → free p x ≡ outcome (Accepted 0) (merged (x .image) from to) (noted s h (sizeAt (x .image) h) 0 (x .table))
-      free-merges from to q g =
-          sym (free-done p x h from to s _ _ (sym (free-at-base p x s o h e (eqb-true _ _ f)) ∙ g) (sym q) refl refl)
+          → totalFits (x .image) (extentAt (x .image) h) ≡ true
+          → free p x ≡ outcome (Accepted 0) (givenBack (x .image) h from to) (noted s h (sizeAt (x .image) h) 0 (x .table))
+      free-merges from to q g t =
+          sym
+          (free-done p x h from to s _ _
+          (sym (free-at-base p x s o h e (eqb-true _ _ f)) ∙ ap (λ (a : Release). totalled a (x .image)) g ∙ totalled-merges (x .image) h from to t)
+          (sym q) refl refl)
 
 -- The merged image.
 
@@ -315,7 +363,40 @@ module _ (image : List ℕ) (from to : ℕ) (room : from + 16 ≤ to) (high : to
   -- the superblock stays
   pub merged-front : 16 ≤ from → (superblockGood (merged image from to) ≡ superblockGood image) × (slotExponent (merged image from to) ≡ slotExponent image)
   unfolding merged
-  merged-front low = superblock-kept image from freeBlock block-fits low
+  merged-front low = superblock-kept image from freeBlock block-fits (omega arith)
+
+  -- the free total can be written before or after
+  pub merged-with-total : (total : ℕ) → 16 ≤ from → merged (withTotal image total) from to ≡ withTotal (merged image from to) total
+  unfolding merged
+  merged-with-total total low = with-total-put image total (omega arith) from freeBlock low block-fits
+
+  -- What is left: the merged image, with a higher free total.
+
+  -- the merged image has room for a superblock
+  merged-room : 16 ≤ length (merged image from to)
+  merged-room = omega (arith, length-merged)
+
+  -- of the object at h
+  module _ (h : ℕ) where
+    -- the length stays
+    pub length-given-back : length (givenBack image h from to) ≡ length image
+    length-given-back = length-with-total (merged image from to) _ merged-room ∙ length-merged
+
+    -- and all of the superblock but the total
+    pub given-back-front : 16 ≤ from
+        → (superblockGood (givenBack image h from to) ≡ superblockGood image) × (slotExponent (givenBack image h from to) ≡ slotExponent image)
+    given-back-front low =
+        let (good, same) = with-total-opens (merged image from to) _ merged-room in
+        let (good-before, same-before) = merged-front low in
+        (good ∙ good-before, same ∙ same-before)
+
+    -- its headers are those of the merged image
+    pub given-back-header : (k : ℕ) → 16 ≤ k → headerAt (givenBack image h from to) k ≡ headerAt (merged image from to) k
+    given-back-header k low = with-total-header (merged image from to) _ merged-room k low
+
+    -- its free total is read back
+    pub given-back-total : storedTotal image + extentAt image h < 2 ^ 32 → storedTotal (givenBack image h from to) ≡ storedTotal image + extentAt image h
+    given-back-total small = stored-with-total (merged image from to) _ merged-room small
 
 -- a longer block from the same place swallows it
 pub merged-again : (image : List ℕ) (from to end : ℕ) → from + 16 ≤ to → to ≤ end → end ≤ length image → merged (merged image from to) from end ≡ merged image from end

@@ -4,6 +4,7 @@ use mathlib.Core.Path.{_≡_, sym, ap, _∙_}
 use mathlib.Core.Bool.{true, false}
 use mathlib.Core.List.{List}
 use native.Mathlib.Nat.{lt-of-lt-of-le}
+use native.Mathlib.Omega.{arith}
 use lib.Dec.{leb}
 use lib.ListN.{length}
 use borrow.Author.Tests.{leb-true, le-leb, lt-leb}
@@ -56,7 +57,7 @@ opening-passes x g l = rw (g, le-leb _ _ l)
 pub opening-kept : (x : State) (s at : ℕ) (bs : List ℕ) → Open x s → 16 ≤ at → at + length bs ≤ length (x .image)
     → opening (state (put (x .image) at bs) (x .table)) ≡ Accepted s
 opening-kept x s at bs o low fits =
-    let (good, same) = superblock-kept (x .image) at bs fits low in
+    let (good, same) = superblock-kept (x .image) at bs fits (omega arith) in
     let e : slotExponent (put (x .image) at bs) ≡ s = same ∙ sym (o .exponent) in
     opening-passes (state (put (x .image) at bs) (x .table)) (good ∙ o .good) (rw (e, length-put (x .image) at bs fits) (o .entries)) ∙ ap Accepted e
 

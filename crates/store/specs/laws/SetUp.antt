@@ -100,11 +100,11 @@ module _ (s L : ℕ) where
   length-fresh l = simp (length-append, length-superblock, length-header, length-replicate) (omega arith)
 
   -- begins with the superblock
-  pub fresh-front : take 16 (fresh s L) ≡ superblock s L
+  pub fresh-front : take 16 (fresh s L) ≡ superblock s L (L - 16)
   unfolding fresh
-  fresh-front = take-at (superblock s L) _ 16 (length-superblock s L)
+  fresh-front = take-at (superblock s L (L - 16)) _ 16 (length-superblock s L (L - 16))
 
   -- and has one free block of zeros behind it
   pub fresh-block : drop 16 (fresh s L) ≡ freeHeader (L - 16) ++ replicate (L - 32) 0
   unfolding fresh
-  fresh-block = drop-at (superblock s L) _ 16 (length-superblock s L)
+  fresh-block = drop-at (superblock s L (L - 16)) _ 16 (length-superblock s L (L - 16))

@@ -17,14 +17,14 @@ use Rattle.frame.specs.laws.Wrappers.{slot-leads, entry-same}
 use Rattle.frame.specs.laws.Tags.{pointer-small, pointer-large, reach-slot, reach-wrapper, by-frame}
 use Rattle.frame.specs.laws.Objects.{PointerOf, same-reach, object-tag, object-matches}
 use Rattle.frame.specs.declared.parts.Pointer.{Pointer}
-use Rattle.block.specs.laws.Booleans.{and-left, and-right}
+use Rattle.block.specs.laws.Booleans.{byBool, and-left, and-right}
 use Rattle.block.specs.Bytes.{put}
 use Rattle.block.specs.Layout.{headerAt, sound, isLive, sizeAt, kindAt}
 use Rattle.block.specs.laws.Writes.{length-put}
 use Rattle.block.specs.laws.Headers.{headerAt-put-other}
 use Rattle.block.specs.laws.Soundness.{sound-same, sound-end, sound-live}
 use Rattle.block.specs.declared.header.Header.{Header}
-use Rattle.store.specs.State.{State, state, demand}
+use Rattle.store.specs.State.{State, state, refusalNumber, demand}
 use Rattle.store.specs.Calls.{headerPlace, verified, leadsBack, located}
 use Rattle.store.specs.laws.Refusals.{demand-met}
 use Rattle.store.specs.declared.answer.Refusal.{Refusal}
@@ -91,6 +91,17 @@ located-leads s p x h l =
 pub located-at : (s : ℕ) (p : Pointer) (x : State) (h : ℕ) → Located s p x h → located s p x ≡ Accepted h
 unfolding located
 located-at s p x h l = let k = l .place in rw (l .good, located-leads s p x h l, ← k)
+
+-- where it is not found, row 10 or 11 refuses
+pub located-refusal : (s : ℕ) (p : Pointer) (x : State) (r : Refusal) → located s p x ≡ Refused r → (10 ≤ refusalNumber r) × (refusalNumber r ≤ 11)
+unfolding located
+located-refusal s p x r e =
+    byBool (goodTag s p)
+    (λ g.
+    byBool (leadsBack s p x)
+    (λ l. let q : Accepted (headerPlace s p (x .table)) ≡ Refused r = rw (g, l) at e in let z : _≡_ {A = ℕ} 0 1 = cc in absurd (omega arith))
+    (λ l. let q : Refused Dangling ≡ Refused r = rw (g, l) at e in let w : Dangling ≡ r = cc in rw (← w) (omega arith, omega arith)))
+    (λ g. let q : Refused BadTag ≡ Refused r = rw g at e in let w : BadTag ≡ r = cc in rw (← w) (omega arith, omega arith))
 
 -- bytes replaced behind the header
 pub located-kept : (s : ℕ) (p : Pointer) (x : State) (h at : ℕ) (bs : List ℕ) → Located s p x h → h + 16 ≤ at → at + length bs ≤ length (x .image)

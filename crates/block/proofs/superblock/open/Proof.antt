@@ -27,21 +27,17 @@ returns-4 c = sym (opened-bad _ (λ p. omega arith))
 returns-5 : tie.Need-returns-5
 returns-5 c = sym (opened-bad _ (λ p. omega arith))
 
--- the last four bytes are not zero
+-- a slot exponent that is too low
 returns-6 : tie.Need-returns-6
 returns-6 c = sym (opened-bad _ (λ p. omega arith))
 
--- a slot exponent that is too low
+-- too high
 returns-7 : tie.Need-returns-7
 returns-7 c = sym (opened-bad _ (λ p. omega arith))
 
--- too high
-returns-8 : tie.Need-returns-8
-returns-8 c = sym (opened-bad _ (λ p. omega arith))
-
 -- a good superblock
-returns-9 : tie.Need-returns-9
-returns-9 c = ap opening.Exponent (c .before .before .slot-exponent .ensures) ∙ sym (opened-good _ (superblock-good _ (search needs)))
+returns-8 : tie.Need-returns-8
+returns-8 c = ap opening.Exponent (c .before .before .slot-exponent .ensures) ∙ sym (opened-good _ (superblock-good _ (search needs)))
 
 pub open-spec : {M : Type 1} → statement M
 open-spec =
@@ -57,8 +53,6 @@ open-spec =
     returns-5
     (λ c κs. search needs)
     returns-6
-    (λ c κs. search needs)
     returns-7
-    returns-8
     (λ c. search needs)
-    returns-9)
+    returns-8)

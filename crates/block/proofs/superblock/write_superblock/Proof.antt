@@ -11,7 +11,7 @@ unfolding superblock
 returns c =
     let start : tie.Start = search in
     let a = start .args in
-    cc (put-fields (a .image .now) 0 16 3 (a .s) (length (a .image .now)) 0 (start .pre))
+    cc (put-fields (a .image .now) 0 16 3 (a .s) (length (a .image .now)) (a .total) (start .pre))
 
 pub write-superblock-spec : {M : Type 1} → statement M
 write-superblock-spec =

@@ -1,4 +1,4 @@
--- `store::allocate_for` meets its contract: refused by `opening` or `allocatable`, or the block is carved and its entry noted. Assumes nothing.
+-- `store::allocate_for` meets its contract: refused by `opening` or `allocatable`, or the block is allotted and its entry noted. Assumes nothing.
 use mathlib.Core.Path.{_≡_, sym, ap, _∙_}
 use native.Mathlib.Omega.{arith}
 use Rattle.frame.specs.Tags.{pointerTo}
@@ -63,7 +63,7 @@ pack-requires c κs =
 returns : tie.Need-returns
 returns c = allocate-declined _ (state _ _) _ _ _ (sym (allocate-shut _ (state _ _) _ (sym (c .before .before .before .opening .ensures) ∙ c .before .r .given .1)))
 
--- row 6, 7, 8 or 9
+-- row 6, 7, 8, 9 or 22
 returns-2 : tie.Need-returns-2
 returns-2 c = allocate-declined _ (state _ _) _ _ _ (site-declined _ _ _ _ (sym (c .before .before .before .allocatable .ensures) ∙ c .before .r2 .given .1))
 
@@ -72,7 +72,7 @@ returns-3 : tie.Need-returns-3
 returns-3 c =
     let n = c .before .before .before .before in
     let h = at-passed (n .before) in
-    allocate-done _ (state _ _) _ _ _ _ _ _ _ _ (chosen h .0) (opens (at-open h) .exponent) (n .before .before .before .before .carve .ensures) (pointer-is (c .before))
+    allocate-done _ (state _ _) _ _ _ _ _ _ _ _ (chosen h .0) (opens (at-open h) .exponent) (n .before .before .before .before .allot .ensures) (pointer-is (c .before))
     (n .note .ensures ∙ ap (λ (t : Tagged). notedFor t (h .h .given .0 .0) (start (at-open h) .args .table .now)) (chosen h .1) ∙ tagged-noted _ _ _ _ _)
     (c .pack .ensures)
 
@@ -87,7 +87,7 @@ allocate-for-spec =
     (λ c κs. is-open (c .before .before .before))
     (λ c. search needs)
     (λ c. search needs)
-    (λ c κs. let w = allocates (c .before .before) .lowest in (w .is-sound, w .fits-in))
+    (λ c κs. let a = allocates (c .before .before) in (a .lowest .is-sound, a .lowest .fits-in, a .total-holds))
     note-requires
     (λ c κs. search needs)
     pack-requires

@@ -1,4 +1,4 @@
--- `store::free` meets its contract: refused by `opening` or `releasable`, or the blocks are merged and the entry is cleared. Assumes nothing.
+-- `store::free` meets its contract: refused by `opening` or `releasable`, or the block is given back and the entry is cleared. Assumes nothing.
 use mathlib.Core.Path.{_≡_, sym, ap, _∙_, subst}
 use Prim.Native.Nat.{ℕ}
 use native.Mathlib.Omega.{arith}
@@ -23,10 +23,10 @@ use Rattle.store.proofs.release.free.Tie as tie
 abbrev start : tie.After-s → tie.Start
 start c = c .before .before .before .before .before .before .before
 
-abbrev at-open : tie.After-from → tie.After-s
+abbrev at-open : tie.After-h → tie.After-s
 at-open c = c .before .before .before .before .before .before
 
-abbrev at-passed : tie.After-clear-entry-arg → tie.After-from
+abbrev at-passed : tie.After-clear-entry-arg → tie.After-h
 at-passed c = c .before .before .before .before .before .before
 
 abbrev given : tie.Start → State
@@ -38,17 +38,22 @@ is-open c = sym (c .before .before .opening .ensures) ∙ c .s .given .1
 opens : (c : tie.After-s) → Open (given (start c)) (c .s .given .0 .0)
 opens c = opening-parts _ _ (is-open c)
 
-accepted : (c : tie.After-from) → let b = start (at-open c) in let g = c .from .given .0 in freeRelease (b .args .pointer) (given b) ≡ release.Merges (g .0) (g .1 .0) (g .1 .1 .0)
-accepted c = sym (c .before .before .releasable .ensures) ∙ c .from .given .1
+accepted : (c : tie.After-h) → let b = start (at-open c) in let g = c .h .given .0 in freeRelease (b .args .pointer) (given b) ≡ release.Merges (g .0) (g .1 .0) (g .1 .1 .0)
+accepted c = sym (c .before .before .releasable .ensures) ∙ c .h .given .1
 
-frees : (c : tie.After-from) → let b = start (at-open c) in let g = c .from .given .0 in Frees (b .args .pointer) (given b) (g .0) (g .1 .0) (g .1 .1 .0)
+frees : (c : tie.After-h) → let b = start (at-open c) in let g = c .h .given .0 in Frees (b .args .pointer) (given b) (g .0) (g .1 .0) (g .1 .1 .0)
 frees c = free-parts _ (state _ _) _ _ _ (accepted c)
 
 -- the object that the tag leads to, at the slot exponent that was found
-object : (c : tie.After-from) → let o = at-open c in Located (o .s .given .0 .0) (unpack (start o .args .pointer)) (given (start o)) (c .from .given .0 .0)
+object : (c : tie.After-h) → let o = at-open c in Located (o .s .given .0 .0) (unpack (start o .args .pointer)) (given (start o)) (c .h .given .0 .0)
 object c =
     let b = start (at-open c) in
-    subst (λ (s : ℕ). Located s (unpack (b .args .pointer)) (given b) (c .from .given .0 .0)) (sym (opens (at-open c) .exponent)) (frees c .object)
+    subst (λ (s : ℕ). Located s (unpack (b .args .pointer)) (given b) (c .h .given .0 .0)) (sym (opens (at-open c) .exponent)) (frees c .object)
+
+give-back-requires : tie.Need-give-back-requires
+give-back-requires c κs =
+    let f = frees (c .before .before) in
+    (omega (arith, f .inside), f .room, f .high, omega (arith, f .total-fits, f .opens .short))
 
 clear-entry-requires : tie.Need-clear-entry-requires
 clear-entry-requires c κs =
@@ -68,7 +73,7 @@ clear-entry-requires c κs =
 returns : tie.Need-returns
 returns c = free-declined _ (state _ _) _ (sym (free-shut _ (state _ _) _ (sym (c .before .before .before .opening .ensures) ∙ c .before .r .given .1)))
 
--- row 10, 11, 15 or 7
+-- row 10, 11, 15, 7 or 22
 returns-2 : tie.Need-returns-2
 returns-2 c = free-declined _ (state _ _) _ (sym (c .before .before .before .releasable .ensures) ∙ c .before .r2 .given .1)
 
@@ -80,7 +85,7 @@ returns-3 c =
     let o = at-open f in
     let t = start o .args .table .now in
     let h = object f .header in
-    free-done _ (state _ _) _ _ _ _ _ _ (accepted f) (opens o .exponent) (n .before .before .before .before .before .merge .ensures)
+    free-done _ (state _ _) _ _ _ _ _ _ (accepted f) (opens o .exponent) (n .before .before .before .before .before .give-back .ensures)
     (n .clear-entry .ensures ∙ ap (λ (p : Pointer). entryCleared (o .s .given .0 .0) p t) (n .before .unpack .ensures) ∙ cleared-noted _ _ _ _ t (h .matches) (h .near))
 
 pub free-spec : {M : Type 1} → statement M
@@ -94,7 +99,7 @@ free-spec =
     (λ c κs. is-open (c .before .before .before))
     (λ c. search needs)
     (λ c. search needs)
-    (λ c κs. (frees (c .before .before) .room, frees (c .before .before) .high))
+    give-back-requires
     (λ c. omega (arith, opens (at-open (at-passed c)) .high))
     (λ c κs. search needs)
     clear-entry-requires

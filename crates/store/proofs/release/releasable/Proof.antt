@@ -1,4 +1,4 @@
--- `store::release::releasable` meets its contract: 10 and 11 (`locate`), 15, then 7 (`coalesce`). Assumes nothing.
+-- `store::release::releasable` meets its contract: 10 and 11 (`locate`), 15, then 7 and 22 (`mergeable`). Assumes nothing.
 use mathlib.Core.Path.{_≡_, sym, ap, _∙_, subst}
 use native.Mathlib.Omega.{arith}
 use Rattle.frame.specs.Pointers.{InRange, unpack}
@@ -48,8 +48,8 @@ returns c =
     let o = c .before .before .before .before in
     free-off-base _ (state _ _) _ (start (at-read o) .pre) _ (object o .tested) (λ k. c .if1 .taken (address-is o ∙ k))
 
-coalesce-requires : tie.Need-coalesce-requires
-coalesce-requires c κs = object (c .before .before .before .before) .object .header .is-sound
+mergeable-requires : tie.Need-mergeable-requires
+mergeable-requires c κs = object (c .before .before .before .before) .object .header .is-sound
 
 -- row 10 or 11
 returns-2 : tie.Need-returns-2
@@ -57,11 +57,11 @@ returns-2 c =
     let l = c .before .before .before in
     free-refused _ (state _ _) _ (start l .pre) _ (read-refused _ _ (state _ _) _ (read l ∙ c .before .r .given .1))
 
--- row 7, or what is merged
+-- row 7 or 22, or what is merged
 returns-3 : tie.Need-returns-3
 returns-3 c =
     let o = c .before .before .before .before .before in
-    c .coalesce .ensures ∙ free-at-base _ (state _ _) _ (start (at-read o) .pre) _ (object o .tested) (sym (address-is o) ∙ c .before .if1 .left)
+    c .mergeable .ensures ∙ free-at-base _ (state _ _) _ (start (at-read o) .pre) _ (object o .tested) (sym (address-is o) ∙ c .before .if1 .left)
 
 pub releasable-spec : {M : Type 1} → statement M
 releasable-spec =
@@ -73,6 +73,6 @@ releasable-spec =
     (λ c. search needs)
     add-if1
     returns
-    coalesce-requires
+    mergeable-requires
     returns-2
     returns-3)

@@ -33,7 +33,7 @@ sweep-requires c κs = let n = c .before .before .before in (is-open (at-open n)
 returns : tie.Need-returns
 returns c = release-declined _ (state _ _) _ (sym (release-shut _ (state _ _) _ (sym (c .before .before .before .opening .ensures) ∙ c .before .r .given .1)))
 
--- row 7 or 21
+-- row 7, 21 or 22
 returns-2 : tie.Need-returns-2
 returns-2 c = release-declined _ (state _ _) _ (sym (c .before .before .before .cue-releasable .ensures) ∙ c .before .r2 .given .1)
 
