@@ -25,9 +25,9 @@
  *     cue_move           8    cue_fill     152    cue_tally        64
  *     cue_load         168                        cue_free_total    8
  *
- * On CUE_UNSOUND or CUE_WRONG_TOTAL something else has written into the image. Allocate, free and release nothing more
- * there. Objects that their pointers still reach can be loaded; save image and table for diagnosis, then set the store up
- * afresh. */
+ * On CUE_UNSOUND something else has written into the image. Allocate, free and release nothing more there. Objects that
+ * their pointers still reach can be loaded; save image and table for diagnosis, then set the store up afresh. The same
+ * holds on CUE_WRONG_TOTAL, unless the image was set up before 1.4.0: README.md, "Saving", says how to take it over. */
 #ifndef CUELEDGER_H
 #define CUELEDGER_H
 
@@ -64,7 +64,7 @@ enum cue_refusal {
     CUE_TOO_LARGE = 16,      /* store: value too large for the width */
     CUE_UNTERMINATED = 20,   /* text copy: no zero byte from the source's address to the body's end */
     CUE_ENTRY_LOST = 21,     /* release: an object's entry does not hold its header: the table is damaged, or another image's */
-    CUE_WRONG_TOTAL = 22     /* the free total would leave 0..image_len - 16: the image is damaged */
+    CUE_WRONG_TOTAL = 22     /* the free total would fall below 0, or rise above image_len - 16: the image is damaged, or older than 1.4.0 */
 };
 
 /* A returned number as text. */
@@ -90,7 +90,7 @@ static inline const char *cue_reason(uint32_t number)
     case CUE_TOO_LARGE: return "value too large for the width";
     case CUE_UNTERMINATED: return "no zero byte up to the body's end";
     case CUE_ENTRY_LOST: return "table entry does not hold its header";
-    case CUE_WRONG_TOTAL: return "free total would leave 0 to L - 16";
+    case CUE_WRONG_TOTAL: return "free total below 0 or above L - 16";
     default: return "no refusal has this number";
     }
 }

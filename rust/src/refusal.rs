@@ -55,7 +55,8 @@ pub enum Refusal {
     EntryLost = 21,
     /// 22: allocate would take the free total below zero, or free or release leave it above the image's length less 16.
     ///
-    /// Something else has written into the image, as for [`Unsound`](Refusal::Unsound).
+    /// Something else has written into the image, as for [`Unsound`](Refusal::Unsound); or it was set up before 1.4.0, and
+    /// README.md, "Saving", says how to take it over.
     WrongTotal = 22,
 }
 
@@ -136,7 +137,7 @@ impl Refusal {
             Refusal::TooLarge => "value too large for the width",
             Refusal::Unterminated => "no zero byte up to the body's end",
             Refusal::EntryLost => "table entry does not hold its header",
-            Refusal::WrongTotal => "free total would leave 0 to L - 16",
+            Refusal::WrongTotal => "free total below 0 or above L - 16",
         }
     }
 }

@@ -31,6 +31,11 @@ damaged = put image 42 (encode 4 15)
 ofKind : ℕ → List ℕ
 ofKind k = put image 46 (encode 2 k)
 
+-- the superblock's fields, in their order
+laid : superblock 6 1024 881 ≡ 16 ∷ 0 ∷ 0 ∷ 0 ∷ 3 ∷ 0 ∷ 6 ∷ 0 ∷ 0 ∷ 4 ∷ 0 ∷ 0 ∷ 0x71 ∷ 3 ∷ 0 ∷ 0 ∷ []
+unfolding superblock encode
+laid = refl
+
 opens : opened image ≡ opening.Exponent 6
 unfolding image superblock header encode decode field superblockGood opened
 opens = refl

@@ -227,7 +227,7 @@ pub fn cues(run: Run) -> Run {
     run.make(Call::Release(9), NUMBER, 7, 0)
 }
 
-// The free total behind one object more.
+// The free total after one object more.
 fn taken(run: Run, size: u32, cue: u32, total: u64) -> Run {
     run.quietly(Call::AllocateFor(size, cue))
         .make(Call::FreeTotal, NUMBER, 0, total)
@@ -246,7 +246,7 @@ fn with_total(run: Run, low: u8, second: u8, top: u8) -> Run {
 // The free total beside document 01's four buffers; then overwritten, too low for an allocate, and too high for what is given back: refusal 22.
 pub fn totals(run: Run) -> Run {
     heading(
-        b"Cases: the free total behind buffers of 10, 20, 32 and 1 bytes for the cues 0, 7, 7 and 0",
+        b"Cases: the free total after buffers of 10, 20, 32 and 1 bytes for the cues 0, 7, 7 and 0",
     );
     let run = lend(run, 1024, 384).quietly(Call::SetUp(6));
     let run = run.make(Call::FreeTotal, NUMBER, 0, 1008);

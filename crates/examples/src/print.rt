@@ -61,7 +61,7 @@ no reason known                     \
 no reason known                     \
 no zero byte up to the body's end   \
 table entry does not hold its header\
-free total would leave 0 to L - 16  ";
+free total below 0 or above L - 16  ";
 
 // Text without the blanks at its end.
 fn trimmed(t: &[u8]) {

@@ -335,6 +335,7 @@ module _ {s L : ℕ} (x : Configuration) (i : Invariant s L (x .state) (x .heap)
   right-total =
       record {
         given = ap returned (sym total-given);
+        tallies = tally-accepted;
         sum = ap value (sym total-given) ∙ total-is (i .laid) ∙ sym (ap freeBytes tallied);
         allocates = never 22 (λ z. omega arith) (λ z. omega arith) (λ z. omega arith);
         frees = λ p fits e. not-wrong p e (freeing i p fits);

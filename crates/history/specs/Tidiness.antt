@@ -29,9 +29,11 @@ pub record Balanced (x : State) : Type 0 where
 unfoldable pub StaysBalanced : Type 0
 StaysBalanced = AfterEveryHistory (λ s x. Balanced (x .state))
 
--- the free total is given, and is tally's free bytes, the sum of the free extents; no call would take it below zero or leave it too high
+-- free total and tally are accepted, and the one gives the other's free bytes, the sum of the free extents; no call would take it below zero or leave it
+-- too high
 pub record RightTotal (x : State) : Type 0 where
   pub given : returned (freeTotal x) ≡ 0
+  pub tallies : usageNumber (tally x) ≡ 0
   pub sum : value (freeTotal x) ≡ freeBytes (tally x)
   pub allocates : EachAllocate x (λ size r. r ≡ 22 → ⊥)
   pub frees : (p : ℕ) → p < 2 ^ 64 → returned (free p x .answer) ≡ 22 → ⊥

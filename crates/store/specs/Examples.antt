@@ -55,6 +55,8 @@ pub data Case : Type 0 where
   keeps : (L : ℕ) (sizes cues : List ℕ) (index v at byte cue number : ℕ) → Case
   -- W7: what free total gives
   totals : (L : ℕ) (before : List ℕ) (total : ℕ) → Case
+  -- W7: free total with so many table entries: the returned number, and the value
+  lends : (L entries number value : ℕ) → Case
   -- W7: objects of these sizes and cues; with another free total, table entry and byte a call returns that number, and free total gives `left` then; a
   -- refusal leaves image and table as they are
   retotals : (L : ℕ) (sizes cues : List ℕ) (total index v at byte : ℕ) (c : call.Call) (number left : ℕ) → Case
@@ -162,6 +164,9 @@ holds (keeps L sizes cues index v at byte cue number) =
 holds (totals L before total) =
     let a : Answer = freeTotal (placed before (begun L)) in
     eqb (returned a) 0 && eqb (value a) total
+holds (lends L entries number v) =
+    let a : Answer = freeTotal (state (begun L .image) (take entries (begun L .table))) in
+    eqb (returned a) number && eqb (value a) v
 holds (retotals L sizes cues total index v at byte c number left) =
     let x : State = placedFor sizes cues (begun L) in
     let y : State = state (set (withTotal (x .image) total) at byte) (set (x .table) index v) in
@@ -269,6 +274,8 @@ cases =
     ∷ totals 1024 (10 ∷ 20 ∷ 32 ∷ 1 ∷ []) 881
     ∷ totals 64 (16 ∷ []) 16
     ∷ totals 64 (17 ∷ []) 0
+    ∷ lends 1024 384 0 1008
+    ∷ lends 1024 383 5 0
     ∷ retotals 256 four odd 0 2 0 0 16 (call.allocates 10 0) 22 0
     ∷ retotals 256 four odd 25 2 0 0 16 (call.allocates 10 0) 22 25
     ∷ retotals 256 four odd 26 2 0 0 16 (call.allocates 10 0) 0 0
@@ -277,6 +284,7 @@ cases =
     ∷ retotals 64 [] [] 47 2 0 0 16 (call.allocates 17 0) 22 47
     ∷ retotals 64 [] [] 48 2 0 0 16 (call.allocates 17 0) 0 0
     ∷ retotals 256 four odd 0 2 0 0 16 (call.allocates 0 0) 6 0
+    ∷ retotals 256 four odd 0 2 0 16 1 (call.allocates 10 0) 7 0
     ∷ retotals 256 four odd 0 2 0 0 16 (call.allocates 1000 0) 8 0
     ∷ retotals 256 (10 ∷ []) (0 ∷ []) 0 0 5 0 16 (call.allocates 20 0) 9 0
     ∷ retotals 256 four odd 0 2 0 0 16 (call.frees 0x8010000000000020) 0 26
@@ -284,6 +292,8 @@ cases =
     ∷ retotals 256 four odd 214 2 0 0 16 (call.frees 0x8010000000000020) 0 240
     ∷ retotals 256 four odd 215 2 0 0 16 (call.frees 0x8010000000000020) 22 215
     ∷ retotals 256 four odd 0xFFFFFFFF 2 0 0 16 (call.frees 0x8010000000000020) 22 0xFFFFFFFF
+    ∷ retotals 64 (17 ∷ []) (7 ∷ []) 0 2 0 0 16 (call.frees 0x8010000000000020) 0 48
+    ∷ retotals 64 (17 ∷ []) (7 ∷ []) 1 2 0 0 16 (call.frees 0x8010000000000020) 22 1
     ∷ retotals 256 four odd 0xFFFFFFFF 2 0 0 16 (call.frees 0x8010000000000021) 15 0xFFFFFFFF
     ∷ retotals 256 four odd 0xFFFFFFFF 2 0 42 1 (call.frees 0x8010000000000020) 7 0xFFFFFFFF
     ∷ retotals 256 four odd 0 2 0 0 16 (call.releases 7) 0 74
@@ -291,6 +301,8 @@ cases =
     ∷ retotals 256 four odd 166 2 0 0 16 (call.releases 7) 0 240
     ∷ retotals 256 four odd 167 2 0 0 16 (call.releases 7) 22 167
     ∷ retotals 256 four odd 0xFFFFFFFF 2 0 0 16 (call.releases 7) 22 0xFFFFFFFF
+    ∷ retotals 64 (17 ∷ []) (7 ∷ []) 0 2 0 0 16 (call.releases 7) 0 48
+    ∷ retotals 64 (17 ∷ []) (7 ∷ []) 1 2 0 0 16 (call.releases 7) 22 1
     ∷ retotals 256 four odd 240 2 0 0 16 (call.releases 8) 0 240
     ∷ retotals 256 four odd 241 2 0 0 16 (call.releases 8) 22 241
     ∷ retotals 256 four odd 0xFFFFFFFF 2 0 0 16 (call.releases 8) 22 0xFFFFFFFF

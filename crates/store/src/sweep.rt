@@ -111,7 +111,7 @@ fn settle(image: &mut [u8], run: bool, from: u64, h: u64)
     }
 }
 
-// Frees the objects of the cue in one pass: a run of neighbours is kept back, and written once, where it ends; the free total behind them all.
+// Frees the objects of the cue in one pass: a run of neighbours is kept back, and written once, where it ends; the free total is written last.
 fn sweep(image: &mut [u8], table: &mut [u64], s: u32, cue: u64)
     requires { ⌜ (opening (state (now image) (now table)) ≡ Answer.Accepted s) × (returned (releaseChecks cue (state (now image) (now table))) ≡ 0) ⌝ }
     ensures { λ _. ⌜ state (now (image .exit)) (now (table .exit)) ≡ freeEach (cuePointers cue (now (image .entry))) (state (now (image .entry)) (now (table .entry))) ⌝ }

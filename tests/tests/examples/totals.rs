@@ -233,4 +233,20 @@ fn any_total<S: Store>(store: S) {
     lent.has_free(1008);
 }
 
-on_each_store!(four_objects spare_bytes released allocate_below_zero free_above_all release_above_all rows_in_order any_total);
+/// An image that a version before 1.4.0 left has 0 there; README's way to take it over.
+fn older_image<S: Store>(store: S) {
+    let mut lent = Lent::fresh(store, 1024);
+    let pointers = [10, 20, 32, 1].map(|size| lent.allocate(size));
+    let expected = lent.image.clone();
+    lent.refuses(&[0], allocate(10), 22);
+    let free = lent.call(Call::Tally).values[2];
+    lent.damage(free);
+    assert!(lent.image == expected);
+    lent.has_free(881);
+    for pointer in pointers {
+        assert_eq!(lent.refusal(Call::Free { pointer }), 0);
+    }
+    lent.has_free(1008);
+}
+
+on_each_store!(four_objects spare_bytes released allocate_below_zero free_above_all release_above_all rows_in_order any_total older_image);
