@@ -1,6 +1,6 @@
 // The free total in the superblock.
 ghost use mathlib.Core.Path.{_≡_};
-ghost use Prim.Native.Nat.{_+_, _≤_, _<_, _^_};
+ghost use Prim.Native.Nat.{_≤_, _<_, _^_};
 ghost use lib.ListN.{length};
 ghost use Rattle.store.specs.State.{state};
 ghost use Rattle.store.specs.Calls.{totalFits, freeTotal};
