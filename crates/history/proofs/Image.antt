@@ -16,7 +16,7 @@ use Rattle.store.specs.Calls.{fresh, takenExtent, carved, released, merged}
 use Rattle.store.specs.declared.answer.Refusal.the-variants.{Unsound}
 use Rattle.store.specs.declared.release.Release.the-variants as release
 use Rattle.history.proofs.Gaps.{Block, extent, headed, Layout, last, item, gaps, blockAt, BlockOk, counts, Placed, Remade, Clear, patched}
-use Rattle.history.proofs.Looks.{gap, regap, look-apart, look-swap}
+use Rattle.history.proofs.Looks.{gap, regap, gaps-le, look-apart, look-swap}
 use Rattle.history.proofs.Rendered.{block-header, block-sound}
 use Rattle.history.proofs.Focus.{Focus, Found, found, find, standing}
 use Rattle.history.proofs.Bodies.{read-at, write-remade, patched-length}
@@ -156,6 +156,10 @@ placed-fresh s L low high = fresh-placed s L low high
 -- a count of the blocks gives the layout's counts
 pub counted-as : (image : List ℕ) (l : Layout) → Placed image l → countBlocks image ≡ counted.Counts (counts l)
 counted-as image l p = count-layout image l p
+
+-- the gaps lie behind the superblock
+pub gaps-in : (image : List ℕ) (l : Layout) → Placed image l → 16 + gaps l ≤ length image
+gaps-in image l p = omega (arith, gaps-le l, p .whole)
 
 -- no two free blocks are neighbours
 pub no-neighbours : (image : List ℕ) (l : Layout) → Placed image l → (h : ℕ) → OnWalk image h → h < length image → isFree image h ≡ true

@@ -26,8 +26,7 @@ use Rattle.store.specs.declared.answer.Refusal.the-variants.{OutOfBounds}
 use Rattle.history.specs.Heap.{Object, Heap, start, holds, ownerOf, inside}
 use Rattle.history.specs.History.{headerOf}
 use Rattle.history.proofs.Gaps.{Block, extent, Layout, last, gaps, lookup, blockAt, Placed, Remade}
-use Rattle.history.proofs.Looks.{gaps-le}
-use Rattle.history.proofs.Image.{LiveAt, live-at, apart, placed-fresh}
+use Rattle.history.proofs.Image.{LiveAt, live-at, apart, placed-fresh, gaps-in}
 use Rattle.history.proofs.Heap.{find, Distinct, Owned, owned}
 use Rattle.history.proofs.Table.{nobody, Tabled, Ranged, other-heap}
 
@@ -170,7 +169,11 @@ module _ {s L : ℕ} {image : List ℕ} {heap : Heap} (i : Laid s L image heap) 
   pub total-is : storedTotal image ≡ gaps (i .layout)
   total-is =
       subst (λ (m : List ℕ). storedTotal m ≡ gaps (i .layout)) in-front
-      (total-front s L (gaps (i .layout)) (drop 16 image) (omega (arith, gaps-le (i .layout), i .placed .whole, i .placed .short)))
+      (total-front s L (gaps (i .layout)) (drop 16 image) (omega (arith, gaps-in image (i .layout) (i .placed), i .placed .short)))
+
+  -- so it is formatted
+  pub formatted : Formatted s L image (i .layout)
+  formatted = record { long = i .long; front = i .front; placed = i .placed }
 
   -- another image with the same superblock
   pub remade : {image′ : List ℕ} {next : Layout} → Remade image image′ next → gaps next ≡ gaps (i .layout) → Formatted s L image′ next
@@ -277,7 +280,7 @@ pub relisted : {s L : ℕ} {x : State} {heap : Heap} → Invariant s L x heap �
 relisted {s} {L} {x} {heap} i new d same =
     record {
       laid =
-          relaid (i .laid) new (record { long = i .laid .long; front = i .laid .front; placed = i .laid .placed })
+          relaid (i .laid) new (formatted (i .laid))
           (λ k. i .laid .agree k ∙ ap objectContent (same k)) (λ k o e. i .laid .fine k o (same k ∙ e)) d;
       tabled = other-heap s L heap new (x .table) (i .tabled) same;
     }

@@ -49,11 +49,10 @@ use Rattle.store.specs.declared.answer.Answer.the-variants.{Accepted, Refused}
 use Rattle.history.specs.Heap.{Object, Heap, start, member, ownerOf, offset, inside, bytesAt, written, pointed, newObject, change, without, write, copied, textIn, copiedText, textCopied, hear}
 use Rattle.history.specs.History.{In, headerOf}
 use Rattle.history.proofs.Gaps.{Block, Layout, blockAt, Clear, patched}
-use Rattle.history.proofs.Looks.{gaps-le}
-use Rattle.history.proofs.Image.{read-body, Rewritten, write-body, Carved, Fitted, room, full, fitted, Freed, freed, not-freed}
+use Rattle.history.proofs.Image.{read-body, Rewritten, write-body, Carved, Fitted, room, full, fitted, Freed, freed, not-freed, gaps-in}
 use Rattle.history.proofs.Heap.{find, none-some, some-same, find-place, find-in, in-find, Owned, owned, find-append, distinct-append, find-change, distinct-change, change-nobody, find-without, distinct-without, without-nobody}
 use Rattle.history.proofs.Table.{Tabled, added, entry-zero, gone, same-table}
-use Rattle.history.proofs.Invariant.{Fine, content, Formatted, Laid, Invariant, blockContent, objectContent, known, object-of, no-object, ranged, exponent-is, total-is, remade, retotalled, relaid, agree-cond, opens, answer-leads, owner-leads, accesses}
+use Rattle.history.proofs.Invariant.{Fine, content, Formatted, Laid, Invariant, blockContent, objectContent, known, object-of, no-object, ranged, exponent-is, total-is, formatted, remade, retotalled, relaid, agree-cond, opens, answer-leads, owner-leads, accesses}
 
 -- every object is fine after one is put in or changed
 fine-cond : (s : ℕ) (heap new : Heap) (h : ℕ) (o : Object) → ((k : ℕ) → find new k ≡ cond (eqb k h) (some o) (find heap k)) → Fine s h o
@@ -231,7 +230,7 @@ module _ {s L : ℕ} {x : State} {heap : Heap} (i : Invariant s L x heap) where
   free-fits : (h : ℕ) (b : Block) → Freed (x .image) (i .laid .layout) h b → totalFits (x .image) (extentAt (x .image) h) ≡ true
   free-fits h b f =
       total-fits (x .image) (extentAt (x .image) h)
-      (omega (arith, f .given, total-is (i .laid), gaps-le (f .next), f .remade .placed .whole, f .remade .same-length))
+      (omega (arith, f .given, total-is (i .laid), gaps-in _ (f .next) (f .remade .placed), f .remade .same-length))
 
   -- a live object is freed by allocate's answer
   pub free-live : (h : ℕ) (o : Object) → find heap h ≡ some o
@@ -333,7 +332,7 @@ module _ {s L : ℕ} {x : State} {heap : Heap} (i : Invariant s L x heap) where
             (λ u. rw (eqb-true r (pack q) u) (moved-pointer s (headerOf o) (o .size) p q d (f .good p (w .mine)) m))
             (λ u. f .good r (rw u at t));
       })
-      (x .image) (i .laid .layout) (n .block) (record { long = i .laid .long; front = i .laid .front; placed = i .laid .placed }) (n .cue) (n .body)
+      (x .image) (i .laid .layout) (n .block) (formatted (i .laid)) (n .cue) (n .body)
       (λ k. byBool (eqb k (headerOf o)) (λ t. rw t (ap (blockAt (i .laid .layout)) (eqb-true k (headerOf o) t) ∙ n .there)) (λ t. rw t))
 
   move-to : (p : ℕ) (d : ℤ) → goodTag s (unpack p) ≡ true → (r : Moved) → moved (unpack p) (reach s (unpack p)) d ≡ r

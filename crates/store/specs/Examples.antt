@@ -183,8 +183,8 @@ all (c ∷ cs) = holds c && all cs
 abbrev four : List ℕ
 four = 10 ∷ 20 ∷ 32 ∷ 1 ∷ []
 
-abbrev odd : List ℕ
-odd = 7 ∷ 9 ∷ 7 ∷ 9 ∷ []
+abbrev inTurn : List ℕ
+inTurn = 7 ∷ 9 ∷ 7 ∷ 9 ∷ []
 
 -- a text's letters
 abbrev hello : List ℕ
@@ -276,40 +276,40 @@ cases =
     ∷ totals 64 (17 ∷ []) 0
     ∷ lends 1024 384 0 1008
     ∷ lends 1024 383 5 0
-    ∷ retotals 256 four odd 0 2 0 0 16 (call.allocates 10 0) 22 0
-    ∷ retotals 256 four odd 25 2 0 0 16 (call.allocates 10 0) 22 25
-    ∷ retotals 256 four odd 26 2 0 0 16 (call.allocates 10 0) 0 0
-    ∷ retotals 256 four odd 0xFFFFFFFF 2 0 0 16 (call.allocates 10 0) 0 0xFFFFFFE5
-    ∷ retotals 256 four odd 25 2 0 0 16 (call.allocatesFor 10 0 9) 22 25
+    ∷ retotals 256 four inTurn 0 2 0 0 16 (call.allocates 10 0) 22 0
+    ∷ retotals 256 four inTurn 25 2 0 0 16 (call.allocates 10 0) 22 25
+    ∷ retotals 256 four inTurn 26 2 0 0 16 (call.allocates 10 0) 0 0
+    ∷ retotals 256 four inTurn 0xFFFFFFFF 2 0 0 16 (call.allocates 10 0) 0 0xFFFFFFE5
+    ∷ retotals 256 four inTurn 25 2 0 0 16 (call.allocatesFor 10 0 9) 22 25
     ∷ retotals 64 [] [] 47 2 0 0 16 (call.allocates 17 0) 22 47
     ∷ retotals 64 [] [] 48 2 0 0 16 (call.allocates 17 0) 0 0
-    ∷ retotals 256 four odd 0 2 0 0 16 (call.allocates 0 0) 6 0
-    ∷ retotals 256 four odd 0 2 0 16 1 (call.allocates 10 0) 7 0
-    ∷ retotals 256 four odd 0 2 0 0 16 (call.allocates 1000 0) 8 0
+    ∷ retotals 256 four inTurn 0 2 0 0 16 (call.allocates 0 0) 6 0
+    ∷ retotals 256 four inTurn 0 2 0 16 1 (call.allocates 10 0) 7 0
+    ∷ retotals 256 four inTurn 0 2 0 0 16 (call.allocates 1000 0) 8 0
     ∷ retotals 256 (10 ∷ []) (0 ∷ []) 0 0 5 0 16 (call.allocates 20 0) 9 0
-    ∷ retotals 256 four odd 0 2 0 0 16 (call.frees 0x8010000000000020) 0 26
-    ∷ retotals 256 four odd 0 2 0 0 16 (call.frees 0x000800000000008E) 0 17
-    ∷ retotals 256 four odd 214 2 0 0 16 (call.frees 0x8010000000000020) 0 240
-    ∷ retotals 256 four odd 215 2 0 0 16 (call.frees 0x8010000000000020) 22 215
-    ∷ retotals 256 four odd 0xFFFFFFFF 2 0 0 16 (call.frees 0x8010000000000020) 22 0xFFFFFFFF
+    ∷ retotals 256 four inTurn 0 2 0 0 16 (call.frees 0x8010000000000020) 0 26
+    ∷ retotals 256 four inTurn 0 2 0 0 16 (call.frees 0x000800000000008E) 0 17
+    ∷ retotals 256 four inTurn 214 2 0 0 16 (call.frees 0x8010000000000020) 0 240
+    ∷ retotals 256 four inTurn 215 2 0 0 16 (call.frees 0x8010000000000020) 22 215
+    ∷ retotals 256 four inTurn 0xFFFFFFFF 2 0 0 16 (call.frees 0x8010000000000020) 22 0xFFFFFFFF
     ∷ retotals 64 (17 ∷ []) (7 ∷ []) 0 2 0 0 16 (call.frees 0x8010000000000020) 0 48
     ∷ retotals 64 (17 ∷ []) (7 ∷ []) 1 2 0 0 16 (call.frees 0x8010000000000020) 22 1
-    ∷ retotals 256 four odd 0xFFFFFFFF 2 0 0 16 (call.frees 0x8010000000000021) 15 0xFFFFFFFF
-    ∷ retotals 256 four odd 0xFFFFFFFF 2 0 42 1 (call.frees 0x8010000000000020) 7 0xFFFFFFFF
-    ∷ retotals 256 four odd 0 2 0 0 16 (call.releases 7) 0 74
-    ∷ retotals 256 four odd 0 2 0 0 16 (call.releases 9) 0 53
-    ∷ retotals 256 four odd 166 2 0 0 16 (call.releases 7) 0 240
-    ∷ retotals 256 four odd 167 2 0 0 16 (call.releases 7) 22 167
-    ∷ retotals 256 four odd 0xFFFFFFFF 2 0 0 16 (call.releases 7) 22 0xFFFFFFFF
+    ∷ retotals 256 four inTurn 0xFFFFFFFF 2 0 0 16 (call.frees 0x8010000000000021) 15 0xFFFFFFFF
+    ∷ retotals 256 four inTurn 0xFFFFFFFF 2 0 42 1 (call.frees 0x8010000000000020) 7 0xFFFFFFFF
+    ∷ retotals 256 four inTurn 0 2 0 0 16 (call.releases 7) 0 74
+    ∷ retotals 256 four inTurn 0 2 0 0 16 (call.releases 9) 0 53
+    ∷ retotals 256 four inTurn 166 2 0 0 16 (call.releases 7) 0 240
+    ∷ retotals 256 four inTurn 167 2 0 0 16 (call.releases 7) 22 167
+    ∷ retotals 256 four inTurn 0xFFFFFFFF 2 0 0 16 (call.releases 7) 22 0xFFFFFFFF
     ∷ retotals 64 (17 ∷ []) (7 ∷ []) 0 2 0 0 16 (call.releases 7) 0 48
     ∷ retotals 64 (17 ∷ []) (7 ∷ []) 1 2 0 0 16 (call.releases 7) 22 1
-    ∷ retotals 256 four odd 240 2 0 0 16 (call.releases 8) 0 240
-    ∷ retotals 256 four odd 241 2 0 0 16 (call.releases 8) 22 241
-    ∷ retotals 256 four odd 0xFFFFFFFF 2 0 0 16 (call.releases 8) 22 0xFFFFFFFF
-    ∷ retotals 256 four odd 0xFFFFFFFF 0 0 0 16 (call.releases 9) 21 0xFFFFFFFF
-    ∷ retotals 256 four odd 0xFFFFFFFF 2 0 78 1 (call.releases 7) 7 0xFFFFFFFF
-    ∷ retotals 256 four odd 0xFFFFFFFF 2 0 0 16 (call.stores 0x8010000000000020 4 5) 0 0xFFFFFFFF
-    ∷ retotals 256 four odd 113 2 0 4 0 (call.loads 0x8010000000000020 4) 4 0
+    ∷ retotals 256 four inTurn 240 2 0 0 16 (call.releases 8) 0 240
+    ∷ retotals 256 four inTurn 241 2 0 0 16 (call.releases 8) 22 241
+    ∷ retotals 256 four inTurn 0xFFFFFFFF 2 0 0 16 (call.releases 8) 22 0xFFFFFFFF
+    ∷ retotals 256 four inTurn 0xFFFFFFFF 0 0 0 16 (call.releases 9) 21 0xFFFFFFFF
+    ∷ retotals 256 four inTurn 0xFFFFFFFF 2 0 78 1 (call.releases 7) 7 0xFFFFFFFF
+    ∷ retotals 256 four inTurn 0xFFFFFFFF 2 0 0 16 (call.stores 0x8010000000000020 4 5) 0 0xFFFFFFFF
+    ∷ retotals 256 four inTurn 113 2 0 4 0 (call.loads 0x8010000000000020 4) 4 0
     ∷ []
 
 pub worked : T (all cases)

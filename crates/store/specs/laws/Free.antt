@@ -199,7 +199,7 @@ pub record Frees (word : ℕ) (x : State) (h from to : ℕ) : Type 0 where
   pub ends : h + extentAt (x .image) h ≤ to
   pub room : from + 16 ≤ to
   pub high : to ≤ length (x .image)
-  pub total-fits : storedTotal (x .image) + extentAt (x .image) h ≤ length (x .image) - 16
+  pub total : storedTotal (x .image) + extentAt (x .image) h ≤ length (x .image) - 16
   pub inside : h + 16 + sizeAt (x .image) h ≤ length (x .image)
   pub indexed : entryOf (slotExponent (x .image)) h (sizeAt (x .image) h) < length (x .table)
 
@@ -207,7 +207,7 @@ pub record Frees (word : ℕ) (x : State) (h from to : ℕ) : Type 0 where
 pub free-parts : (word : ℕ) (x : State) (h from to : ℕ) → freeRelease word x ≡ release.Merges h from to → Frees word x h from to
 unfolding freeRelease freeChecks
 free-parts word x h from to e =
-    let (m, total) = totalled-parts (x .image) (releasedAt (freeChecks word x) (x .image)) h from to e in
+    let (m, fits) = totalled-parts (x .image) (releasedAt (freeChecks word x) (x .image)) h from to e in
     let (a, before, r) = released-at-parts (freeChecks word x) (x .image) h from to m in
     let (s, o, c) = and-then-met (opening x) _ h a in
     let (k, l, n) = and-then-met (located s (unpack word) x) _ h c in
@@ -237,7 +237,7 @@ free-parts word x h from to e =
       ends = rw (r .ends) (t .0);
       room = omega (arith, r .starts, r .ends, f .1, t .0);
       high = rw (r .ends) (t .1);
-      total-fits = total-within (x .image) (extentAt (x .image) h) total;
+      total = total-within (x .image) (extentAt (x .image) h) fits;
       inside = i;
       indexed = entry-in x (slotExponent (x .image)) h (sizeAt (x .image) h) op i;
     }

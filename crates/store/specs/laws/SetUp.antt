@@ -44,7 +44,6 @@ settable-parts s x v e =
       entries = leb-true _ _ (c .0);
     }
 
--- rows 4 and 5 are passed, with the slot exponent s
 -- The rows, and what is left by the answer.
 
 module _ (s : ℕ) (x : State) where

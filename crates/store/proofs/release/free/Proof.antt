@@ -53,7 +53,7 @@ object c =
 give-back-requires : tie.Need-give-back-requires
 give-back-requires c κs =
     let f = frees (c .before .before) in
-    (omega (arith, f .inside), f .room, f .high, omega (arith, f .total-fits, f .opens .short))
+    (omega (arith, f .inside), f .room, f .high, omega (arith, f .total, f .opens .short))
 
 clear-entry-requires : tie.Need-clear-entry-requires
 clear-entry-requires c κs =
