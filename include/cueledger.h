@@ -17,13 +17,13 @@
  *   images do not disturb each other.
  * - Time: allocate, free, release and tally walk over the blocks from the image's start and grow with their number. Setup,
  *   free, release, fill and copy also grow with the bytes that they write, compare and text copy with those that they read.
- *   Load, store, move and free total take constant time.
+ *   Load, store, move, distances and free total take constant time.
  * - Stack, in bytes at most: the return address and all below it, without memmove and memset.
- *     cue_setup         48    cue_store    168    cue_copy        200
- *     cue_allocate     112    cue_free     216    cue_compare     216
- *     cue_allocate_for  88    cue_release  112    cue_copy_text   200
- *     cue_move           8    cue_fill     152    cue_tally        64
- *     cue_load         168                        cue_free_total    8
+ *     cue_setup         48    cue_load     176    cue_copy        208
+ *     cue_allocate     112    cue_store    176    cue_compare     224
+ *     cue_allocate_for  88    cue_free     208    cue_copy_text   208
+ *     cue_move           8    cue_release  112    cue_tally        64
+ *     cue_distances    160    cue_fill     160    cue_free_total    8
  *
  * On CUE_UNSOUND something else has written into the image. Allocate, free and release nothing more there. Objects that
  * their pointers still reach can be loaded; save image and table for diagnosis, then set the store up afresh. The same
@@ -39,9 +39,9 @@ extern "C" {
 #endif
 
 #define CUE_VERSION_MAJOR 1
-#define CUE_VERSION_MINOR 4
+#define CUE_VERSION_MINOR 5
 #define CUE_VERSION_PATCH 0
-#define CUE_VERSION "1.4.0"
+#define CUE_VERSION "1.5.0"
 
 /* 17 to 19 are a call log's (docs/FORMAT.md): the program replay prints them, and no function returns them. */
 enum cue_refusal {
@@ -129,6 +129,12 @@ uint32_t cue_allocate_for(uint8_t *image, size_t image_len, uint64_t *table, siz
 /* Adds a signed distance to the pointer's address, inside its slot or frame. The tag stays; no header is read.
  * Refusals, in order: 4, 5, 10, 12. */
 uint32_t cue_move(const uint8_t *image, size_t image_len, const uint64_t *table, size_t table_len, uint64_t pointer, int64_t distance, uint64_t *moved);
+
+/* How far the pointer's address is from either end of its object's body: from_start is address - base, negative before the
+ * body; to_end is base + size - address, negative past the end. Their sum is the size. The address need not be inside the
+ * body, only in the pointer's slot or frame.
+ * Refusals, in order: 4, 5, 10, 11. */
+uint32_t cue_distances(const uint8_t *image, size_t image_len, const uint64_t *table, size_t table_len, uint64_t pointer, int64_t *from_start, int64_t *to_end);
 
 /* Loads 1 to 8 bytes, little-endian.
  * Refusals, in order: 4, 5, 14, 10, 11, 13. */

@@ -1,4 +1,4 @@
-//! Load, store and move of one number, beside unchecked access.
+//! Load and store of one number, beside unchecked access; move and distances.
 
 use crate::both;
 use crate::contestants::{Calls, Lent};
@@ -80,5 +80,7 @@ pub fn measure(bench: &mut Bench) {
         }
         let moves = both!(|C, lent: Lent| each(&pointers, |p| sink(C::offset(lent, p, black_box(8)).unwrap())));
         bench.line(&format!("move by 8, {frame}"), PASSES * pointers.len(), &mut lent, moves, Other::None);
+        let distances = both!(|C, lent: Lent| each(&pointers, |p| sink(C::distances(lent, p).unwrap())));
+        bench.line(&format!("distances, {frame}"), PASSES * pointers.len(), &mut lent, distances, Other::None);
     }
 }

@@ -2,7 +2,7 @@
 //! pass.
 
 use cueledger::ffi;
-use cueledger_tests::model::{self, Answer, CompareAnswer, TallyAnswer};
+use cueledger_tests::model::{self, Answer, CompareAnswer, DistancesAnswer, TallyAnswer};
 use cueledger_tests::single_pass;
 
 /// An image and its table.
@@ -29,6 +29,7 @@ pub trait Calls {
     fn set_up(lent: &mut Lent, slot_exponent: u32) -> Answer;
     fn allocate(lent: &mut Lent, size: u32) -> Answer;
     fn offset(lent: &Lent, pointer: u64, distance: i64) -> Answer;
+    fn distances(lent: &Lent, pointer: u64) -> DistancesAnswer;
     fn load(lent: &Lent, pointer: u64, width: u64) -> Answer;
     fn store(lent: &mut Lent, pointer: u64, width: u64, value: u64) -> Answer;
     fn free(lent: &mut Lent, pointer: u64) -> Answer;
@@ -85,6 +86,10 @@ impl Calls for Library {
 
     fn offset(lent: &Lent, pointer: u64, distance: i64) -> Answer {
         export!(cue_move, lent, as_ptr, as_ptr, pointer, distance; moved).map(first)
+    }
+
+    fn distances(lent: &Lent, pointer: u64) -> DistancesAnswer {
+        export!(cue_distances, lent, as_ptr, as_ptr, pointer; from_start to_end)
     }
 
     fn load(lent: &Lent, pointer: u64, width: u64) -> Answer {
@@ -149,6 +154,10 @@ impl Calls for Model {
 
     fn offset(lent: &Lent, pointer: u64, distance: i64) -> Answer {
         model::offset(&lent.image, &lent.table, pointer, distance)
+    }
+
+    fn distances(lent: &Lent, pointer: u64) -> DistancesAnswer {
+        model::distances(&lent.image, &lent.table, pointer)
     }
 
     fn load(lent: &Lent, pointer: u64, width: u64) -> Answer {

@@ -41,6 +41,7 @@ pub fn measure(bench: &mut Bench) {
     refused!(bench, lent, "allocate 0 bytes", 6, |C, lent| C::allocate(lent, 0));
     refused!(bench, lent, "allocate, no space behind 12 blocks", 8, |C, lent| C::allocate(lent, 2000));
     refused!(bench, lent, "load, bad tag", 10, |C, lent| C::load(lent, small & !(1 << 63) | 63 << 48, 8));
+    refused!(bench, lent, "distances, bad tag", 10, |C, lent| C::distances(lent, small & !(1 << 63) | 63 << 48));
     refused!(bench, lent, "load, dangling, small-framed", 11, |C, lent| C::load(lent, freed_small, 8));
     refused!(bench, lent, "load, dangling, large-framed", 11, |C, lent| C::load(lent, freed_large, 8));
     refused!(bench, lent, "move out of the slot", 12, |C, lent| C::offset(lent, small, 256));

@@ -23,7 +23,7 @@ static void report(const char *call, uint32_t number)
 int main(void)
 {
     uint64_t record, name, buffer, moved, value, objects, live_bytes, free_bytes, overhead_bytes, total;
-    int64_t order;
+    int64_t order, from_start, to_end;
 
     report("set up", cue_setup(STORE, SLOT_EXPONENT));
     report("allocate 10", cue_allocate(STORE, 10, 7, &record));
@@ -52,6 +52,14 @@ int main(void)
     report("move by 3", cue_move(STORE, record, 3, &moved));
     report("load 8 there", cue_load(STORE, moved, 8, &value));
     printf("value %" PRIu64 "\n", value);
+    report("distances there", cue_distances(STORE, moved, &from_start, &to_end));
+    printf("%" PRId64 " from the start, %" PRId64 " to the end\n", from_start, to_end);
+    report("distances at the start", cue_distances(STORE, record, &from_start, &to_end));
+    printf("%" PRId64 " from the start, %" PRId64 " to the end\n", from_start, to_end);
+    report("move by -1", cue_move(STORE, record, -1, &moved));
+    report("distances there", cue_distances(STORE, moved, &from_start, &to_end)); /* in the header */
+    printf("%" PRId64 " from the start, %" PRId64 " to the end\n", from_start, to_end);
+    report("load 1 there", cue_load(STORE, moved, 1, &value));
     report("move by a slot", cue_move(STORE, record, 1 << SLOT_EXPONENT, &moved));
 
     report("allocate 6 for a name", cue_allocate(STORE, 6, 8, &name));
@@ -84,6 +92,8 @@ int main(void)
     printf("objects %" PRIu64 ", live bytes %" PRIu64 ", free bytes %" PRIu64 ", overhead bytes %" PRIu64 "\n", objects, live_bytes, free_bytes, overhead_bytes);
     report("free", cue_free(STORE, record));
     report("free again", cue_free(STORE, record));
+    report("distances at the start", cue_distances(STORE, record, &from_start, &to_end));
+    printf("%" PRId64 " from the start, %" PRId64 " to the end\n", from_start, to_end);
     report("tally", cue_tally(STORE, &objects, &live_bytes, &free_bytes, &overhead_bytes));
     printf("objects %" PRIu64 ", live bytes %" PRIu64 ", free bytes %" PRIu64 ", overhead bytes %" PRIu64 "\n", objects, live_bytes, free_bytes, overhead_bytes);
     return 0;

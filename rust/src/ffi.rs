@@ -10,6 +10,7 @@ extern "C" {
     pub fn cue_allocate(image: *mut u8, image_len: usize, table: *mut u64, table_len: usize, size: u32, r#type: u16, pointer: *mut u64) -> u32;
     pub fn cue_allocate_for(image: *mut u8, image_len: usize, table: *mut u64, table_len: usize, size: u32, r#type: u16, cue: u32, pointer: *mut u64) -> u32;
     pub fn cue_move(image: *const u8, image_len: usize, table: *const u64, table_len: usize, pointer: u64, distance: i64, moved: *mut u64) -> u32;
+    pub fn cue_distances(image: *const u8, image_len: usize, table: *const u64, table_len: usize, pointer: u64, from_start: *mut i64, to_end: *mut i64) -> u32;
     pub fn cue_load(image: *const u8, image_len: usize, table: *const u64, table_len: usize, pointer: u64, width: u64, value: *mut u64) -> u32;
     pub fn cue_store(image: *mut u8, image_len: usize, table: *const u64, table_len: usize, pointer: u64, width: u64, value: u64) -> u32;
     pub fn cue_free(image: *mut u8, image_len: usize, table: *mut u64, table_len: usize, pointer: u64) -> u32;

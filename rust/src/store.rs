@@ -26,6 +26,17 @@ pub struct Tally {
     pub overhead_bytes: u64,
 }
 
+/// How far a pointer's address is from either end of its object's body, as [`Store::distances`] gives it.
+#[derive(Clone, Copy, Debug, PartialEq, Eq)]
+pub struct Distances {
+    /// The address less the body's start: negative before it.
+    pub from_start: i64,
+    /// The body's end less the address: negative past it.
+    ///
+    /// The sum of the two is the object's size.
+    pub to_end: i64,
+}
+
 // A number that is neither 0 nor a refusal's means that the archive is not the one this crate was written for.
 fn answer<T>(number: u32, value: T) -> Result<T, Refusal> {
     if number == 0 {
@@ -206,6 +217,34 @@ impl<'a> Store<'a> {
         let number =
             unsafe { ffi::cue_move(self.image.as_ptr(), self.image.len(), self.table.as_ptr(), self.table.len(), pointer.into(), distance, &mut moved) };
         answer(number, moved.into())
+    }
+
+    /// How far a pointer's address is from either end of its object's body.
+    ///
+    /// The address need not be inside the body, only in the pointer's slot or frame: wherever [`offset`](Store::offset) leads to.
+    ///
+    /// Refused with, in this order: [`BadTag`](Refusal::BadTag), [`Dangling`](Refusal::Dangling).
+    ///
+    /// ```
+    /// # use cueledger::{Distances, Refusal, Store};
+    /// # let (mut image, mut table) = ([0u8; 1024], [0u64; Store::table_entries(1024, 9)]);
+    /// let mut store = Store::set_up(&mut image, &mut table, 9)?;
+    /// let record = store.allocate(10, 7)?;
+    /// assert_eq!(store.distances(record), Ok(Distances { from_start: 0, to_end: 10 }));
+    /// assert_eq!(store.distances(store.offset(record, 4)?), Ok(Distances { from_start: 4, to_end: 6 }));
+    /// assert_eq!(store.distances(store.offset(record, -1)?), Ok(Distances { from_start: -1, to_end: 11 }));
+    /// assert_eq!(store.distances(store.offset(record, 11)?), Ok(Distances { from_start: 11, to_end: -1 }));
+    /// store.free(record)?;
+    /// assert_eq!(store.distances(record), Err(Refusal::Dangling));
+    /// # Ok::<(), Refusal>(())
+    /// ```
+    #[inline]
+    pub fn distances(&self, pointer: Pointer) -> Result<Distances, Refusal> {
+        let (mut from_start, mut to_end) = (0, 0);
+        let (image, table) = (self.image(), self.table());
+        // SAFETY: as in `offset`; the two values are locals of their own.
+        let number = unsafe { ffi::cue_distances(image.as_ptr(), image.len(), table.as_ptr(), table.len(), pointer.into(), &mut from_start, &mut to_end) };
+        answer(number, Distances { from_start, to_end })
     }
 
     /// Loads a number of `width` bytes, little-endian.

@@ -25,6 +25,18 @@ static void expect(const char *what, uint32_t number, uint32_t wanted)
     }
 }
 
+/* signed values, below 0 on either side of the body, and 0 where they are refused */
+static void expect_distances(uint64_t pointer, uint32_t wanted, int64_t from, int64_t to)
+{
+    int64_t from_start = -1, to_end = -1;
+
+    expect("distances", cue_distances(image, 1024, table, CUE_TABLE_ENTRIES(1024, 6), pointer, &from_start, &to_end), wanted);
+    if (from_start != from || to_end != to) {
+        printf("distances: %ld and %ld, not %ld and %ld\n", (long)from_start, (long)to_end, (long)from, (long)to);
+        failures++;
+    }
+}
+
 /* 17 to 19 are a call log's */
 static int returned(uint32_t number)
 {
@@ -35,6 +47,7 @@ int main(void)
 {
     static const size_t lengths[] = {64, 127, 128, 129, 4095, 4096, 4097, LONGEST - 1, LONGEST};
     uint32_t s, number, other;
+    uint64_t pointer;
     size_t i;
 
     for (s = 6; s <= 15; s++)
@@ -43,6 +56,13 @@ int main(void)
             expect("one entry too few", cue_setup(image, lengths[i], table, entries - 1, s), CUE_TOO_FEW_ENTRIES);
             expect("as many as it takes", cue_setup(image, lengths[i], table, entries, s), CUE_ACCEPTED);
         }
+
+    expect("set-up", cue_setup(image, 1024, table, CUE_TABLE_ENTRIES(1024, 6), 6), CUE_ACCEPTED);
+    expect("allocate", cue_allocate(image, 1024, table, CUE_TABLE_ENTRIES(1024, 6), 10, 7, &pointer), CUE_ACCEPTED);
+    expect_distances(pointer, CUE_ACCEPTED, 0, 10);
+    expect_distances(pointer - 1, CUE_ACCEPTED, -1, 11);
+    expect_distances(pointer + 11, CUE_ACCEPTED, 11, -1);
+    expect_distances(pointer + 32, CUE_DANGLING, 0, 0);
 
     /* a reason of its own for each number, and one for all that no call returns */
     for (number = CUE_ACCEPTED; number <= CUE_WRONG_TOTAL + 1; number++)

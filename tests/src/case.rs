@@ -1,6 +1,7 @@
 //! A case: two buffers, and a list of steps on them. It is run on two stores at once, each with buffers of its own.
 
 use crate::counts::Counts;
+use crate::distances;
 use crate::model::{self, Pointer};
 use crate::random::Random;
 use crate::store::{Access, Answer, Call, Store};
@@ -113,6 +114,8 @@ pub enum Mismatch {
     NotNegated,
     NotTheText,
     NotTheHeaps,
+    NotOfABody,
+    NotByDistances,
 }
 
 impl fmt::Display for Mismatch {
@@ -131,6 +134,8 @@ impl fmt::Display for Mismatch {
             Mismatch::NotNegated => write!(f, "the expected store's order is not negated when the operands are swapped"),
             Mismatch::NotTheText => write!(f, "the expected store wrote something else than the source's bytes up to the first zero byte"),
             Mismatch::NotTheHeaps => write!(f, "the expected store's release is not the single frees of the heap's objects of its cue"),
+            Mismatch::NotOfABody => write!(f, "the expected store's distances are not those from a live header's body, of their sum as size"),
+            Mismatch::NotByDistances => write!(f, "the expected store's answer is not what the distances of its pointers say"),
         }
     }
 }
@@ -319,7 +324,19 @@ impl<'a, A: Store, B: Store> Run<'a, A, B> {
                     return Err(Mismatch::NotTheText);
                 }
             }
+            Call::Distances { pointer } if expected.accepted() && !distances::are_of_a_body(&e.image[..n], pointer, &expected) => {
+                return Err(Mismatch::NotOfABody);
+            }
             _ => {}
+        }
+        // a new object is not there before
+        let asked = if matches!(call, Call::Allocate { .. } | Call::AllocateFor { .. }) {
+            (&mut e.image, &mut e.table)
+        } else {
+            (&mut self.before.0, &mut self.before.1)
+        };
+        if !distances::agree(e.store, &mut asked.0[..n], &mut asked.1[..m], call, &expected) {
+            return Err(Mismatch::NotByDistances);
         }
         if self.begun && !self.hear(call, &expected) {
             return Err(Mismatch::NotTheHeaps);

@@ -3,11 +3,12 @@
 //!
 //! `model` is the documents; `store` the trait that model and library share; `case` a list of calls and damages, and
 //! how it is run on two stores at once; `generate` makes random lists; `counts` and `seen` say what occurred in them;
-//! `shrink` shortens one that fails; `driver` puts them together. `totals` has the limits of the free total, `single_pass` is
-//! another model of release, `log` the call log.
+//! `shrink` shortens one that fails; `driver` puts them together. `distances` says what a pointer's distances have to do with other
+//! calls' answers, `totals` has the limits of the free total, `single_pass` is another model of release, `log` the call log.
 
 pub mod case;
 pub mod counts;
+pub mod distances;
 pub mod driver;
 pub mod generate;
 pub mod library;

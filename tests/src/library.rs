@@ -32,6 +32,7 @@ fn answered(image: &mut [u8], table: &mut [u64], call: Call<Pointer>) -> Result<
         Call::Compare { left, right, length } => store.compare(left, right, length)? as i64 as u64,
         Call::CopyText { target, source } => store.copy_text(target, source)?,
         Call::FreeTotal => store.free_total()?,
+        Call::Distances { pointer } => return store.distances(pointer).map(|d| [d.from_start as u64, d.to_end as u64, 0, 0]),
         Call::Tally => return store.tally().map(|t| [t.objects, t.live_bytes, t.free_bytes, t.overhead_bytes]),
     };
     Ok([value, 0, 0, 0])
@@ -91,6 +92,11 @@ impl Store for Exports {
                 Call::FreeTotal => {
                     let refusal = ffi::cue_free_total(bytes, n, entries, m, &mut v);
                     Answer::new(refusal, [v])
+                }
+                Call::Distances { pointer } => {
+                    let (mut from_start, mut to_end) = (STALE as i64, STALE as i64);
+                    let refusal = ffi::cue_distances(bytes, n, entries, m, pointer, &mut from_start, &mut to_end);
+                    Answer::new(refusal, [from_start as u64, to_end as u64])
                 }
             }
         }

@@ -38,7 +38,7 @@ fn numbers(call: Call<u64>) -> Option<(u16, Vec<u64>)> {
         Call::Fill { pointer, length, value } => (21, vec![pointer, length.into(), value.into()]),
         Call::Copy { target, source, length } => (22, vec![target, source, length.into()]),
         Call::SetUp { .. } | Call::AllocateFor { .. } | Call::Release { .. } => return None,
-        Call::Compare { .. } | Call::CopyText { .. } | Call::Tally | Call::FreeTotal => return None,
+        Call::Compare { .. } | Call::CopyText { .. } | Call::Tally | Call::FreeTotal | Call::Distances { .. } => return None,
     })
 }
 

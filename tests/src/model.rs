@@ -12,6 +12,9 @@ pub type Answer = Result<u64, u32>;
 /// -1, 0 or 1, or the refusal's number.
 pub type CompareAnswer = Result<i64, u32>;
 
+/// Address minus base and end minus address, or the refusal's number.
+pub type DistancesAnswer = Result<[i64; 2], u32>;
+
 /// Objects, live bytes, free bytes and overhead bytes, or the refusal's number.
 pub type TallyAnswer = Result<[u64; 4], u32>;
 
@@ -352,6 +355,15 @@ pub fn offset(image: &[u8], table: &[u64], pointer: u64, distance: i64) -> Answe
         return Err(12);
     }
     Ok(Pointer { address: moved as u64, ..p }.pack())
+}
+
+pub fn distances(image: &[u8], table: &[u64], pointer: u64) -> DistancesAnswer {
+    let s = open(image, table)?;
+    let p = Pointer::unpack(pointer);
+    let (h, header) = read_tag(image, table, s, p)?;
+    let (address, base) = (p.address as i64, (h + HEADER) as i64);
+    let end = base + i64::from(header.size);
+    Ok([address - base, end - address])
 }
 
 pub fn load(image: &[u8], table: &[u64], pointer: u64, width: u64) -> Answer {

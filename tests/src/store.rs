@@ -85,6 +85,7 @@ calls! {
     CopyText "text copy" Writes [4 5 10 11 13 20] { target source; }
     Tally "tally" Reads [4 5 7]
     FreeTotal "free total" Reads [4 5]
+    Distances "distances" Reads [4 5 10 11] { pointer; }
 }
 
 impl<P: Copy> Call<P> {
@@ -165,6 +166,7 @@ impl Store for Model {
             Call::CopyText { target, source } => model::copy_text(image, table, target, source).into(),
             Call::Tally => model::tally(image, table).into(),
             Call::FreeTotal => model::free_total(image, table).into(),
+            Call::Distances { pointer } => model::distances(image, table, pointer).map(|distances| distances.map(|distance| distance as u64)).into(),
         }
     }
 }

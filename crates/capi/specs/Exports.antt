@@ -2,9 +2,10 @@
 use Prim.Native.Nat.{ℕ}
 use mathlib.Core.List.{List}
 use lib.IntN.{ℤ}
-use Rattle.store.specs.State.{Outcome, returned, value, comparisonNumber, comparisonValue, usageNumber, liveObjects, liveBytes, freeBytes, overheadBytes}
+use Rattle.store.specs.State.{Outcome, returned, value, comparisonNumber, comparisonValue, distancesNumber, startDistance, endDistance, usageNumber, liveObjects, liveBytes, freeBytes, overheadBytes}
 use Rattle.store.specs.declared.answer.Answer.{Answer}
 use Rattle.store.specs.declared.comparing.Comparison.{Comparison}
+use Rattle.store.specs.declared.measuring.Measurement.{Measurement}
 use Rattle.store.specs.declared.counting.Usage.{Usage}
 
 -- What the export of a call that gives no value returns and leaves.
@@ -61,6 +62,20 @@ compared r order = record { returned = r; order = order }
 -- what C sees of compare's answer
 abbrev pub exportedComparison : Comparison → Compared
 exportedComparison c = compared (comparisonNumber c) (comparisonValue c)
+
+-- What the export of distances returns and gives: both values are 0 where it is refused.
+pub record Measured : Type 0 where
+  pub returned : ℕ
+  pub start : ℤ
+  pub end : ℤ
+
+-- made of a returned number and two values
+abbrev pub measured : ℕ → ℤ → ℤ → Measured
+measured r start end = record { returned = r; start = start; end = end }
+
+-- what C sees of distances' answer
+abbrev pub exportedDistances : Measurement → Measured
+exportedDistances m = measured (distancesNumber m) (startDistance m) (endDistance m)
 
 -- What the export of tally returns and gives: every value is 0 where it is refused.
 pub record Tallied : Type 0 where

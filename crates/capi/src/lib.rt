@@ -2,8 +2,9 @@
 // given through a pointer is 0 where it is refused.
 ghost use mathlib.Core.Path.{_≡_};
 ghost use Rattle.store.specs.State.{state};
-ghost use Rattle.store.specs.Calls.{setUp, allocate, allocateFor, move, load, store, free, fill, copy, compare, copyText, releaseCue, freeTotal, tally};
-ghost use Rattle.capi.specs.Exports.{left, leftBy, export, exported, answered, exportedAnswer, compared, exportedComparison, tallied, exportedUsage};
+ghost use Rattle.store.specs.Calls.{setUp, allocate, allocateFor, move, load, store, free, fill, copy, compare, copyText, releaseCue, freeTotal, tally, distances};
+ghost use Rattle.capi.specs.Exports.{left, leftBy, export, exported, answered, exportedAnswer, compared, exportedComparison, measured, exportedDistances, tallied, exportedUsage};
+use store::Measurement;
 use store::Usage;
 
 // A fresh store on the image and table.
@@ -173,6 +174,30 @@ pub extern "C" fn cue_copy_text(
     let a = store::copy_text(image, table, target, source);
     *copied = a.value();
     a.returned()
+}
+
+// How far the pointer is from the start of its object's body and from its end goes to `start` and `end`.
+#[no_mangle]
+pub extern "C" fn cue_distances(
+    image: &[u8],
+    table: &[u64],
+    pointer: u64,
+    start: &mut i64,
+    end: &mut i64,
+) -> u32
+    ensures { λ r. ⌜ measured r (now (start .exit)) (now (end .exit)) ≡ exportedDistances (distances pointer (state (now (image .entry)) (now (table .entry)))) ⌝ }
+{
+    // what a refusal gives
+    *start = 0;
+    *end = 0;
+    match store::distances(image, table, pointer) {
+        Measurement::Distances(a, b) => {
+            *start = a;
+            *end = b;
+            0
+        }
+        Measurement::Refused(r) => r.number(),
+    }
 }
 
 // The free total in the superblock goes to `total`.

@@ -19,7 +19,7 @@ const F31: u64 = 0x001F_0000_0000_0000;
 // A small-framed pointer to the last address.
 const LAST: u64 = 0x8000_FFFF_FFFF_FFFF;
 
-// The ends of the distances.
+// The ends of a move's distances.
 const MOST: i64 = 9223372036854775807;
 
 const LEAST: i64 = -9223372036854775808;
@@ -120,6 +120,23 @@ pub fn texts(run: Run) -> Run {
     run.make(Call::CopyText(TEN | 42, TEN | 32), NUMBER, 20, 0)
 }
 
+// Distances inside the body, before and behind it up to the slot's ends, and from an address that leads to no object: refusals 10 and 11.
+pub fn distances(run: Run) -> Run {
+    heading(
+        b"Cases: distances from its start at 32 and to its end at 42, in the slot from 0 to 63",
+    );
+    let run = run.distances(TEN | 32, 0, 0, 10);
+    let run = run.distances(TEN | 31, 0, -1, 11);
+    let run = run.distances(TEN | 42, 0, 10, 0);
+    let run = run.distances(TEN | 43, 0, 11, -1);
+    let run = run.distances(TEN | 16, 0, -16, 26);
+    let run = run.distances(TEN, 0, -32, 42);
+    let run = run.distances(TEN | 63, 0, 31, -21);
+    let run = run.distances(TEN | 64, 11, 0, 0);
+    let run = run.distances(TEN | 1024, 11, 0, 0);
+    run.distances(0, 10, 0, 0)
+}
+
 // Moves of small-framed pointers: refusal 12.
 pub fn slot_moves(run: Run) -> Run {
     heading(b"Cases: move its pointer from 32, in the slot from 0 to 63");
@@ -176,6 +193,7 @@ pub fn frees(run: Run) -> Run {
     let run = run.make(Call::Free(TEN | 32), DONE, 0, 0);
     let run = run.tally(0, 0, 0, 1008, 0);
     let run = run.make(Call::Free(TEN | 32), DONE, 11, 0);
+    let run = run.distances(TEN | 32, 11, 0, 0);
     heading(b"Cases: allocate, with 1008 bytes free");
     let run = run.make(Call::Allocate(0), BYTES, 6, 0);
     let run = run.make(Call::Allocate(993), BYTES, 8, 0);

@@ -1,5 +1,5 @@
 // The first column of each call's line: 32 places, in the order of the calls.
-pub const LABELS: [u8; 4416] = *b"set up                          \
+pub const LABELS: [u8; 4896] = *b"set up                          \
 10 bytes                        \
 20 bytes                        \
 32 bytes                        \
@@ -8,8 +8,12 @@ store 1250 in 4 bytes           \
 load 4 bytes                    \
 move the pointer by 17          \
 load 4 bytes there              \
+at its base                     \
+at byte 17                      \
+at its frame's first byte       \
 free                            \
 load through its pointer        \
+distances of its pointer        \
 tally                           \
 free total                      \
 slot exponent 5                 \
@@ -66,6 +70,16 @@ load 8 at 32                    \
 text from 41 to 32              \
 text from 42 to 32              \
 text from 32, ten bytes of 7    \
+at 32, the base                 \
+at 31, one before               \
+at 42, the end                  \
+at 43, one past                 \
+at 16, its header               \
+at 0, the slot's first byte     \
+at 63, the slot's last byte     \
+at 64, in the next slot         \
+at 1024, past the image         \
+pointer 0                       \
 by 31                           \
 by 32                           \
 by -32                          \
@@ -97,6 +111,7 @@ through a zero entry            \
 at 32                           \
 tally                           \
 at 32 again                     \
+distances at 32                 \
 0                               \
 993                             \
 2^32-1                          \

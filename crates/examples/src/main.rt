@@ -22,9 +22,10 @@ fn main() {
         made: 0,
         met: 0,
     };
-    let run = story::freed(story::used(story::allocated(run)));
-    let run = cases::widths(cases::copies(cases::access(cases::openings(run))));
-    let run = cases::texts(cases::compares(run));
+    let run = story::measured(story::used(story::allocated(run)));
+    let run = cases::access(cases::openings(story::freed(run)));
+    let run = cases::compares(cases::widths(cases::copies(run)));
+    let run = cases::distances(cases::texts(run));
     let run = cases::tags(cases::frame_moves(cases::slot_moves(run)));
     let run = cases::frees(cases::not_open(run));
     let run = cases::totals(cases::cues(cases::fresh(run)));

@@ -3,6 +3,7 @@ use crate::labels::LABELS;
 use libc::STDOUT_FILENO;
 use store::Answer;
 use store::Comparison;
+use store::Measurement;
 use store::Usage;
 
 // Text.
@@ -13,6 +14,16 @@ pub fn text(t: &[u8]) {
 // A number.
 pub fn decimal(n: u64) {
     io::print_decimal(STDOUT_FILENO, n);
+}
+
+// A signed number.
+fn signed(n: i64) {
+    if n < 0 {
+        text(b"-");
+        decimal((-1 - n) as u64 + 1);
+    } else {
+        decimal(n as u64);
+    }
 }
 
 // A pointer, or the bytes of a load, in 16 digits.
@@ -31,7 +42,7 @@ pub fn heading(t: &[u8]) {
 // The label of the call with this number, 0 the first.
 pub fn label(call: u64) {
     text(b"  ");
-    if call < 138 {
+    if call < 153 {
         let at = 32 * call as usize;
         let end = at + 32;
         text(&LABELS[at..end]);
@@ -98,6 +109,19 @@ pub fn order(c: Comparison) {
         text(b"0: none differs");
     } else {
         text(b"1: the left is above");
+    }
+}
+
+// The answer of distances.
+pub fn ends(m: Measurement) {
+    match m {
+        Measurement::Distances(from_start, to_end) => {
+            signed(from_start);
+            text(b" from the start, ");
+            signed(to_end);
+            text(b" to the end");
+        }
+        Measurement::Refused(r) => refused(r.number()),
     }
 }
 

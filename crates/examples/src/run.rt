@@ -1,15 +1,17 @@
 // The calls of the store, each with its line and the answer that docs/FORMAT.md gives for it: the returned number, and the value.
 use crate::print::answer;
+use crate::print::ends;
 use crate::print::label;
 use crate::print::order;
 use crate::print::text;
 use crate::print::usage;
 use std::num::wrapping_add_u64;
 use store::Answer;
+use store::Measurement;
 use store::Refusal;
 use store::Usage;
 
-// The calls but compare and tally, each with its arguments.
+// The calls but compare, distances and tally, each with its arguments.
 pub enum Call {
     // Slot exponent.
     SetUp(u32),
@@ -75,6 +77,14 @@ fn tally_lent(image: &[u8], table: &[u64], bytes: usize, entries: usize) -> Usag
         return Usage::Refused(Refusal::ShortTable);
     }
     store::tally(&image[..bytes], &table[..entries])
+}
+
+// Whether distances returned this number and these two.
+fn measured(m: Measurement, number: u32, from_start: i64, to_end: i64) -> bool {
+    match m {
+        Measurement::Distances(f, t) => number == 0 && f == from_start && t == to_end,
+        Measurement::Refused(r) => r.number() == number,
+    }
 }
 
 // Whether a tally returned this number and these counts.
@@ -146,6 +156,16 @@ impl Run {
         label(self.made);
         order(c);
         self.count(c.returned() == number && c.value() == value)
+    }
+
+    // Distances, on the whole image and table: the returned number and both.
+    pub fn distances(self, pointer: u64, number: u32, from_start: i64, to_end: i64) -> Run {
+        let image = self.image;
+        let table = self.table;
+        let m = store::distances(&image, &table, pointer);
+        label(self.made);
+        ends(m);
+        self.count(measured(m, number, from_start, to_end))
     }
 
     // Tally: the returned number and the counts.

@@ -9,7 +9,7 @@ use crate::print::text;
 use crate::run::Call;
 use crate::run::Run;
 
-// The pointers to the four buffers, and to byte 17 of the one of 20 bytes.
+// The pointers to the four buffers; and of the one of 20 bytes, to its byte 17 and to its frame's first byte.
 const TEN: u64 = 0x8010_0000_0000_0020;
 
 const TWENTY: u64 = 0x0007_0000_0000_003A;
@@ -19,6 +19,8 @@ const THIRTY_TWO: u64 = 0x800E_0000_0000_005E;
 const ONE: u64 = 0x0008_0000_0000_008E;
 
 const STRAY: u64 = 0x0007_0000_0000_004B;
+
+const FRAME: u64 = 0x0007_0000_0000_0000;
 
 // The buffers are allocated.
 pub fn allocated(run: Run) -> Run {
@@ -46,6 +48,14 @@ pub fn used(run: Run) -> Run {
     run.make(Call::Load(STRAY, 4), BYTES, 13, 0)
 }
 
+// How far pointers are from both ends of a buffer: byte 17 has 3 bytes left, and the frame begins before the buffer does.
+pub fn measured(run: Run) -> Run {
+    heading(b"Distances: from the start of the buffer of 20 bytes, and to its end");
+    let run = run.distances(TWENTY, 0, 0, 20);
+    let run = run.distances(STRAY, 0, 17, 3);
+    run.distances(FRAME, 0, -58, 78)
+}
+
 // A buffer is given back, and what is in use is counted.
 pub fn freed(run: Run) -> Run {
     heading(b"Free the buffer of 20 bytes");
@@ -54,6 +64,7 @@ pub fn freed(run: Run) -> Run {
     entry(0, run.table[0]);
     text(b"\n");
     let run = run.make(Call::Load(TWENTY, 4), BYTES, 11, 0);
+    let run = run.distances(TWENTY, 11, 0, 0);
     heading(b"Tally: what is in use; and the free total alone");
     let run = run.tally(0, 3, 43, 917, 48);
     run.make(Call::FreeTotal, NUMBER, 0, 917)

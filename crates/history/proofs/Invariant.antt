@@ -6,6 +6,7 @@ use mathlib.Core.Bool.{Bool, true, false, cond}
 use mathlib.Core.List.{List, [], _++_}
 use mathlib.Core.Option.{Option, none, some}
 use native.Mathlib.Omega.{arith}
+use lib.IntN.{subℕ}
 use lib.ListN.{length, take, drop, replicate, take-append-drop, length-append, length-drop, length-replicate, getD-replicate, List·getD-append}
 use borrow.Author.Tests.{eq-eqb}
 use Rattle.frame.specs.Pointers.{unpack, pack, goodTag}
@@ -16,13 +17,15 @@ use Rattle.block.specs.laws.Superblock.{superblock-front, exponent-front, total
 use Rattle.block.specs.laws.Total.{length-with-total, with-total-behind, with-total-front}
 use Rattle.block.specs.declared.header.Header.{Header}
 use Rattle.store.specs.State.{State, state, demand}
-use Rattle.store.specs.Calls.{fresh, cleared, opening, headerPlace, leadsBack, located, accessed}
+use Rattle.store.specs.Calls.{fresh, cleared, opening, headerPlace, leadsBack, located, accessed, distances}
 use Rattle.store.specs.laws.SetUp.{Settable, fresh-front}
 use Rattle.store.specs.laws.Opening.{opening-passes}
 use Rattle.store.specs.laws.TagReading.{Stands, Located, located-object, located-leads, located-at}
 use Rattle.store.specs.laws.Access.{accessed-at}
+use Rattle.store.specs.laws.Distances.{distances-located}
 use Rattle.store.specs.declared.answer.Answer.the-variants.{Accepted}
 use Rattle.store.specs.declared.answer.Refusal.the-variants.{OutOfBounds}
+use Rattle.store.specs.declared.measuring.Measurement.the-variants.{Distances}
 use Rattle.history.specs.Heap.{Object, Heap, start, holds, ownerOf, inside}
 use Rattle.history.specs.History.{headerOf}
 use Rattle.history.proofs.Gaps.{Block, extent, Layout, last, gaps, lookup, blockAt, Placed, Remade}
@@ -272,6 +275,13 @@ module _ {s L : ℕ} {x : State} {heap : Heap} (i : Invariant s L x heap) where
   accesses p o n e =
       let q = known (i .laid) (headerOf o) o (owned heap p o (i .laid .distinct) e .found) in
       accessed-at s (unpack p) n x (headerOf o) (owner-leads p o e) ∙ rw (q .size, ← q .begins) refl
+
+  -- the distances of a pointer are those from both ends of its object
+  pub measures : (p : ℕ) (o : Object) → ownerOf heap p ≡ some o
+      → distances p x ≡ Distances (subℕ (unpack p .address) (start o)) (subℕ (start o + o .size) (unpack p .address))
+  measures p o e =
+      let q = known (i .laid) (headerOf o) o (owned heap p o (i .laid .distinct) e .found) in
+      distances-located x s opens p (headerOf o) (owner-leads p o e) ∙ rw (q .size, ← q .begins) refl
 
 -- The objects are listed in another way.
 

@@ -44,7 +44,7 @@ use Rattle.history.proofs.Gaps.{Block, extent, Layout, blocks, bodies, 
 use Rattle.history.proofs.Image.{counted-as, no-neighbours, free-zero, tail-zero}
 use Rattle.history.proofs.Heap.{find, find-in, find-place, in-find, places-apart, two-places, known-owner}
 use Rattle.history.proofs.Table.{entries-differ}
-use Rattle.history.proofs.Invariant.{Invariant, object-of, ranged, exponent-is, total-is, opens, Leads, leads, accesses, begins-with}
+use Rattle.history.proofs.Invariant.{Invariant, object-of, ranged, exponent-is, total-is, opens, Leads, leads, accesses, measures, begins-with}
 use Rattle.history.proofs.Invariant as invariant
 use Rattle.history.proofs.Steps.{Allocated, empty, no-room, given, allocated, allocate-step, Freeing, taken, declined, freeing, free-step, move-step, load-step, read-through, store-step, fill-step, copy-step, copies-text, copies-no-text, copy-text-step}
 use Rattle.history.proofs.Releases.{release-counts, release-step, freed-singly}
@@ -303,6 +303,7 @@ module _ {s L : ℕ} (x : Configuration) (i : Invariant s L (x .state) (x .heap)
         copies = copy-iff;
         compares = compare-iff;
         texts = text-iff;
+        distances = λ o p e. measures i p o e;
         reads = load-value;
         orders = compare-value;
         text-counts = text-value;

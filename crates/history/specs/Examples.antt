@@ -3,7 +3,7 @@ use mathlib.Core.Path.{_≡_, refl}
 use mathlib.Core.Bool.{true}
 use mathlib.Core.List.{List, [], _∷_}
 use lib.ListN.{replicate}
-use lib.IntN.{pos}
+use lib.IntN.{pos, negsuc}
 use Rattle.frame.specs.Frame.{frameNumber, frameNumberIn}
 use Rattle.frame.specs.Pointers.{unpack, pack, goodTag, reach, landed, moved}
 use Rattle.frame.specs.Tags.{wrapper, tagNumber, pointerTo, tagMatches, usedEntries, entryAt}
@@ -12,8 +12,9 @@ use Rattle.block.specs.Text.{textFrom, textOf}
 use Rattle.block.specs.Layout.{superblock, withTotal, superblockGood, header, headerAt, wellFormed, sound}
 use Rattle.block.specs.Walk.{walkIn, walkFrom, walk, fitOf, firstFit, metOf, walkTo, countOf, countBlocks, walkCue}
 use Rattle.store.specs.State.{state}
-use Rattle.store.specs.Calls.{setUpChecks, fresh, setUp, opening, entryHolds, fitAnswer, takenExtent, allocateChecks, carved, noted, allocateFor, headerPlace, verified, leadsBack, located, inBody, accessed, movedAnswer, moveAnswer, move, loadAnswer, load, storeChecks, store, fillChecks, fill, copyChecks, copy, textAnswer, textAt, copyTextChecks, copyText, mergeEnd, mergeStart, released, freeChecks, releasedAt, totalFits, totalled, freeRelease, merged, freed, free, gatheredAnswer, placesOf, allHeld, extentsOf, releaseChecks, pointersTo, cuePointers, freeEach, releaseCue, freeTotal, tallyOpened, tallyCounted, tally}
+use Rattle.store.specs.Calls.{setUpChecks, fresh, setUp, opening, entryHolds, fitAnswer, takenExtent, allocateChecks, carved, noted, allocateFor, headerPlace, verified, leadsBack, located, fromStart, toEnd, inBody, accessed, distancesChecks, distancesAt, distances, movedAnswer, moveAnswer, move, loadAnswer, load, storeChecks, store, fillChecks, fill, copyChecks, copy, textAnswer, textAt, copyTextChecks, copyText, mergeEnd, mergeStart, released, freeChecks, releasedAt, totalFits, totalled, freeRelease, merged, freed, free, gatheredAnswer, placesOf, allHeld, extentsOf, releaseChecks, pointersTo, cuePointers, freeEach, releaseCue, freeTotal, tallyOpened, tallyCounted, tally}
 use Rattle.store.specs.declared.answer.Answer.the-variants.{Accepted}
+use Rattle.store.specs.declared.measuring.Measurement.the-variants.{Distances}
 use Rattle.store.specs.declared.counting.Usage.the-variants as usage
 use Rattle.store.specs.Step.{Call, allocates, frees, moves, loads, stores, fills, copies, copiesText, allocatesFor, releases}
 use Rattle.history.specs.Heap.{member, ownerOf, inside, change, without, passing, write, copied, copiedText, textCopied, hear}
@@ -51,10 +52,11 @@ calls =
     ∷ []
 
 -- each of them is admitted; the abstract heap is left with the second object, which holds the number and the zero byte of the text; tally counts that
--- object, the two gaps around it, and its header, and the free total is that of the gaps
+-- object, the two gaps around it, and its header; the free total is that of the gaps, and the distances are those of a pointer one byte before the object
 pub admitted-calls : (allAdmitted calls fresh6 ≡ true)
     × (after calls fresh6 .heap ≡ record { answer = 0x802A00000000003A; size = 4; cue = 9; pointers = 0x802A00000000003A ∷ []; bytes = 5 ∷ 6 ∷ 7 ∷ 0 ∷ [] } ∷ [])
     × (tally (after calls fresh6 .state) ≡ usage.Counts 1 4 92 16)
     × (freeTotal (after calls fresh6 .state) ≡ Accepted 92)
-unfolding frameNumber frameNumberIn unpack pack goodTag reach landed moved wrapper tagNumber pointerTo tagMatches usedEntries entryAt encode decode field put superblock withTotal superblockGood header headerAt wellFormed sound walkIn walkFrom walk fitOf firstFit metOf walkTo setUpChecks fresh setUp opening entryHolds fitAnswer takenExtent allocateChecks carved noted allocateFor headerPlace verified leadsBack located inBody accessed movedAnswer moveAnswer move loadAnswer load storeChecks store fillChecks fill copyChecks copy textFrom textOf textAnswer textAt copyTextChecks copyText mergeEnd mergeStart released freeChecks releasedAt totalFits totalled freeRelease merged freed free walkCue gatheredAnswer placesOf allHeld extentsOf releaseChecks pointersTo cuePointers freeEach releaseCue member ownerOf inside change without passing write copied copiedText textCopied hear after allAdmitted known countOf countBlocks tallyOpened tallyCounted tally freeTotal
-admitted-calls = (refl, refl, refl, refl)
+    × (distances 0x802A000000000039 (after calls fresh6 .state) ≡ Distances (negsuc 0) (pos 5))
+unfolding frameNumber frameNumberIn unpack pack goodTag reach landed moved wrapper tagNumber pointerTo tagMatches usedEntries entryAt encode decode field put superblock withTotal superblockGood header headerAt wellFormed sound walkIn walkFrom walk fitOf firstFit metOf walkTo setUpChecks fresh setUp opening entryHolds fitAnswer takenExtent allocateChecks carved noted allocateFor headerPlace verified leadsBack located fromStart toEnd inBody accessed distancesChecks distancesAt distances movedAnswer moveAnswer move loadAnswer load storeChecks store fillChecks fill copyChecks copy textFrom textOf textAnswer textAt copyTextChecks copyText mergeEnd mergeStart released freeChecks releasedAt totalFits totalled freeRelease merged freed free walkCue gatheredAnswer placesOf allHeld extentsOf releaseChecks pointersTo cuePointers freeEach releaseCue member ownerOf inside change without passing write copied copiedText textCopied hear after allAdmitted known countOf countBlocks tallyOpened tallyCounted tally freeTotal
+admitted-calls = (refl, refl, refl, refl, refl)

@@ -8,7 +8,7 @@ use mathlib.Core.List.{List, [], _∷_, List·Memᴰ}
 use mathlib.Core.Option.{some}
 use lib.ListN.{length, getD}
 use lib.Dec.{ltb}
-use lib.IntN.{ℤ, pos, negsuc}
+use lib.IntN.{ℤ, pos, negsuc, subℕ}
 use Rattle.frame.specs.Pointers.{unpack, goodTag}
 use Rattle.frame.specs.Tags.{isSmall, entryOf}
 use Rattle.block.specs.Bytes.{decode}
@@ -16,8 +16,9 @@ use Rattle.block.specs.Order.{compareBytes, sign}
 use Rattle.block.specs.declared.text.Text.the-variants.{Ends}
 use Rattle.block.specs.Layout.{slotExponent, extentAt, sizeAt, cueAt}
 use Rattle.store.specs.State.{State, Outcome, IsAccepted, returned, value, comparisonNumber, comparisonValue}
-use Rattle.store.specs.Calls.{setUp, allocateFor, load, store, free, fill, copy, compare, copyText, releaseCue, goodWidth, leadsBack, headerPlace}
+use Rattle.store.specs.Calls.{setUp, allocateFor, load, store, free, fill, copy, compare, copyText, releaseCue, goodWidth, leadsBack, headerPlace, distances}
 use Rattle.store.specs.Step.{Call, allocates, frees, moves, loads, stores, fills, copies, copiesText, allocatesFor, releases, step}
+use Rattle.store.specs.declared.measuring.Measurement.the-variants.{Distances}
 use Rattle.history.specs.Heap.{Object, Heap, start, holds, ownerOf, inside, bytesAt, textIn, ofCue, hear}
 
 -- Lists.
@@ -160,6 +161,12 @@ TextsExactly x =
     EachTwo x λ o o′ t p.
     IsAccepted (copyText t p (x .state)) ↔ ((n : ℕ) × (textIn o′ p ≡ Ends n) × BothInside o o′ t p (n + 1))
 
+-- the distances of a live object's pointer, in its body or not, are those from the object's start and to its end
+abbrev pub DistancesShown : Configuration → Type 0
+DistancesShown x =
+    (o : Object) (p : ℕ) → ownerOf (x .heap) p ≡ some o
+    → distances p (x .state) ≡ Distances (subℕ (unpack p .address) (start o)) (subℕ (start o + o .size) (unpack p .address))
+
 -- an accepted load gives the heap's bytes, little-endian
 abbrev pub LoadsBytes : Configuration → Type 0
 LoadsBytes x =
@@ -201,6 +208,7 @@ pub record Holds (s : ℕ) (x : Configuration) : Type 0 where
   pub copies : CopiesExactly x
   pub compares : ComparesExactly x
   pub texts : TextsExactly x
+  pub distances : DistancesShown x
   pub reads : LoadsBytes x
   pub orders : ComparesBytes x
   pub text-counts : TextsCounted x

@@ -18,13 +18,14 @@ use Rattle.block.specs.laws.Writes.{length-put, field-put}
 use Rattle.block.specs.Layout.{slotExponent, headerAt, sizeAt, extentAt, fields}
 use Rattle.block.specs.laws.Soundness.{sound-low, sound-end, sound-live-at}
 use Rattle.block.specs.declared.header.Header.{Header}
-use Rattle.store.specs.State.{State, state, Outcome, IsAccepted, returned, value, comparisonNumber, comparisonValue, usageNumber, liveObjects, liveBytes, freeBytes, overheadBytes}
-use Rattle.store.specs.Calls.{setUpChecks, setUp, fresh, cleared, takenExtent, allocateChecks, noted, allotted, allocateFor, freeRelease, free, move, moveAnswer, load, loadAnswer, storeChecks, store, fillChecks, fill, copyChecks, copy, compare, copyTextChecks, copyText, releaseChecks, pointersTo, cuePointers, freeEach, releaseCue, freeTotal, tally}
+use Rattle.store.specs.State.{State, state, Outcome, IsAccepted, returned, value, comparisonNumber, comparisonValue, distancesNumber, startDistance, endDistance, usageNumber, liveObjects, liveBytes, freeBytes, overheadBytes}
+use Rattle.store.specs.Calls.{setUpChecks, setUp, fresh, cleared, takenExtent, allocateChecks, noted, allotted, allocateFor, freeRelease, free, move, moveAnswer, load, loadAnswer, storeChecks, store, fillChecks, fill, copyChecks, copy, compare, copyTextChecks, copyText, releaseChecks, pointersTo, cuePointers, freeEach, releaseCue, freeTotal, tally, distances}
 use Rattle.store.specs.laws.Refusals.{refused-some}
 use Rattle.store.specs.laws.SetUp.{Settable, settable-parts, set-up-declined, set-up-done, length-fresh}
 use Rattle.store.specs.laws.Opening.{Open, opening-kept}
 use Rattle.store.specs.laws.TagReading.{Stands, Located, located-object, located-leads, located-at}
 use Rattle.store.specs.laws.Access.{accessed-again}
+use Rattle.store.specs.laws.Distances.{distances-sum, in-body, start-none, distances-passed}
 use Rattle.store.specs.laws.Allocate.{Allocates, allocate-parts, allocate-declined, allocate-done, CarvedHeader, carved-header, length-allotted, allotted-exponent, allotted-header}
 use Rattle.store.specs.laws.Free.{Frees, free-parts, free-declined, free-done, length-given-back, given-back-front}
 use Rattle.store.specs.laws.Release.{free-each-none, free-each-one, cue-pointers, length-pointers, release-parts, release-declined, release-done}
@@ -34,7 +35,7 @@ use Rattle.store.specs.laws.Copy.{Copies, copy-parts, copy-declined, cop
 use Rattle.store.specs.laws.Compare.{swapped-order, transitive-order}
 use Rattle.store.specs.laws.CopyText.{CopiesText, copy-text-parts, copy-text-declined, copy-text-done}
 use Rattle.store.specs.Step.{Call, allocates, frees, moves, loads, stores, fills, copies, copiesText, allocatesFor, releases, step}
-use Rattle.store.specs.Claims.{RefusalsKeep, KeepsShape, ShapesKept, PointsBack, LeadsBack, ReadsBack, CountsAll, ComparesInOrder, EachFreed, ReleasesAll}
+use Rattle.store.specs.Claims.{RefusalsKeep, KeepsShape, ShapesKept, PointsBack, LeadsBack, ReadsBack, CountsAll, ComparesInOrder, EachFreed, ReleasesAll, Measures}
 use Rattle.store.specs.laws.Load.{load-given, load-leaves}
 use Rattle.store.specs.laws.Move.{move-leaves}
 use Rattle.store.specs.laws.Entries.{length-noted, noted-beyond, noted-entry}
@@ -45,6 +46,8 @@ use Rattle.store.specs.declared.release.Release.{Release}
 use Rattle.store.specs.declared.release.Release.the-variants as release
 use Rattle.store.specs.declared.comparing.Comparison.{Comparison}
 use Rattle.store.specs.declared.comparing.Comparison.the-variants as comparison
+use Rattle.store.specs.declared.measuring.Measurement.{Measurement}
+use Rattle.store.specs.declared.measuring.Measurement.the-variants as measurement
 use Rattle.store.specs.declared.counting.Usage.{Usage}
 use Rattle.store.specs.declared.counting.Usage.the-variants as usage
 use Rattle.store.proofs.Sweeping.{sweep-freed}
@@ -256,6 +259,11 @@ comparison-refused : (c : Comparison) → (comparisonNumber c ≡ 0 → ⊥) →
 comparison-refused (comparison.Ordered o) n = absurd (n refl)
 comparison-refused (comparison.Refused r) n = refl
 
+-- refused distances are 0
+measurement-refused : (m : Measurement) → (distancesNumber m ≡ 0 → ⊥) → (startDistance m ≡ pos 0) × (endDistance m ≡ pos 0)
+measurement-refused (measurement.Distances a b) n = absurd (n refl)
+measurement-refused (measurement.Refused r) n = (refl, refl)
+
 -- a refused answer gives no value
 answer-refused : (a : Answer) → (returned a ≡ 0 → ⊥) → value a ≡ 0
 answer-refused (Accepted v) n = absurd (n refl)
@@ -275,6 +283,7 @@ refusals-keep =
       set-up = λ s x n. ended-keeps s x (setUp s x) (ended-set-up s x) n;
       calls = λ c x n. ended-keeps (exponent x) x (step c x) (ended x c) n;
       compares = λ p q n x e. comparison-refused (compare p q n x) e;
+      distances = λ p x n. measurement-refused (distances p x) n;
       totals = λ x n. answer-refused (freeTotal x) n;
       counts = λ x n. usage-refused (tally x) n;
     }
@@ -417,3 +426,13 @@ releases-all cue x e = go (releaseChecks cue x) refl
           ap (λ (o : Outcome). value (o .answer)) (sym (release-done cue x n (y .image) (y .table) q refl))
               ∙ count ∙ sym (length-pointers s (x .image) places) ∙ ap length (sym p),
         )
+
+-- distances measure
+pub measures : Measures
+measures =
+    record {
+      sum = distances-sum;
+      body = in-body;
+      base = start-none;
+      shown = λ p h x e. rw (distances-passed p h x e) (refl, refl, refl, distances-sum h _ (unpack p));
+    }

@@ -5,7 +5,7 @@ use mathlib.Core.Bool.{Bool, true, cond, _&&_, _||_}
 use mathlib.Core.List.{List, [], _∷_, _++_}
 use lib.ListN.{length, take, drop, getD, set, replicate}
 use lib.Dec.{leb, ltb, eqb}
-use lib.IntN.{ℤ}
+use lib.IntN.{ℤ, subℕ}
 use Rattle.frame.specs.Frame.{frameStart, sameFrame}
 use Rattle.frame.specs.Pointers.{unpack, pack, goodTag, reach, moved}
 use Rattle.frame.specs.Tags.{isSmall, pointerTo, tagMatches, usedEntries, entryAt, entryOf}
@@ -29,6 +29,11 @@ use Rattle.store.specs.State.{State, Outcome, outcome, demand, andThen, 
 use Rattle.store.specs.declared.answer.Refusal.the-variants.{BadExponent, BadLength, TooFewEntries, BadSuperblock, ShortTable, Empty, Unsound, NoSpace, EntryTaken, BadTag, Dangling, Leaves, OutOfBounds, BadWidth, NotBase, TooLarge, Unterminated, EntryLost, WrongTotal}
 use Rattle.store.specs.declared.answer.Answer.{Answer}
 use Rattle.store.specs.declared.answer.Answer.the-variants.{Accepted, Refused}
+use Rattle.store.specs.declared.locate.Reading.{Reading}
+use Rattle.store.specs.declared.locate.Found.{Found}
+use Rattle.store.specs.declared.locate.Found.the-variants as found
+use Rattle.store.specs.declared.measuring.Measurement.{Measurement}
+use Rattle.store.specs.declared.measuring.Measurement.the-variants as measurement
 use Rattle.store.specs.declared.release.Release.{Release}
 use Rattle.store.specs.declared.release.Release.the-variants as release
 use Rattle.store.specs.declared.comparing.Comparison.{Comparison}
@@ -140,6 +145,29 @@ unfoldable pub located : ℕ → Pointer → State → Answer
 located s p x =
     demand (goodTag s p) BadTag (demand (leadsBack s p x) Dangling (Accepted (headerPlace s p (x .table))))
 
+-- The tag reader's promise: the object, and how far the pointer's address is from both its ends.
+
+-- the address less the base of the object at h: negative before it
+unfoldable pub fromStart : ℕ → Pointer → ℤ
+fromStart h p = subℕ (p .address) (h + 16)
+
+-- the end of the body of an object of `size` bytes at h less the address: negative past it
+unfoldable pub toEnd : ℕ → ℕ → Pointer → ℤ
+toEnd h size p = subℕ (h + 16 + size) (p .address)
+
+-- what is read of a pointer to that object
+abbrev pub reading : ℕ → ℕ → Pointer → Reading
+reading h size p = record { header = h; base = h + 16; size = size; offset = fromStart h p; remaining = toEnd h size p }
+
+-- what follows where the tests of a tag are passed
+unfoldable pub foundAt : Answer → List ℕ → Pointer → Found
+foundAt (Accepted h) image p = found.At (reading h (sizeAt image h) p)
+foundAt (Refused r) image p = found.Refused r
+
+-- what reading a tag answers
+unfoldable pub readTag : ℕ → Pointer → State → Found
+readTag s p x = foundAt (located s p x) (x .image) p
+
 -- 13: n bytes from the pointer's address on lie in the body of the object at h
 unfoldable pub inBody : List ℕ → ℕ → Pointer → ℕ → Bool
 inBody image h p n = leb (h + 16) (p .address) && leb (p .address + n) (h + 16 + sizeAt image h)
@@ -147,6 +175,21 @@ inBody image h p n = leb (h + 16) (p .address) && leb (p .address + n) (h + 16 +
 -- n bytes through a pointer: 10, 11, 13; the number is the address
 unfoldable pub accessed : ℕ → Pointer → ℕ → State → Answer
 accessed s p n x = andThen (located s p x) λ h. demand (inBody (x .image) h p n) OutOfBounds (Accepted (p .address))
+
+-- Distances: 10, 11. Outside the body, too: no 13.
+
+-- its tests; the number is the header's place
+unfoldable pub distancesChecks : ℕ → State → Answer
+distancesChecks word x = andThen (opening x) λ s. located s (unpack word) x
+
+-- what follows where they are passed
+unfoldable pub distancesAt : Answer → List ℕ → Pointer → Measurement
+distancesAt (Accepted h) image p = measurement.Distances (fromStart h p) (toEnd h (sizeAt image h) p)
+distancesAt (Refused r) image p = measurement.Refused r
+
+-- its answer: how far the pointer is from the start and from the end of its object's body
+unfoldable pub distances : ℕ → State → Measurement
+distances word x = distancesAt (distancesChecks word x) (x .image) (unpack word)
 
 -- Move: 10, 12.
 

@@ -2,18 +2,20 @@
 -- balance of tally, that compare is an order, and that a release frees all objects of its cue. Assumes nothing.
 use Prim.Native.Nat.{ℕ, _+_, _^_, _<_}
 use mathlib.Core.Path.{_≡_}
-use mathlib.Core.Bool.{true}
+use mathlib.Core.Bool.{true, _&&_}
 use mathlib.Core.List.{List, [], _∷_}
+use mathlib.Core.Logic.{_↔_}
 use lib.ListN.{length, drop}
-use lib.IntN.{pos, negℤ}
+use lib.IntN.{pos, negℤ, _+ℤ_}
 use lib.Signed.{leZ}
 use Rattle.frame.specs.Pointers.{unpack, pack, goodTag}
 use Rattle.frame.specs.Tags.{pointerTo, usedEntries}
+use Rattle.frame.specs.declared.parts.Pointer.{Pointer}
 use Rattle.block.specs.Layout.{slotExponent, typeAt, sizeAt, cueAt}
 use Rattle.block.specs.Walk.{firstFit}
 use Rattle.block.specs.declared.walk.Fit.the-variants as fit
-use Rattle.store.specs.State.{State, IsAccepted, returned, value, comparisonNumber, comparisonValue, usageNumber, liveObjects, liveBytes, freeBytes, overheadBytes, Balances}
-use Rattle.store.specs.Calls.{setUp, allocateFor, load, store, free, compare, cuePointers, releaseCue, freeTotal, tally, leadsBack, headerPlace, located}
+use Rattle.store.specs.State.{State, IsAccepted, returned, value, comparisonNumber, comparisonValue, distancesNumber, startDistance, endDistance, usageNumber, liveObjects, liveBytes, freeBytes, overheadBytes, Balances}
+use Rattle.store.specs.Calls.{setUp, allocateFor, load, store, free, compare, cuePointers, releaseCue, freeTotal, tally, leadsBack, headerPlace, located, reading, inBody, distancesChecks, distances}
 use Rattle.store.specs.Step.{Call, step}
 use Rattle.store.specs.declared.answer.Answer.the-variants.{Accepted}
 
@@ -22,6 +24,9 @@ pub record RefusalsKeep : Type 0 where
   pub set-up : (s : ℕ) (x : State) → (IsAccepted (setUp s x) → ⊥) → (setUp s x .after ≡ x) × (value (setUp s x .answer) ≡ 0)
   pub calls : (c : Call) (x : State) → (IsAccepted (step c x) → ⊥) → (step c x .after ≡ x) × (value (step c x .answer) ≡ 0)
   pub compares : (p q n : ℕ) (x : State) → (comparisonNumber (compare p q n x) ≡ 0 → ⊥) → comparisonValue (compare p q n x) ≡ pos 0
+  pub distances :
+      (p : ℕ) (x : State) → (distancesNumber (distances p x) ≡ 0 → ⊥)
+      → (startDistance (distances p x) ≡ pos 0) × (endDistance (distances p x) ≡ pos 0)
   pub totals : (x : State) → (returned (freeTotal x) ≡ 0 → ⊥) → value (freeTotal x) ≡ 0
   pub counts :
       (x : State) → (usageNumber (tally x) ≡ 0 → ⊥)
@@ -33,7 +38,8 @@ KeepsShape s x y =
     (length (y .image) ≡ length (x .image)) × (length (y .table) ≡ length (x .table))
     × (drop (usedEntries s (length (x .image))) (y .table) ≡ drop (usedEntries s (length (x .image))) (x .table))
 
--- No call changes a length, or writes a table entry beyond the used ones; compare, free total and tally leave all as it was, by their definitions.
+-- No call changes a length, or writes a table entry beyond the used ones; compare, distances, free total and tally leave all as it was, by their
+-- definitions.
 pub record ShapesKept : Type 0 where
   pub set-up : (s : ℕ) (x : State) → KeepsShape s x (setUp s x .after)
   pub calls : (c : Call) (x : State) → KeepsShape (slotExponent (x .image)) x (step c x .after)
@@ -90,3 +96,16 @@ unfoldable pub ReleasesAll : Type 0
 ReleasesAll =
     (cue : ℕ) (x : State) → IsAccepted (releaseCue cue x)
     → EachFreed (cuePointers cue (x .image)) x × (value (releaseCue cue x .answer) ≡ length (cuePointers cue (x .image)))
+
+-- The distances, as a tag is read, on every image: their sum is the size; row 13 is two signed tests of them, and row 15 one. Those that the call gives are
+-- the same.
+pub record Measures : Type 0 where
+  pub sum : (h size : ℕ) (p : Pointer) → reading h size p .offset +ℤ reading h size p .remaining ≡ pos size
+  pub body :
+      (image : List ℕ) (h : ℕ) (p : Pointer) (n : ℕ) → let o = reading h (sizeAt image h) p in
+      inBody image h p n ≡ leZ (pos 0) (o .offset) && leZ (pos n) (o .remaining)
+  pub base : (h size : ℕ) (p : Pointer) → (reading h size p .offset ≡ pos 0) ↔ (p .address ≡ h + 16)
+  pub shown :
+      (p h : ℕ) (x : State) → distancesChecks p x ≡ Accepted h → let o = reading h (sizeAt (x .image) h) (unpack p) in
+      (distancesNumber (distances p x) ≡ 0) × (startDistance (distances p x) ≡ o .offset) × (endDistance (distances p x) ≡ o .remaining)
+      × (startDistance (distances p x) +ℤ endDistance (distances p x) ≡ pos (sizeAt (x .image) h))

@@ -15,11 +15,12 @@ use Rattle.block.specs.Order.{compareBytes}
 use Rattle.block.specs.Text.{textFrom, textOf}
 use Rattle.block.specs.Layout.{superblock, withTotal, superblockGood, header, headerAt, wellFormed, sound, isFree, extentAt}
 use Rattle.block.specs.Walk.{Search, walkIn, walkFrom, walk, fitOf, firstFit, metOf, walkTo, countOf, countBlocks, walkCue}
-use Rattle.store.specs.State.{State, state, Outcome, returned, value, comparisonNumber, comparisonValue, usageNumber, liveObjects, liveBytes, freeBytes, overheadBytes}
-use Rattle.store.specs.Calls.{setUpChecks, fresh, setUp, opening, entryHolds, fitAnswer, takenExtent, allocateChecks, carved, noted, allocateFor, allocate, headerPlace, verified, leadsBack, located, inBody, accessed, movedAnswer, moveAnswer, move, loadAnswer, load, storeChecks, store, copyChecks, compared, compare, textAnswer, textAt, copyTextChecks, copyText, mergeEnd, mergeStart, released, freeChecks, releasedAt, totalFits, totalled, freeRelease, merged, freed, free, gatheredAnswer, placesOf, allHeld, extentsOf, releaseChecks, pointersTo, cuePointers, freeEach, releaseCue, freeTotal, tallyOpened, tallyCounted, tally}
+use Rattle.store.specs.State.{State, state, Outcome, returned, value, comparisonNumber, comparisonValue, distancesNumber, startDistance, endDistance, usageNumber, liveObjects, liveBytes, freeBytes, overheadBytes}
+use Rattle.store.specs.Calls.{setUpChecks, fresh, setUp, opening, entryHolds, fitAnswer, takenExtent, allocateChecks, carved, noted, allocateFor, allocate, headerPlace, verified, leadsBack, located, fromStart, toEnd, inBody, accessed, distancesChecks, distancesAt, distances, movedAnswer, moveAnswer, move, loadAnswer, load, storeChecks, store, copyChecks, compared, compare, textAnswer, textAt, copyTextChecks, copyText, mergeEnd, mergeStart, released, freeChecks, releasedAt, totalFits, totalled, freeRelease, merged, freed, free, gatheredAnswer, placesOf, allHeld, extentsOf, releaseChecks, pointersTo, cuePointers, freeEach, releaseCue, freeTotal, tallyOpened, tallyCounted, tally}
 use Rattle.store.specs.Step as call
 use Rattle.store.specs.declared.answer.Answer.{Answer}
 use Rattle.store.specs.declared.comparing.Comparison.{Comparison}
+use Rattle.store.specs.declared.measuring.Measurement.{Measurement}
 use Rattle.store.specs.declared.counting.Usage.{Usage}
 
 -- A case: what it starts from, and what the documents say of it. An image of L bytes is set up, and the sizes `before` are allocated.
@@ -60,6 +61,8 @@ pub data Case : Type 0 where
   -- W7: objects of these sizes and cues; with another free total, table entry and byte a call returns that number, and free total gives `left` then; a
   -- refusal leaves image and table as they are
   retotals : (L : ℕ) (sizes cues : List ℕ) (total index v at byte : ℕ) (c : call.Call) (number left : ℕ) → Case
+  -- W8: with so many table entries and another byte, the distances of a pointer: the returned number, and both values
+  measures : (L : ℕ) (before : List ℕ) (entries at byte pointer number : ℕ) (start end : ℤ) → Case
 
 -- a store set up on an image and table that were full of other bytes
 abbrev begun : ℕ → State
@@ -174,6 +177,10 @@ holds (retotals L sizes cues total index v at byte c number left) =
     eqb (returned (o .answer)) number
     && (eqb (value (freeTotal (o .after))) left
     && cond (eqb number 0) true (sameNumbers (o .after .image) (y .image) && sameNumbers (o .after .table) (y .table)))
+holds (measures L before entries at byte pointer number start end) =
+    let x : State = placed before (begun L) in
+    let m : Measurement = distances pointer (state (set (x .image) at byte) (take entries (x .table))) in
+    eqb (distancesNumber m) number && (equal (startDistance m) start && equal (endDistance m) end)
 
 abbrev pub all : List Case → Bool
 all [] = true
@@ -212,6 +219,8 @@ cases =
     ∷ declined 64 [] 33 8
     ∷ accesses 1024 (10 ∷ []) 0x8010000000000027 3 0x00FFFFFF 0 0 0x00FFFFFF
     ∷ accesses 1024 (10 ∷ []) 0x8010000000000028 3 0x00FFFFFF 13 13 0
+    ∷ accesses 1024 (10 ∷ []) 0x801000000000001F 1 0 13 13 0
+    ∷ accesses 1024 (10 ∷ []) 0x801000000000002A 1 0 13 13 0
     ∷ accesses 1024 (10 ∷ []) 0x8010000000000027 3 0x01000000 16 0 0
     ∷ accesses 1024 (10 ∷ []) 0x8010000000000020 0 0 14 14 0
     ∷ accesses 1024 (10 ∷ []) 0x8010000000000020 9 0 14 14 0
@@ -310,8 +319,43 @@ cases =
     ∷ retotals 256 four inTurn 0xFFFFFFFF 2 0 78 1 (call.releases 7) 7 0xFFFFFFFF
     ∷ retotals 256 four inTurn 0xFFFFFFFF 2 0 0 16 (call.stores 0x8010000000000020 4 5) 0 0xFFFFFFFF
     ∷ retotals 256 four inTurn 113 2 0 4 0 (call.loads 0x8010000000000020 4) 4 0
+    ∷ measures 1024 (10 ∷ []) 400 0 16 0x8010000000000020 0 (pos 0) (pos 10)
+    ∷ measures 1024 (10 ∷ []) 400 0 16 0x801000000000001F 0 (negsuc 0) (pos 11)
+    ∷ measures 1024 (10 ∷ []) 400 0 16 0x8010000000000029 0 (pos 9) (pos 1)
+    ∷ measures 1024 (10 ∷ []) 400 0 16 0x801000000000002A 0 (pos 10) (pos 0)
+    ∷ measures 1024 (10 ∷ []) 400 0 16 0x801000000000002B 0 (pos 11) (negsuc 0)
+    ∷ measures 1024 (10 ∷ []) 400 0 16 0x8010000000000010 0 (negsuc 15) (pos 26)
+    ∷ measures 1024 (10 ∷ []) 400 0 16 0x801000000000000F 0 (negsuc 16) (pos 27)
+    ∷ measures 1024 (10 ∷ []) 400 0 16 0x8010000000000000 0 (negsuc 31) (pos 42)
+    ∷ measures 1024 (10 ∷ []) 400 0 16 0x801000000000003F 0 (pos 31) (negsuc 20)
+    ∷ measures 1024 (10 ∷ 20 ∷ []) 400 0 16 0x000700000000003A 0 (pos 0) (pos 20)
+    ∷ measures 1024 (10 ∷ 20 ∷ []) 400 0 16 0x0007000000000039 0 (negsuc 0) (pos 21)
+    ∷ measures 1024 (10 ∷ 20 ∷ []) 400 0 16 0x000700000000004E 0 (pos 20) (pos 0)
+    ∷ measures 1024 (10 ∷ 20 ∷ []) 400 0 16 0x000700000000002A 0 (negsuc 15) (pos 36)
+    ∷ measures 1024 (10 ∷ 20 ∷ []) 400 0 16 0x0007000000000000 0 (negsuc 57) (pos 78)
+    ∷ measures 1024 (10 ∷ 20 ∷ []) 400 0 16 0x000700000000007F 0 (pos 69) (negsuc 48)
+    ∷ measures 1024 (992 ∷ []) 400 0 16 0x000B000000000020 0 (pos 0) (pos 992)
+    ∷ measures 1024 (992 ∷ []) 400 0 16 0x000B0000000007FF 0 (pos 2015) (negsuc 1022)
+    ∷ measures 64 (17 ∷ []) 400 0 16 0x8010000000000020 0 (pos 0) (pos 17)
+    ∷ measures 64 (17 ∷ []) 400 0 16 0x8010000000000032 0 (pos 18) (negsuc 0)
+    ∷ measures 64 (32 ∷ []) 400 0 16 0x000700000000007F 0 (pos 95) (negsuc 62)
+    ∷ measures 1024 (10 ∷ []) 400 4 0 0x8010000000000020 4 (pos 0) (pos 0)
+    ∷ measures 1024 (10 ∷ []) 383 0 16 0x8010000000000020 5 (pos 0) (pos 0)
+    ∷ measures 1024 (10 ∷ []) 384 0 16 0x8010000000000020 0 (pos 0) (pos 10)
+    ∷ measures 1024 (10 ∷ []) 383 4 0 0 4 (pos 0) (pos 0)
+    ∷ measures 1024 (10 ∷ []) 383 0 16 0 5 (pos 0) (pos 0)
+    ∷ measures 1024 (10 ∷ []) 400 0 16 0 10 (pos 0) (pos 0)
+    ∷ measures 1024 (10 ∷ []) 400 0 16 0x8040000000000020 10 (pos 0) (pos 0)
+    ∷ measures 1024 (10 ∷ []) 400 0 16 0x0006000000000020 10 (pos 0) (pos 0)
+    ∷ measures 1024 (10 ∷ []) 400 0 16 0x0020FFFFFFFFFFFF 10 (pos 0) (pos 0)
+    ∷ measures 1024 (10 ∷ []) 400 0 16 0x802A000000000020 11 (pos 0) (pos 0)
+    ∷ measures 1024 (10 ∷ []) 400 0 16 0x8010000000000060 11 (pos 0) (pos 0)
+    ∷ measures 1024 (10 ∷ []) 400 0 16 0x8010000000000420 11 (pos 0) (pos 0)
+    ∷ measures 1024 (10 ∷ []) 400 0 16 0x8010FFFFFFFFFFFF 11 (pos 0) (pos 0)
+    ∷ measures 1024 (10 ∷ []) 400 0 16 0x000700000000003A 11 (pos 0) (pos 0)
+    ∷ measures 1024 (10 ∷ []) 400 20 1 0x8010000000000020 11 (pos 0) (pos 0)
     ∷ []
 
 pub worked : T (all cases)
-unfolding frameNumber frameNumberIn unpack pack goodTag reach landed moved wrapper tagNumber pointerTo tagMatches usedEntries entryAt encode decode field put superblock withTotal superblockGood header headerAt wellFormed sound walkIn walkFrom walk fitOf firstFit setUpChecks fresh setUp opening entryHolds fitAnswer takenExtent allocateChecks carved noted allocateFor headerPlace verified leadsBack located inBody accessed movedAnswer moveAnswer move loadAnswer load storeChecks store compareBytes textFrom textOf copyChecks compared compare textAnswer textAt copyTextChecks copyText countOf countBlocks tallyOpened tallyCounted tally metOf walkTo mergeEnd mergeStart released freeChecks releasedAt totalFits totalled freeRelease merged freed free walkCue gatheredAnswer placesOf allHeld extentsOf releaseChecks pointersTo cuePointers freeEach releaseCue freeTotal
+unfolding frameNumber frameNumberIn unpack pack goodTag reach landed moved wrapper tagNumber pointerTo tagMatches usedEntries entryAt encode decode field put superblock withTotal superblockGood header headerAt wellFormed sound walkIn walkFrom walk fitOf firstFit setUpChecks fresh setUp opening entryHolds fitAnswer takenExtent allocateChecks carved noted allocateFor headerPlace verified leadsBack located fromStart toEnd inBody accessed distancesChecks distancesAt distances movedAnswer moveAnswer move loadAnswer load storeChecks store compareBytes textFrom textOf copyChecks compared compare textAnswer textAt copyTextChecks copyText countOf countBlocks tallyOpened tallyCounted tally metOf walkTo mergeEnd mergeStart released freeChecks releasedAt totalFits totalled freeRelease merged freed free walkCue gatheredAnswer placesOf allHeld extentsOf releaseChecks pointersTo cuePointers freeEach releaseCue freeTotal
 worked = tt

@@ -11,6 +11,8 @@ use Rattle.store.specs.declared.answer.Answer.{Answer}
 use Rattle.store.specs.declared.answer.Answer.the-variants.{Accepted, Refused}
 use Rattle.store.specs.declared.comparing.Comparison.{Comparison}
 use Rattle.store.specs.declared.comparing.Comparison.the-variants as comparison
+use Rattle.store.specs.declared.measuring.Measurement.{Measurement}
+use Rattle.store.specs.declared.measuring.Measurement.the-variants as measurement
 use Rattle.store.specs.declared.counting.Usage.{Usage}
 use Rattle.store.specs.declared.counting.Usage.the-variants as usage
 
@@ -84,6 +86,21 @@ comparisonNumber (comparison.Refused r) = refusalNumber r
 abbrev pub comparisonValue : Comparison → ℤ
 comparisonValue (comparison.Ordered o) = sign o
 comparisonValue (comparison.Refused r) = pos 0
+
+-- the number that distances returns: 0 where it is accepted
+abbrev pub distancesNumber : Measurement → ℕ
+distancesNumber (measurement.Distances a b) = 0
+distancesNumber (measurement.Refused r) = refusalNumber r
+
+-- the distance from the start that it gives: 0 where it is refused
+abbrev pub startDistance : Measurement → ℤ
+startDistance (measurement.Distances a b) = a
+startDistance (measurement.Refused r) = pos 0
+
+-- the distance to the end that it gives: 0 where it is refused
+abbrev pub endDistance : Measurement → ℤ
+endDistance (measurement.Distances a b) = b
+endDistance (measurement.Refused r) = pos 0
 
 -- An image with its frame table.
 pub record State : Type 0 where

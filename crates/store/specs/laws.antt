@@ -5,6 +5,7 @@ pub mod Opening
 pub mod Entries
 pub mod TagReading
 pub mod Access
+pub mod Distances
 pub mod Total
 -- each call
 pub mod SetUp

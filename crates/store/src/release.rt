@@ -100,11 +100,10 @@ fn releasable(image: &[u8], table: &[u64], s: u32, pointer: u64) -> Release
     requires { ⌜ opening (state (now image) (now table)) ≡ Answer.Accepted s ⌝ }
     ensures { λ r. ⌜ r ≡ freeRelease pointer (state (now (image .entry)) (now (table .entry))) ⌝ }
 {
-    let p = Pointer::unpack(pointer);
-    match locate(image, table, s, p) {
+    match locate(image, table, s, pointer) {
         Found::Refused(r) => Release::Refused(r),
         Found::At(o) => {
-            if p.address != o.header + 16 {
+            if o.offset != 0 {
                 return Release::Refused(Refusal::NotBase);
             }
             mergeable(image, o.header)

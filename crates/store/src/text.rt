@@ -19,20 +19,14 @@ fn text_at(image: &[u8], table: &[u64], s: u32, pointer: u64) -> Answer
     requires { ⌜ opening (state (now image) (now table)) ≡ Answer.Accepted s ⌝ }
     ensures { λ r. ⌜ r ≡ textAt s (unpack pointer) (state (now (image .entry)) (now (table .entry))) ⌝ }
 {
-    let p = Pointer::unpack(pointer);
-    match locate(image, table, s, p) {
+    match locate(image, table, s, pointer) {
         Found::Refused(r) => Answer::Refused(r),
         Found::At(o) => {
-            let base = o.header + 16;
-            let end = base + o.size;
-            let at = p.address;
-            if at < base {
+            if !o.in_body(1) {
                 return Answer::Refused(Refusal::OutOfBounds);
             }
-            if end <= at {
-                return Answer::Refused(Refusal::OutOfBounds);
-            }
-            match find_text(image, at as usize, (end - at) as usize) {
+            let at = Pointer::unpack(pointer).address;
+            match find_text(image, at as usize, o.remaining as usize) {
                 Text::Ends(n) => Answer::Accepted(n),
                 Text::Endless => Answer::Refused(Refusal::Unterminated),
             }

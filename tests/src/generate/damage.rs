@@ -5,7 +5,7 @@ use crate::case::{Action, Arg, Damage, View};
 use crate::model::{Header, Pointer, TOTAL};
 use crate::store::Call;
 
-const DAMAGES: [(u64, Make); 9] = [
+const DAMAGES: [(u64, Make); 10] = [
     (2, Generator::misuse),
     (2, Generator::damage_superblock),
     (2, Generator::damage_byte),
@@ -15,6 +15,7 @@ const DAMAGES: [(u64, Make); 9] = [
     (16, Generator::damage_total),
     (1, Generator::short_image),
     (1, Generator::low_header),
+    (4, Generator::damage_for_distances),
 ];
 
 /// The sixteen bytes at `at`.
@@ -85,6 +86,7 @@ impl Generator {
         self.overwrite(15, Header::live(16 + size + spare, 0, size as u32, 0).bytes());
         self.push(Action::Damage(Damage::EntryOf { of: pointer, value: None }));
         self.call(Call::Load { pointer, width: 1 });
+        self.call(Call::Distances { pointer });
         self.call(Call::Free { pointer });
         self.push(Action::Damage(Damage::EntryOf { of: pointer, value: Some(0) }));
         self.overwrite(15, before);

@@ -78,7 +78,7 @@ impl Generator {
     }
 
     fn use_forged(&mut self, view: &View<'_>, pointer: Arg, size: u32) {
-        match self.random.below(11) {
+        match self.random.below(12) {
             0..3 => {
                 let width = self.width();
                 self.call(Call::Load { pointer, width });
@@ -96,12 +96,13 @@ impl Generator {
                 let right = self.live_start();
                 self.call(Call::Compare { left: pointer, right, length });
             }
+            7 => self.distances_around(pointer, view.answers.resolve(pointer), size),
             _ if self.mode == Mode::History => {}
-            7 => {
+            8 => {
                 let value = self.random.word();
                 self.call(Call::Store { pointer, width: 8, value });
             }
-            8 => {
+            9 => {
                 let other = self.live_start();
                 let (target, source) = self.random.pick(&[(pointer, other), (other, pointer)]);
                 self.call(Call::CopyText { target, source });

@@ -1,11 +1,13 @@
-//! What occurs in the calls with two pointers, in release, and with the free total, beside their answers: seen in image and
-//! table as they were before.
+//! What occurs in the calls with two pointers, in release, with the free total, and in distances, beside their answers: seen in
+//! image and table as they were before.
 
+mod distances;
 mod releases;
 mod totals;
 
 use crate::model::{self, Pointer};
 use crate::store::{Answer, Call};
+use distances::Distances;
 use releases::Releases;
 use std::fmt;
 use totals::Totals;
@@ -26,6 +28,7 @@ pub struct Seen {
     texts: [u64; TEXTS.len()],
     releases: Releases,
     totals: Totals,
+    distances: Distances,
 }
 
 /// A pointer, the bytes from its address to its body's end, and those behind. A pointer whose first byte is refused has none.
@@ -114,6 +117,7 @@ impl Seen {
             Call::Compare { left, right, length } => (1, left, right, length as usize),
             Call::CopyText { target, source } => (2, source, target, 1),
             Call::Release { cue } => return self.releases.look(image, table, cue, answer),
+            Call::Distances { pointer } => return self.distances.look(image, table, pointer, answer),
             _ => return,
         };
         let Ok(s) = model::open(image, table) else { return };
@@ -147,6 +151,7 @@ impl Seen {
         all.extend(TEXTS.iter().zip(self.texts).map(|((what, _), count)| (format!("text copy: {what}"), count)));
         all.extend(self.releases.all().map(|(what, count)| (format!("release: {what}"), count)));
         all.extend(self.totals.all().map(|(call, what, count)| (format!("{call}, total: {what}"), count)));
+        all.extend(self.distances.all().map(|(what, count)| (format!("distances: {what}"), count)));
         all
     }
 
@@ -166,6 +171,7 @@ impl fmt::Display for Seen {
         writeln!(f, "accepted by the place of the first difference 0..{}: {:?}", PLACES - 1, self.differences)?;
         writeln!(f, "text copies: {}", list(&TEXTS, &self.texts))?;
         writeln!(f, "releases: {}", self.releases.all().map(|(what, count)| format!("{what} {count}")).collect::<Vec<_>>().join(", "))?;
-        write!(f, "free totals: {}", self.totals.all().map(|(call, what, count)| format!("{call} {what} {count}")).collect::<Vec<_>>().join(", "))
+        writeln!(f, "free totals: {}", self.totals.all().map(|(call, what, count)| format!("{call} {what} {count}")).collect::<Vec<_>>().join(", "))?;
+        write!(f, "distances: {}", self.distances.all().map(|(what, count)| format!("{what} {count}")).collect::<Vec<_>>().join(", "))
     }
 }

@@ -2,6 +2,7 @@
 
 mod compares;
 mod cues;
+mod distances;
 mod texts;
 mod totals;
 

@@ -392,6 +392,14 @@ fn largest_image<S: Store>(store: S) {
     // e may be pointed to, but not read
     let end = lent.moved(pointer, (1 << 30) - 32).unwrap();
     assert_eq!(lent.refusal(Call::Load { pointer: end, width: 1 }), 13);
+    // the frame of 2^31 bytes, half of it behind the image
+    let size = (1 << 30) - 32;
+    for at in [-32, -16, -1, 0, 1, size - 1, size, size + 1, (1 << 31) - 33] {
+        let moved = lent.moved(pointer, at).unwrap();
+        assert_eq!(lent.call(Call::Distances { pointer: moved }), Answer::new(0, [at as u64, (size - at) as u64]), "{at}");
+    }
+    assert_eq!(lent.moved(pointer, (1 << 31) - 32), Err(12));
+    assert_eq!(lent.call(Call::Distances { pointer: pointer + (1 << 31) - 32 }), Answer::new(11, []));
     // the longest text
     let length = (1 << 30) - 32;
     assert_eq!(lent.refusal(Call::Fill { pointer, length: length - 1, value: b'_' }), 0);
@@ -466,4 +474,5 @@ on_each_store!(set_up in_succession largest_small moves bounds widths compares t
 on_each_store!(tallies kinds largest_image past_the_largest_image past_32_bits);
 
 mod cues;
+mod distances;
 mod totals;

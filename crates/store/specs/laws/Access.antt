@@ -1,5 +1,5 @@
 -- Bytes through a pointer: rows 10, 11 and 13. Assumes nothing.
-use Prim.Native.Nat.{ℕ, _+_, _≤_, _<_}
+use Prim.Native.Nat.{ℕ, _+_, _≤_}
 use mathlib.Core.Path.{_≡_, refl, sym, ap, _∙_}
 use mathlib.Core.Bool.{Bool, true, false, _&&_, cond}
 use mathlib.Core.List.{List}
@@ -7,7 +7,7 @@ use mathlib.Core.Logic.{_↔_, inl}
 use native.Mathlib.Omega.{arith}
 use lib.Dec.{leb}
 use lib.ListN.{length}
-use borrow.Author.Tests.{leb-true, le-leb, lt-leb}
+use borrow.Author.Tests.{leb-true, le-leb}
 use Rattle.frame.specs.declared.parts.Pointer.{Pointer}
 use Rattle.block.specs.laws.Booleans.{true-false, and-left, and-right}
 use Rattle.block.specs.Layout.{sizeAt}
@@ -31,16 +31,28 @@ pub record Accessed (s : ℕ) (p : Pointer) (n : ℕ) (x : State) (a : ℕ) : Ty
   pub high : a + n ≤ header + 16 + sizeAt (x .image) header
   pub inside : a + n ≤ length (x .image)
 
+-- where the bytes of a body lie
+pub body-range : (image : List ℕ) (h : ℕ) (p : Pointer) (n : ℕ) → inBody image h p n ≡ true → (h + 16 ≤ p .address) × (p .address + n ≤ h + 16 + sizeAt image h)
+unfolding inBody
+body-range image h p n b = (
+  leb-true _ _ (and-left _ (leb (p .address + n) (h + 16 + sizeAt image h)) b),
+  leb-true _ _ (and-right (leb (h + 16) (p .address)) _ b),
+)
+
+-- and the other way
+range-body : (image : List ℕ) (h : ℕ) (p : Pointer) (n : ℕ) → h + 16 ≤ p .address → p .address + n ≤ h + 16 + sizeAt image h → inBody image h p n ≡ true
+unfolding inBody
+range-body image h p n low high = rw (le-leb _ _ low, le-leb _ _ high)
+
 -- accepted bytes pass them
 pub accessed-parts : (s : ℕ) (p : Pointer) (n : ℕ) (x : State) (a : ℕ) → accessed s p n x ≡ Accepted a → Accessed s p n x a
-unfolding accessed inBody
+unfolding accessed
 accessed-parts s p n x a e =
     let (h, l, m) = and-then-met (located s p x) _ a e in
     let b = demand-met (inBody (x .image) h p n) OutOfBounds _ a m in
     let q : a ≡ p .address = cc in
     let o = located-parts s p x h l in
-    let low : h + 16 ≤ p .address = leb-true _ _ (and-left _ (leb (p .address + n) (h + 16 + sizeAt (x .image) h)) (b .0)) in
-    let high : p .address + n ≤ h + 16 + sizeAt (x .image) h = leb-true _ _ (and-right (leb (h + 16) (p .address)) _ (b .0)) in
+    let (low, high) = body-range (x .image) h p n (b .0) in
     let inside = located-inside s p x h o in
     record { header = h; object = o; address = q; low = omega arith; high = omega arith; inside = omega arith }
 
@@ -59,14 +71,13 @@ module _ (s : ℕ) (p : Pointer) (n : ℕ) (x : State) where
   not-located r e = rw e
 
   module _ (h : ℕ) (l : located s p x ≡ Accepted h) where
-    pub below-base : p .address < h + 16 → Refused OutOfBounds ≡ accessed s p n x
-    below-base b = rw (accessed-at s p n x h l, lt-leb _ _ b) refl
+    pub outside-body : inBody (x .image) h p n ≡ false → Refused OutOfBounds ≡ accessed s p n x
+    unfolding accessed
+    outside-body b = rw (l, b)
 
-    pub past-end : h + 16 ≤ p .address → h + 16 + sizeAt (x .image) h < p .address + n → Refused OutOfBounds ≡ accessed s p n x
-    past-end b e = rw (accessed-at s p n x h l, le-leb _ _ b, lt-leb _ _ e) refl
-
-    pub within-body : h + 16 ≤ p .address → p .address + n ≤ h + 16 + sizeAt (x .image) h → Accepted (p .address) ≡ accessed s p n x
-    within-body b e = rw (accessed-at s p n x h l, le-leb _ _ b, le-leb _ _ e) refl
+    pub within-body : inBody (x .image) h p n ≡ true → Accepted (p .address) ≡ accessed s p n x
+    unfolding accessed
+    within-body b = rw (l, b)
 
 -- the same bytes, once others are put there
 pub accessed-again : (s : ℕ) (p : Pointer) (n : ℕ) (x : State) (a : ℕ) (bs : List ℕ) → Accessed s p n x a → length bs ≡ n
@@ -79,7 +90,7 @@ accessed-again s p n x a bs k e =
     in
     sym
     (within-body s p n y (k .header) (located-at s p y (k .header) (located-kept s p x (k .header) a bs (k .object) (k .low) fits))
-    (omega (arith, k .low, k .address)) (omega (arith, k .high, k .address, size)))
+    (range-body (y .image) (k .header) p n (omega (arith, k .low, k .address)) (omega (arith, k .high, k .address, size))))
     ∙ ap Accepted (sym (k .address))
 
 -- bytes put at an address, where the test holds, with the value that the call gives

@@ -5,13 +5,11 @@ use mathlib.Core.Bool.{Bool, true, false, _&&_}
 use native.Mathlib.Omega.{arith}
 use lib.Dec.{leb}
 use lib.ListN.{length, take, drop, length-take}
-use borrow.Author.Tests.{leb-true, le-leb, lt-leb}
 use Rattle.frame.specs.Pointers.{unpack}
 use Rattle.frame.specs.declared.parts.Pointer.{Pointer}
 use Rattle.block.specs.Bytes.{put}
 use Rattle.block.specs.Layout.{sizeAt}
 use Rattle.block.specs.Text.{textOf}
-use Rattle.block.specs.laws.Booleans.{and-right}
 use Rattle.block.specs.laws.Text.{text-bound}
 use Rattle.block.specs.declared.text.Text.{Text}
 use Rattle.block.specs.declared.text.Text.the-variants.{Ends, Endless}
@@ -19,7 +17,7 @@ use Rattle.store.specs.State.{State, outcome, demand, refuse}
 use Rattle.store.specs.Calls.{opening, located, inBody, accessed, textAnswer, bodyFrom, textAt, copyTextChecks, copyText}
 use Rattle.store.specs.laws.Refusals.{demand-met, and-then-met}
 use Rattle.store.specs.laws.TagReading.{located-parts, located-inside}
-use Rattle.store.specs.laws.Access.{Accessed, accessed-parts, through}
+use Rattle.store.specs.laws.Access.{Accessed, body-range, accessed-parts, through}
 use Rattle.store.specs.declared.answer.Refusal.{Refusal}
 use Rattle.store.specs.declared.answer.Refusal.the-variants.{OutOfBounds, Unterminated}
 use Rattle.store.specs.declared.answer.Answer.the-variants.{Accepted, Refused}
@@ -57,22 +55,21 @@ module _ (s : ℕ) (p : Pointer) (x : State) where
   text-unread r e = rw e
 
   module _ (h : ℕ) (l : located s p x ≡ Accepted h) where
-    pub text-below : p .address < h + 16 → Refused OutOfBounds ≡ textAt s p x
-    text-below b = rw (text-located s p x h l, lt-leb _ _ b) refl
+    pub text-outside : inBody (x .image) h p 1 ≡ false → Refused OutOfBounds ≡ textAt s p x
+    unfolding textAt
+    text-outside b = rw (l, b)
 
-    pub text-past : h + 16 ≤ p .address → h + 16 + sizeAt (x .image) h ≤ p .address → Refused OutOfBounds ≡ textAt s p x
-    text-past b e = rw (text-located s p x h l, le-leb _ _ b, lt-leb (p .address + 1) (h + 16 + sizeAt (x .image) h) (omega arith)) refl
-
-    pub text-within : h + 16 ≤ p .address → p .address < h + 16 + sizeAt (x .image) h → textAnswer (textOf (bodyFrom (x .image) h p)) ≡ textAt s p x
-    text-within b e = rw (text-located s p x h l, le-leb _ _ b, le-leb (p .address + 1) (h + 16 + sizeAt (x .image) h) (omega arith)) refl
+    pub text-within : inBody (x .image) h p 1 ≡ true → textAnswer (textOf (bodyFrom (x .image) h p)) ≡ textAt s p x
+    unfolding textAt
+    text-within b = rw (l, b) refl
 
 -- where rows 10, 11, 13 and 20 are passed, the text and its zero byte lie in the image
 pub text-inside : (s : ℕ) (p : Pointer) (x : State) (n : ℕ) → textAt s p x ≡ Accepted n → p .address + (n + 1) ≤ length (x .image)
-unfolding textAt inBody
+unfolding textAt
 text-inside s p x n e =
     let (h, l, m) = and-then-met (located s p x) _ n e in
     let b = demand-met (inBody (x .image) h p 1) OutOfBounds _ n m in
-    let first : p .address + 1 ≤ h + 16 + sizeAt (x .image) h = leb-true _ _ (and-right (leb (h + 16) (p .address)) _ (b .0)) in
+    let (low, first) = body-range (x .image) h p 1 (b .0) in
     let ends : n < length (bodyFrom (x .image) h p) = text-bound (bodyFrom (x .image) h p) n (text-answered (textOf (bodyFrom (x .image) h p)) n (b .1)) in
     let long : length (bodyFrom (x .image) h p) ≤ h + 16 + sizeAt (x .image) h - p .address = simp length-take (omega arith) in
     omega (arith, located-inside s p x h (located-parts s p x h l))

@@ -25,14 +25,13 @@ use Rattle.block.specs.laws.Headers.{headerAt-put-other}
 use Rattle.block.specs.laws.Soundness.{sound-same, sound-end, sound-live}
 use Rattle.block.specs.declared.header.Header.{Header}
 use Rattle.store.specs.State.{State, state, refusalNumber, demand}
-use Rattle.store.specs.Calls.{headerPlace, verified, leadsBack, located}
+use Rattle.store.specs.Calls.{headerPlace, verified, leadsBack, located, reading, foundAt, readTag}
 use Rattle.store.specs.laws.Refusals.{demand-met}
 use Rattle.store.specs.declared.answer.Refusal.{Refusal}
 use Rattle.store.specs.declared.answer.Refusal.the-variants.{BadTag, Dangling}
 use Rattle.store.specs.declared.answer.Answer.{Answer}
 use Rattle.store.specs.declared.answer.Answer.the-variants.{Accepted, Refused}
 use Rattle.store.specs.declared.locate.Reading.{Reading}
-use Rattle.store.specs.declared.locate.Found.{Found}
 use Rattle.store.specs.declared.locate.Found.the-variants as found
 
 -- the header at h is the one that the pointer was made for
@@ -214,41 +213,32 @@ module _ (s : ℕ) (p : Pointer) (x : State) where
 
 -- What the tag reader answers.
 
--- the object with its raw size, for the answer of its tests
-unfoldable pub foundAt : Answer → List ℕ → Found
-foundAt (Accepted h) image = found.At (record { header = h; size = sizeAt image h })
-foundAt (Refused r) image = found.Refused r
-
--- and for the tests of a tag
-unfoldable pub readTag : ℕ → Pointer → State → Found
-readTag s p x = foundAt (located s p x) (x .image)
-
--- its answer, by that of the tests
-pub found-by : (s : ℕ) (p : Pointer) (x : State) (a : Answer) → a ≡ located s p x → foundAt a (x .image) ≡ readTag s p x
+-- by the answer of its tests
+pub found-by : (s : ℕ) (p : Pointer) (x : State) (a : Answer) → a ≡ located s p x → foundAt a (x .image) p ≡ readTag s p x
 unfolding readTag
 found-by s p x a e = rw e
 
-pub found-refused : (r : Refusal) (image : List ℕ) → found.Refused r ≡ foundAt (Refused r) image
+pub found-refused : (r : Refusal) (image : List ℕ) (p : Pointer) → found.Refused r ≡ foundAt (Refused r) image p
 unfolding foundAt
-found-refused r image = refl
+found-refused r image p = refl
 
 -- the header's test decides on 11
 
-pub found-verified : (b : Bool) (image : List ℕ) (h size : ℕ) → b ≡ true → size ≡ sizeAt image h
-    → found.At (record { header = h; size = size }) ≡ foundAt (demand b Dangling (Accepted h)) image
+pub found-verified : (b : Bool) (image : List ℕ) (h size : ℕ) (p : Pointer) → b ≡ true → size ≡ sizeAt image h
+    → found.At (reading h size p) ≡ foundAt (demand b Dangling (Accepted h)) image p
 unfolding foundAt
-found-verified b image h size e n = rw (e, n) refl
+found-verified b image h size p e n = rw (e, n) refl
 
-pub found-dangling : (b : Bool) (image : List ℕ) (h : ℕ) → b ≡ false → found.Refused Dangling ≡ foundAt (demand b Dangling (Accepted h)) image
+pub found-dangling : (b : Bool) (image : List ℕ) (h : ℕ) (p : Pointer) → b ≡ false → found.Refused Dangling ≡ foundAt (demand b Dangling (Accepted h)) image p
 unfolding foundAt
-found-dangling b image h e = rw e
+found-dangling b image h p e = rw e
 
 -- the answers of the tests, by those of the reader
 
 -- what it found
 pub record FoundAt (s : ℕ) (p : Pointer) (x : State) (o : Reading) : Type 0 where
   pub tested : located s p x ≡ Accepted (o .header)
-  pub size-is : o .size ≡ sizeAt (x .image) (o .header)
+  pub read : o ≡ reading (o .header) (sizeAt (x .image) (o .header)) p
   pub object : Located s p x (o .header)
 
 pub read-found : (s : ℕ) (p : Pointer) (x : State) (o : Reading) → readTag s p x ≡ found.At o → FoundAt s p x o
@@ -257,13 +247,9 @@ read-found s p x o e = go (located s p x) refl
   where
     go : (a : Answer) → located s p x ≡ a → FoundAt s p x o
     go (Accepted h) q =
-        let w : record { header = h; size = sizeAt (x .image) h } ≡ o = cc in
-        rw (← w) (record { tested = q; size-is = refl; object = located-parts s p x h q })
+        let w : reading h (sizeAt (x .image) h) p ≡ o = cc in
+        rw (← w) (record { tested = q; read = refl; object = located-parts s p x h q })
     go (Refused r) q = let z : _≡_ {A = ℕ} 0 1 = cc in absurd (omega arith)
-
--- it lies in the image
-pub found-inside : {s : ℕ} {p : Pointer} {x : State} {o : Reading} → FoundAt s p x o → o .header + 16 + o .size ≤ length (x .image)
-found-inside {s = s} {p = p} {x = x} {o = o} f = omega (arith, f .size-is, located-inside s p x (o .header) (f .object))
 
 -- why it found nothing
 pub read-refused : (s : ℕ) (p : Pointer) (x : State) (r : Refusal) → readTag s p x ≡ found.Refused r → located s p x ≡ Refused r

@@ -43,6 +43,6 @@ fillable-spec =
     (λ c. search needs)
     returns
     (λ c. omega (arith, opening-parts (state _ _) _ (is-open (at-open c)) .high))
-    (λ c κs. is-open (at-open c))
+    (λ c κs. (is-open (at-open c), omega (arith, start (at-open c) .fits .length .fits)))
     returns-2
     returns-3)

@@ -77,7 +77,7 @@ load-spec =
     (λ c κs. search needs)
     returns
     (λ c. omega (arith, opening-parts (state _ _) _ (is-open (at-open (c .before))) .high))
-    (λ c κs. is-open (at-open (c .before)))
+    (λ c κs. (is-open (at-open (c .before)), omega (arith, width-range (start (at-open (c .before)) .args .width) (is-good c) .1)))
     (λ c. search needs)
     (λ c. search needs)
     read-field-requires

@@ -6,6 +6,7 @@ use borrow.Author.Tests.{not-true, not-false}
 use Rattle.store.specs.State.{state}
 use Rattle.store.specs.Calls.{opening, goodWidth}
 use Rattle.store.specs.laws.Opening.{opening-parts}
+use Rattle.store.specs.laws.Access.{width-range}
 use Rattle.store.specs.laws.Store.{store-shut, store-width, store-large, store-access}
 use Rattle.store.specs.declared.answer.Answer.the-variants.{Accepted}
 use borrow.Author.Needs.{needs}
@@ -61,6 +62,6 @@ storable-spec =
     (λ c κs. is-good c)
     returns-2
     (λ c. omega (arith, opening-parts (state _ _) _ (is-open (at-open (at-wide (c .before) .before))) .high))
-    (λ c κs. is-open (at-open (at-wide (c .before) .before)))
+    (λ c κs. let w = at-wide (c .before) in let o = at-open (w .before) in (is-open o, omega (arith, width-range (start o .args .width) (is-good w) .1)))
     returns-3
     returns-4)

@@ -1,7 +1,7 @@
 -- `store::compare` meets its contract: 4 and 5 (`opening`), 6, then 10, 11 and 13 (`access`) of the left, and of the right; or the bytes at both addresses are
 -- compared (`compare_runs`). Assumes nothing.
 use mathlib.Core.Path.{_≡_, ap, sym, _∙_}
-use Prim.Native.Nat.{ℕ, _<_, _≤_}
+use Prim.Native.Nat.{ℕ, _^_, _<_, _≤_}
 use native.Mathlib.Omega.{arith}
 use lib.ListN.{take, drop}
 use Rattle.frame.specs.Pointers.{unpack}
@@ -49,6 +49,9 @@ narrow c = opening-parts (state _ _) _ (is-open c) .high
 
 some : (c : tie.Else1) → 0 < start (at-open c) .args .length
 some c = omega (arith, c .if1 .left)
+
+short : (c : tie.Else1) → start (at-open c) .args .length < 2 ^ 63
+short c = omega (arith, start (at-open c) .fits .length .fits)
 
 -- the bytes of each lie in its object's body
 left-is : (c : tie.After-a) → let o = opened c in
@@ -114,11 +117,11 @@ compare-spec =
     (λ c. search needs)
     returns
     (λ c. omega (arith, narrow (at-open c)))
-    (λ c κs. is-open (at-open c))
+    (λ c κs. (is-open (at-open c), short c))
     (λ c. search needs)
     (λ c. search needs)
     (λ c. omega (arith, narrow (opened (c .before))))
-    (λ c κs. is-open (opened (c .before)))
+    (λ c κs. (is-open (opened (c .before)), short (at-some (at-left (c .before)))))
     (λ c. search needs)
     (λ c. search needs)
     compare-runs-requires

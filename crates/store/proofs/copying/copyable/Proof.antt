@@ -1,6 +1,6 @@
 -- `store::copyable` meets its contract: 4 and 5 (`opening`), 6, then 10, 11 and 13 (`access`) of the target, and of the source. Assumes nothing.
 use mathlib.Core.Path.{_≡_, _∙_, sym}
-use Prim.Native.Nat.{_<_}
+use Prim.Native.Nat.{_^_, _<_}
 use native.Mathlib.Omega.{arith}
 use Rattle.store.specs.State.{state}
 use Rattle.store.specs.Calls.{opening}
@@ -26,6 +26,9 @@ is-open c = sym (c .before .before .opening .ensures) ∙ c .s .given .1
 
 some : (c : tie.Else1) → 0 < start (at-open c) .args .length
 some c = omega (arith, c .if1 .left)
+
+short : (c : tie.Else1) → start (at-open c) .args .length < 2 ^ 63
+short c = omega (arith, start (at-open c) .fits .length .fits)
 
 -- row 6
 returns : tie.Need-returns
@@ -56,11 +59,11 @@ copyable-spec =
     (λ c. search needs)
     returns
     (λ c. omega (arith, opening-parts (state _ _) _ (is-open (at-open c)) .high))
-    (λ c κs. is-open (at-open c))
+    (λ c κs. (is-open (at-open c), short c))
     (λ c. search needs)
     (λ c. search needs)
     (λ c. omega (arith, opening-parts (state _ _) _ (is-open (at-open (at-some (c .before .before)))) .high))
-    (λ c κs. is-open (at-open (at-some (c .before .before))))
+    (λ c κs. let l = at-some (c .before .before) in (is-open (at-open l), short l))
     returns-2
     returns-3
     returns-4)

@@ -13,6 +13,7 @@ use Rattle.block.specs.laws.Soundness.{sound-low, sound-end, sound-live, examin
 use Rattle.block.specs.declared.header.Header.{Header}
 use Rattle.store.specs.Calls.{verified}
 use Rattle.store.specs.laws.TagReading.{not-sound, not-live, no-match, match, found-verified, found-dangling}
+use Rattle.store.specs.declared.locate.Found.the-variants.{At}
 use borrow.Author.Needs.{needs}
 use Rattle.store.proofs.locate.verified_at.Statement.{statement}
 use Rattle.store.proofs.locate.verified_at.Tie as tie
@@ -50,13 +51,13 @@ tested c =
     let b = start (at-sound (at-live t)) in
     let a = b .args in
     match (a .s) (a .p) _ _ (seen (at-sound (at-live t)) .0) (is-live (at-live t)) (tag-is t ∙ not-false _ (c .before .if2 .left))
-    ∙ sym (c .same-frame .ensures ∙ ap (λ (n : ℕ). sameFrame n (a .h) (a .p .address)) (b .pre .2))
+    ∙ sym (c .same-frame .ensures ∙ ap (λ (n : ℕ). sameFrame n (a .h) (a .p .address)) (b .pre .3))
 
 -- the block is not live
 returns : tie.Need-returns
 returns c =
     let d = seen (c .before .before .before) in
-    found-dangling _ _ _ (not-live _ _ _ _ (d .0) (λ k. c .if1 .taken (ap (λ (x : Header). x .kind) (d .1) ∙ k)))
+    found-dangling _ _ _ _ (not-live _ _ _ _ (d .0) (λ k. c .if1 .taken (ap (λ (x : Header). x .kind) (d .1) ∙ k)))
 
 tag-matches-requires : tie.Need-tag-matches-requires
 tag-matches-requires c κs =
@@ -64,31 +65,41 @@ tag-matches-requires c κs =
     let b = start (at-sound c) in
     let v = sound-live _ _ (d .0) (eq-eqb _ 2 (is-live c)) .holds in
     let e = sound-end _ _ (d .0) in
-    (b .pre .0, b .pre .1, sound-low _ _ (d .0), omega (arith, b .pre .3, size-is (at-sound c)))
+    (b .pre .0, b .pre .2, sound-low _ _ (d .0), omega (arith, b .pre .4, size-is (at-sound c)))
 
 -- it has another flag or tag number
 returns-2 : tie.Need-returns-2
 returns-2 c =
     let l = at-live (c .before) in
     let a = start (at-sound l) .args in
-    found-dangling _ _ _ (no-match (a .s) (a .p) _ _ (seen (at-sound l) .0) (is-live l) (tag-is (c .before) ∙ not-true _ (c .if2 .taken)))
+    found-dangling _ _ _ _ (no-match (a .s) (a .p) _ _ (seen (at-sound l) .0) (is-live l) (tag-is (c .before) ∙ not-true _ (c .if2 .taken)))
 
 same-frame-requires : tie.Need-same-frame-requires
 same-frame-requires c κs =
     let b = start (at-sound (at-live (c .before))) in
-    omega (arith, b .pre .2, reach-bound (b .args .s) (b .args .p) (b .pre .1) (omega (arith, b .pre .0)))
+    omega (arith, b .pre .3, reach-bound (b .args .s) (b .args .p) (b .pre .2) (omega (arith, b .pre .0)))
 
 -- it stands in another slot or frame
 returns-3 : tie.Need-returns-3
-returns-3 c = found-dangling _ _ _ (tested (c .before) ∙ not-true _ (c .if3 .taken))
+returns-3 c = found-dangling _ _ _ _ (tested (c .before) ∙ not-true _ (c .if3 .taken))
 
 -- no sound header
 returns-4 : tie.Need-returns-4
-returns-4 c = found-dangling _ _ _ (not-sound _ _ _ _ (examined-is-unsound _ _ (sym (c .before .before .examine .ensures) ∙ c .enum-told .given .1)))
+returns-4 c = found-dangling _ _ _ _ (not-sound _ _ _ _ (examined-is-unsound _ _ (sym (c .before .before .examine .ensures) ∙ c .enum-told .given .1)))
+
+measure-requires : tie.Need-measure-requires
+measure-requires c κs =
+    let d = at-sound (at-live (c .before .before .before)) in
+    let b = start d in
+    let v = sound-live _ _ (seen d .0) (eq-eqb _ 2 (is-live (at-live (c .before .before .before)))) .holds in
+    let e = sound-end _ _ (seen d .0) in
+    (b .pre .1, omega (arith, b .pre .4, size-is d))
 
 -- the object
 returns-5 : tie.Need-returns-5
-returns-5 c = found-verified _ _ _ _ (tested (c .before) ∙ not-false _ (c .if3 .left)) (size-is (at-sound (at-live (c .before .before .before))))
+returns-5 c =
+    let e = c .before in
+    ap At (c .measure .ensures) ∙ found-verified _ _ _ _ _ (tested (e .before) ∙ not-false _ (e .if3 .left)) (size-is (at-sound (at-live (e .before .before .before))))
 
 pub verified-at-spec : {M : Type 1} → statement M
 verified-at-spec =
@@ -102,5 +113,6 @@ verified-at-spec =
     returns-2
     same-frame-requires
     returns-3
+    measure-requires
     returns-4
     returns-5)

@@ -1,112 +1,144 @@
--- `store::text_at` meets its contract: 10 and 11 (`locate`), 13 by two comparisons, then a search up to the body's end (`find_text`): 20, or the length.
+-- `store::text_at` meets its contract: 10 and 11 (`locate`), 13 (`in_body`) of one byte, then a search of all bytes that remain (`find_text`): 20, or the length.
 -- Assumes nothing.
-use mathlib.Core.Path.{_≡_, sym, ap, _∙_, subst}
-use Prim.Native.Nat.{ℕ, _+_, _-_, _≤_}
+use mathlib.Core.Path.{_≡_, sym, ap, ap₂, _∙_}
+use mathlib.Core.Bool.{true}
+use Prim.Native.Nat.{ℕ, _+_, _-_, _≤_, _<_}
 use native.Mathlib.Omega.{arith}
+use lib.IntN.{ℤ, pos, natAbs}
 use lib.ListN.{length, take, drop}
-use Rattle.frame.specs.Pointers.{InRange, unpack}
-use Rattle.frame.specs.laws.Pointers.{unpack-range}
+use mir.Syntax.{w64}
+use mir.Val.{SFits, toZ, ofZ}
+use mir.Facts.{toZ-ofZ}
+use Rattle.frame.specs.Pointers.{unpack}
 use Rattle.frame.specs.declared.parts.Pointer.{Pointer}
+use Rattle.block.specs.Layout.{sizeAt}
 use Rattle.block.specs.Text.{textOf}
 use Rattle.store.specs.State.{State, state}
-use Rattle.store.specs.Calls.{textAnswer, textAt}
+use Rattle.store.specs.Calls.{inBody, textAnswer, textAt}
 use Rattle.store.specs.laws.Opening.{opening-parts}
-use Rattle.store.specs.laws.TagReading.{readTag, FoundAt, read-found, found-inside, read-refused}
-use Rattle.store.specs.laws.CopyText.{text-ended, text-endless, text-unread, text-below, text-past, text-within}
+use Rattle.store.specs.laws.TagReading.{FoundAt, read-found, located-inside, read-refused}
+use Rattle.store.specs.laws.Access.{body-range}
+use Rattle.store.specs.laws.Distances.{found-body, found-remaining}
+use Rattle.store.specs.laws.CopyText.{text-ended, text-endless, text-unread, text-outside, text-within}
+use borrow.Author.Tests.{not-true, not-false}
 use borrow.Author.Needs.{needs}
 use Rattle.store.proofs.text.text_at.Statement.{statement}
 use Rattle.store.proofs.text.text_at.Tie as tie
 
--- The places: where the tag was read, where it led to the object o, and where the text is searched.
+-- The places: where the tag was read, where it led to the object o, where row 13 is tested, and where the text is searched.
 abbrev start : tie.After-locate → tie.Start
-start c = c .before .before .before .before
+start c = c .before .before .before
 
 abbrev at-read : tie.After-o → tie.After-locate
 at-read c = c .before .before
 
-abbrev at-object : tie.Else2 → tie.After-o
-at-object c = c .before .before .before .before .before
+abbrev at-object : tie.After-in-body → tie.After-o
+at-object c = c .before .before
+
+abbrev at-tested : tie.Else1 → tie.After-in-body
+at-tested c = c .before
+
+abbrev at-body : tie.After-struct-told → tie.Else1
+at-body c = c .before .before .before
 
 abbrev given : tie.Start → State
 given c = state (c .args .image .now) (c .args .table .now)
 
--- the pointer's parts
-unpacked : (c : tie.After-locate) → c .before .unpack .result ≡ unpack (start c .args .pointer)
-unpacked c = c .before .unpack .ensures
-
-address-is : (c : tie.After-o) → c .before .before .before .unpack .result .address ≡ unpack (start (at-read c) .args .pointer) .address
-address-is c = ap (λ (p : Pointer). p .address) (unpacked (at-read c))
-
--- what its tag was read as
-read : (c : tie.After-locate) → readTag (start c .args .s) (unpack (start c .args .pointer)) (given (start c)) ≡ c .locate .result
-read c = ap (λ (p : Pointer). readTag (start c .args .s) p (given (start c))) (sym (unpacked c)) ∙ sym (c .locate .ensures)
-
 object : (c : tie.After-o) → let b = start (at-read c) in FoundAt (b .args .s) (unpack (b .args .pointer)) (given b) (c .o .given .0 .0)
-object c = read-found _ _ (state _ _) _ (read (at-read c) ∙ c .o .given .1)
+object c = read-found _ _ (state _ _) _ (sym (at-read c .locate .ensures) ∙ c .o .given .1)
 
--- the object lies in the image, which is short
-inside : (c : tie.After-o) → c .o .given .0 .0 .header + 16 + c .o .given .0 .0 .size ≤ length (start (at-read c) .args .image .now)
-inside c = found-inside (object c)
+-- row 13, as it was tested
+tested : (c : tie.After-in-body) → let o = at-object c in let b = start (at-read o) in
+    inBody (b .args .image .now) (o .o .given .0 .0 .header) (unpack (b .args .pointer)) 1 ≡ c .in-body .result
+tested c = sym (found-body _ _ (given (start (at-read (at-object c)))) _ (object (at-object c)) _) ∙ sym (c .in-body .ensures)
 
-short : (c : tie.After-o) → length (start (at-read c) .args .image .now) ≤ 1073741824
-short c = opening-parts _ _ (start (at-read c) .pre) .short
+passed : (c : tie.Else1) → let o = at-object (at-tested c) in let b = start (at-read o) in
+    inBody (b .args .image .now) (o .o .given .0 .0 .header) (unpack (b .args .pointer)) 1 ≡ true
+passed c = tested (at-tested c) ∙ not-false _ (c .if1 .left)
+
+-- the body's end
+end : tie.Else1 → ℕ
+end c =
+    let o = at-object (at-tested c) in
+    let h = o .o .given .0 .0 .header in
+    h + 16 + sizeAt (start (at-read o) .args .image .now) h
+
+-- the address lies below it, and it in the short image
+ends : (c : tie.Else1) → let b = start (at-read (at-object (at-tested c))) in
+    (unpack (b .args .pointer) .address < end c) × (end c ≤ length (b .args .image .now)) × (length (b .args .image .now) ≤ 1073741824)
+unfolding end
+ends c =
+    let o = at-object (at-tested c) in
+    let b = start (at-read o) in
+    let h = o .o .given .0 .0 .header in (
+      omega (arith, body-range (b .args .image .now) h (unpack (b .args .pointer)) 1 (passed c) .1),
+      located-inside _ _ (given b) h (object o .object),
+      opening-parts _ _ (b .pre) .short,
+    )
+
+-- the bytes that remain
+remaining-is : (c : tie.After-struct-told) → let e = at-body c in let o = at-object (at-tested e) in
+    toZ w64 (ofZ w64 (o .o .given .0 .0 .remaining)) ≡ pos (end e - unpack (start (at-read o) .args .pointer) .address)
+unfolding end
+remaining-is c =
+    let e = at-body c in
+    let o = at-object (at-tested e) in
+    let fits : SFits w64 (o .o .given .0 .0 .remaining) = search needs in
+    toZ-ofZ fits ∙ found-remaining _ _ (given (start (at-read o))) _ (object o) (omega (arith, ends e .0))
+
+cast-find-text : tie.Need-cast-find-text
+cast-find-text c = rw (remaining-is c) (tt, record { fits = omega (arith, ends (at-body c) .1, ends (at-body c) .2) })
+
+find-text-requires : tie.Need-find-text-requires
+find-text-requires c κs =
+    let e = ends (at-body c) in
+    rw (remaining-is c) (omega (arith, ap (λ (p : Pointer). p .address) (c .before .before .unpack .ensures), e .0, e .1))
 
 -- what the search found decides
-searched : (c : tie.After-find-text) → let b = start (at-read (at-object (c .before))) in
+searched : (c : tie.After-find-text) → let b = start (at-read (at-object (at-tested (at-body (c .before))))) in
     textAnswer (c .find-text .result) ≡ textAt (b .args .s) (unpack (b .args .pointer)) (given b)
+unfolding end
 searched c =
-    let e = c .before in
-    let o = at-object e in
-    let b = start (at-read o) .args in
-    let h : ℕ = o .o .given .0 .0 .header in
+    let e = at-body (c .before) in
+    let o = at-object (at-tested e) in
     ap textAnswer
     (c .find-text .ensures
-    ∙ ap (λ (a : ℕ). textOf (take (h + 16 + o .o .given .0 .0 .size - a) (drop a (b .image .now)))) (address-is o)
-    ∙ ap (λ (n : ℕ). textOf (take (h + 16 + n - unpack (b .pointer) .address) (drop (unpack (b .pointer) .address) (b .image .now)))) (object o .size-is))
-    ∙ text-within _ _ (state _ _) _ (object o .tested) (omega (arith, address-is o, e .before .if1 .left))
-    (omega (arith, address-is o, object o .size-is, e .if2 .left))
+    ∙ ap₂ (λ (n : ℤ) (p : Pointer). textOf (take (natAbs n) (drop (p .address) (start (at-read o) .args .image .now))))
+    (remaining-is (c .before)) (c .before .before .before .unpack .ensures))
+    ∙ text-within _ _ (state _ _) _ (object o .tested) (passed e)
 
--- row 13: the address is below the base
+-- row 13
 returns : tie.Need-returns
 returns c =
-    let o = c .before .before .before .before in
-    text-below _ _ (state _ _) _ (object o .tested) (omega (arith, address-is o, c .if1 .taken))
-
--- row 13: it is at the end or past it
-returns-2 : tie.Need-returns-2
-returns-2 c =
-    let o = c .before .before .before .before .before in
-    text-past _ _ (state _ _) _ (object o .tested) (omega (arith, address-is o, c .before .if1 .left))
-    (omega (arith, address-is o, object o .size-is, c .if2 .taken))
+    let t = c .before in
+    text-outside _ _ (state _ _) _ (object (at-object t) .tested) (tested t ∙ not-true _ (c .if1 .taken))
 
 -- row 10 or 11
-returns-3 : tie.Need-returns-3
-returns-3 c = text-unread _ _ (state _ _) _ (read-refused _ _ (state _ _) _ (read (c .before .before .before) ∙ c .before .r .given .1))
+returns-2 : tie.Need-returns-2
+returns-2 c = text-unread _ _ (state _ _) _ (read-refused _ _ (state _ _) _ (sym (c .before .before .before .locate .ensures) ∙ c .before .r .given .1))
 
 -- the length
-returns-4 : tie.Need-returns-4
-returns-4 c = text-ended _ ∙ ap textAnswer (sym (c .before .n .given .1)) ∙ searched (c .before .before .before)
+returns-3 : tie.Need-returns-3
+returns-3 c = text-ended _ ∙ ap textAnswer (sym (c .before .n .given .1)) ∙ searched (c .before .before .before)
 
 -- row 20
-returns-5 : tie.Need-returns-5
-returns-5 c = text-endless ∙ ap textAnswer (sym (c .enum-told .given .1)) ∙ searched (c .before .before)
+returns-4 : tie.Need-returns-4
+returns-4 c = text-endless ∙ ap textAnswer (sym (c .enum-told .given .1)) ∙ searched (c .before .before)
 
 pub text-at-spec : {M : Type 1} → statement M
 text-at-spec =
     tie.close
     (tie.spec
-    (λ c κs. search needs)
-    (λ c κs. (c .before .before .before .pre, subst InRange (sym (c .unpack .ensures)) (unpack-range _)))
+    (λ c κs. c .before .before .pre)
     (λ c. search needs)
     (λ c. search needs)
-    (λ c. omega (arith, inside (c .before .before), short (c .before .before)))
-    (λ c. omega (arith, inside (c .before .before .before), short (c .before .before .before)))
+    (λ c κs. omega arith)
     returns
+    (λ c κs. search needs)
+    cast-find-text
+    find-text-requires
+    (λ c. search needs)
+    (λ c. search needs)
     returns-2
-    (λ c. search needs)
-    (λ c κs. omega (arith, inside (at-object c), c .if2 .left))
-    (λ c. search needs)
-    (λ c. search needs)
     returns-3
-    returns-4
-    returns-5)
+    returns-4)

@@ -78,7 +78,7 @@ text-copyable-spec =
     (λ c. search needs)
     (λ c. omega (arith, narrow (at-open (at-text (c .before)))))
     (λ c. omega (arith, short (c .before)))
-    (λ c κs. is-open (at-open (at-text (c .before))))
+    (λ c κs. (is-open (at-open (at-text (c .before))), omega (arith, short (c .before))))
     (λ c. search needs)
     (λ c. search needs)
     (λ c. omega (arith, short (at-length (c .before .before))))
