@@ -131,9 +131,10 @@ uint32_t cue_allocate_for(uint8_t *image, size_t image_len, uint64_t *table, siz
 uint32_t cue_move(const uint8_t *image, size_t image_len, const uint64_t *table, size_t table_len, uint64_t pointer, int64_t distance, uint64_t *moved);
 
 /* How far the pointer's address is from either end of its object's body: from_start is address - base, negative before the
- * body; to_end is base + size - address, negative past the end. Their sum is the size. The address need not be inside the
- * body, only in the pointer's slot or frame.
- * Refusals, in order: 4, 5, 10, 11. */
+ * body; to_end is base + size - address, negative past the end, in spare bytes too. Their sum is the size. n bytes from the
+ * address on are inside the body exactly where from_start >= 0 and to_end >= n. The address need not be inside the body, only
+ * in the pointer's slot or frame: wherever cue_move leads to.
+ * Refusals, in order: 4, 5, 10, 11; never 13. */
 uint32_t cue_distances(const uint8_t *image, size_t image_len, const uint64_t *table, size_t table_len, uint64_t pointer, int64_t *from_start, int64_t *to_end);
 
 /* Loads 1 to 8 bytes, little-endian.

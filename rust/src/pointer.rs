@@ -3,8 +3,8 @@ use core::fmt;
 /// A tagged pointer to a byte of the image: the address in the low 48 bits, 15 bits of tag number above, the flag on top.
 ///
 /// [`Store::allocate`](crate::Store::allocate) gives one, [`Store::offset`](crate::Store::offset) moves it. Any number is a
-/// `Pointer`; whether it leads to a live object is tested by each call that reads or writes through it. As a number it can be
-/// kept anywhere, inside an object too.
+/// `Pointer`; whether it leads to a live object is tested by each call that reads or writes through it, and by
+/// [`Store::distances`](crate::Store::distances). As a number it can be kept anywhere, inside an object too.
 ///
 /// ```
 /// use cueledger::Pointer;

@@ -221,7 +221,8 @@ impl<'a> Store<'a> {
 
     /// How far a pointer's address is from either end of its object's body.
     ///
-    /// The address need not be inside the body, only in the pointer's slot or frame: wherever [`offset`](Store::offset) leads to.
+    /// `n` bytes from the address on are inside the body exactly where `from_start >= 0` and `to_end >= n`. The address need not be inside
+    /// the body, only in the pointer's slot or frame: wherever [`offset`](Store::offset) leads to.
     ///
     /// Refused with, in this order: [`BadTag`](Refusal::BadTag), [`Dangling`](Refusal::Dangling).
     ///

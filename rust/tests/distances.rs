@@ -18,7 +18,7 @@ fn with_sample(work: impl FnOnce(&mut Store<'_>, &[(Pointer, Block)])) {
     work(&mut store, &objects);
 }
 
-/// Wherever a pointer can be moved to, and nowhere else.
+/// Wherever a pointer can be moved to, and not in the next slot or frame.
 #[test]
 fn over_slot_and_frame() {
     with_sample(|store, objects| {

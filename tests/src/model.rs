@@ -196,7 +196,7 @@ impl Pointer {
         Pointer { small, tag, address: h + HEADER }
     }
 
-    fn tag_in_range(self, s: u32) -> bool {
+    pub fn tag_in_range(self, s: u32) -> bool {
         if self.small {
             self.tag < 1 << s
         } else {
@@ -205,7 +205,7 @@ impl Pointer {
     }
 
     /// The exponent of the slot or frame that the pointer stays in; its tag is in range.
-    fn reach(self, s: u32) -> u32 {
+    pub fn reach(self, s: u32) -> u32 {
         if self.small {
             s
         } else {

@@ -1,11 +1,14 @@
 -- What C sees of a call: the returned number, the value, and the image and table as they are left. Assumes nothing.
 use Prim.Native.Nat.{ℕ}
+use mathlib.Core.Path.{_≡_, refl}
 use mathlib.Core.List.{List}
-use lib.IntN.{ℤ}
+use lib.IntN.{ℤ, pos, negsuc}
 use Rattle.store.specs.State.{Outcome, returned, value, comparisonNumber, comparisonValue, distancesNumber, startDistance, endDistance, usageNumber, liveObjects, liveBytes, freeBytes, overheadBytes}
+use Rattle.store.specs.declared.answer.Refusal.the-variants.{Dangling}
 use Rattle.store.specs.declared.answer.Answer.{Answer}
 use Rattle.store.specs.declared.comparing.Comparison.{Comparison}
 use Rattle.store.specs.declared.measuring.Measurement.{Measurement}
+use Rattle.store.specs.declared.measuring.Measurement.the-variants as measurement
 use Rattle.store.specs.declared.counting.Usage.{Usage}
 
 -- What the export of a call that gives no value returns and leaves.
@@ -66,16 +69,23 @@ exportedComparison c = compared (comparisonNumber c) (comparisonValue c)
 -- What the export of distances returns and gives: both values are 0 where it is refused.
 pub record Measured : Type 0 where
   pub returned : ℕ
-  pub start : ℤ
-  pub end : ℤ
+  pub fromStart : ℤ
+  pub toEnd : ℤ
 
 -- made of a returned number and two values
 abbrev pub measured : ℕ → ℤ → ℤ → Measured
-measured r start end = record { returned = r; start = start; end = end }
+measured r fromStart toEnd = record { returned = r; fromStart = fromStart; toEnd = toEnd }
 
 -- what C sees of distances' answer
 abbrev pub exportedDistances : Measurement → Measured
 exportedDistances m = measured (distancesNumber m) (startDistance m) (endDistance m)
+
+-- one byte before a body of ten, and refused
+pub distances-seen :
+    let m : Measured = exportedDistances (measurement.Distances (negsuc 0) (pos 11)) in
+    let r : Measured = exportedDistances (measurement.Refused Dangling) in
+    (m .returned ≡ 0) × (m .fromStart ≡ negsuc 0) × (m .toEnd ≡ pos 11) × (r .returned ≡ 11) × (r .fromStart ≡ pos 0) × (r .toEnd ≡ pos 0)
+distances-seen = (refl, refl, refl, refl, refl, refl)
 
 -- What the export of tally returns and gives: every value is 0 where it is refused.
 pub record Tallied : Type 0 where

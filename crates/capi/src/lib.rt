@@ -176,24 +176,24 @@ pub extern "C" fn cue_copy_text(
     a.returned()
 }
 
-// How far the pointer is from the start of its object's body and from its end goes to `start` and `end`.
+// How far the pointer is from the start of its object's body goes to `from_start`, how far from its end to `to_end`.
 #[no_mangle]
 pub extern "C" fn cue_distances(
     image: &[u8],
     table: &[u64],
     pointer: u64,
-    start: &mut i64,
-    end: &mut i64,
+    from_start: &mut i64,
+    to_end: &mut i64,
 ) -> u32
-    ensures { λ r. ⌜ measured r (now (start .exit)) (now (end .exit)) ≡ exportedDistances (distances pointer (state (now (image .entry)) (now (table .entry)))) ⌝ }
+    ensures { λ r. ⌜ measured r (now («from_start» .exit)) (now («to_end» .exit)) ≡ exportedDistances (distances pointer (state (now (image .entry)) (now (table .entry)))) ⌝ }
 {
     // what a refusal gives
-    *start = 0;
-    *end = 0;
+    *from_start = 0;
+    *to_end = 0;
     match store::distances(image, table, pointer) {
         Measurement::Distances(a, b) => {
-            *start = a;
-            *end = b;
+            *from_start = a;
+            *to_end = b;
             0
         }
         Measurement::Refused(r) => r.number(),

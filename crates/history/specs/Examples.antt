@@ -42,6 +42,7 @@ calls =
     ∷ copiesText 0x802A00000000003A 0x8010000000000020
     ∷ stores 0x802A00000000003A 3 0x070605
     ∷ loads 0x802A00000000003A 3
+    ∷ moves 0x802A00000000003A (negsuc 0)
     ∷ loads 0x123456789 4
     ∷ allocates 1000 1
     ∷ releases 0xFFFFFFFF
@@ -52,9 +53,9 @@ calls =
     ∷ []
 
 -- each of them is admitted; the abstract heap is left with the second object, which holds the number and the zero byte of the text; tally counts that
--- object, the two gaps around it, and its header; the free total is that of the gaps, and the distances are those of a pointer one byte before the object
+-- object, the two gaps around it, and its header; the free total is that of the gaps, and the distances are those of its pointer one byte before the body
 pub admitted-calls : (allAdmitted calls fresh6 ≡ true)
-    × (after calls fresh6 .heap ≡ record { answer = 0x802A00000000003A; size = 4; cue = 9; pointers = 0x802A00000000003A ∷ []; bytes = 5 ∷ 6 ∷ 7 ∷ 0 ∷ [] } ∷ [])
+    × (after calls fresh6 .heap ≡ record { answer = 0x802A00000000003A; size = 4; cue = 9; pointers = 0x802A000000000039 ∷ 0x802A00000000003A ∷ []; bytes = 5 ∷ 6 ∷ 7 ∷ 0 ∷ [] } ∷ [])
     × (tally (after calls fresh6 .state) ≡ usage.Counts 1 4 92 16)
     × (freeTotal (after calls fresh6 .state) ≡ Accepted 92)
     × (distances 0x802A000000000039 (after calls fresh6 .state) ≡ Distances (negsuc 0) (pos 5))

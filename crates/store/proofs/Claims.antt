@@ -1,15 +1,17 @@
 -- What holds of single calls on every image and table.
 -- In order: shapes that are kept; how each call ends; the claims. Assumes nothing.
 use Prim.Native.Nat.{ℕ, _+_, _^_, _≤_, _<_}
-use mathlib.Core.Path.{_≡_, refl, sym, ap, _∙_, subst}
+use mathlib.Core.Path.{_≡_, refl, sym, ap, ap₂, _∙_, subst}
 use mathlib.Core.List.{List, [], _∷_}
+use mathlib.Core.Logic.{_↔_}
 use native.Mathlib.Omega.{arith}
-use lib.IntN.{ℤ, pos}
+use lib.IntN.{ℤ, pos, _+ℤ_, _-ℤ_}
 use lib.ListN.{length, take, drop, replicate, length-append, length-drop, length-replicate}
 use lib.Seq.{drop-at, length-take-le}
 use borrow.Author.Tests.{eq-eqb}
 use Rattle.frame.specs.Pointers.{unpack, pack}
 use Rattle.frame.specs.Tags.{pointerTo, usedEntries}
+use Rattle.frame.specs.declared.parts.Pointer.{Pointer}
 use Rattle.frame.specs.laws.Wrappers.{object-entry-used}
 use Rattle.frame.specs.laws.Objects.{own-pointer}
 use Rattle.block.specs.Bytes.{encode, put}
@@ -19,13 +21,13 @@ use Rattle.block.specs.Layout.{slotExponent, headerAt, sizeAt, extentAt, fields
 use Rattle.block.specs.laws.Soundness.{sound-low, sound-end, sound-live-at}
 use Rattle.block.specs.declared.header.Header.{Header}
 use Rattle.store.specs.State.{State, state, Outcome, IsAccepted, returned, value, comparisonNumber, comparisonValue, distancesNumber, startDistance, endDistance, usageNumber, liveObjects, liveBytes, freeBytes, overheadBytes}
-use Rattle.store.specs.Calls.{setUpChecks, setUp, fresh, cleared, takenExtent, allocateChecks, noted, allotted, allocateFor, freeRelease, free, move, moveAnswer, load, loadAnswer, storeChecks, store, fillChecks, fill, copyChecks, copy, compare, copyTextChecks, copyText, releaseChecks, pointersTo, cuePointers, freeEach, releaseCue, freeTotal, tally, distances}
+use Rattle.store.specs.Calls.{setUpChecks, setUp, fresh, cleared, takenExtent, allocateChecks, noted, allotted, allocateFor, freeRelease, free, move, moveAnswer, load, loadAnswer, storeChecks, store, fillChecks, fill, copyChecks, copy, compare, copyTextChecks, copyText, releaseChecks, pointersTo, cuePointers, freeEach, releaseCue, freeTotal, tally, opening, fromStart, toEnd, distances}
 use Rattle.store.specs.laws.Refusals.{refused-some}
 use Rattle.store.specs.laws.SetUp.{Settable, settable-parts, set-up-declined, set-up-done, length-fresh}
 use Rattle.store.specs.laws.Opening.{Open, opening-kept}
-use Rattle.store.specs.laws.TagReading.{Stands, Located, located-object, located-leads, located-at}
+use Rattle.store.specs.laws.TagReading.{Stands, Located, located-object, located-leads, located-at, FoundAt, read-found, read-refused}
 use Rattle.store.specs.laws.Access.{accessed-again}
-use Rattle.store.specs.laws.Distances.{distances-sum, in-body, start-none, distances-passed}
+use Rattle.store.specs.laws.Distances.{distances-sum, start-is, end-is, found-body, found-base, distances-unread, distances-given}
 use Rattle.store.specs.laws.Allocate.{Allocates, allocate-parts, allocate-declined, allocate-done, CarvedHeader, carved-header, length-allotted, allotted-exponent, allotted-header}
 use Rattle.store.specs.laws.Free.{Frees, free-parts, free-declined, free-done, length-given-back, given-back-front}
 use Rattle.store.specs.laws.Release.{free-each-none, free-each-one, cue-pointers, length-pointers, release-parts, release-declined, release-done}
@@ -35,7 +37,7 @@ use Rattle.store.specs.laws.Copy.{Copies, copy-parts, copy-declined, cop
 use Rattle.store.specs.laws.Compare.{swapped-order, transitive-order}
 use Rattle.store.specs.laws.CopyText.{CopiesText, copy-text-parts, copy-text-declined, copy-text-done}
 use Rattle.store.specs.Step.{Call, allocates, frees, moves, loads, stores, fills, copies, copiesText, allocatesFor, releases, step}
-use Rattle.store.specs.Claims.{RefusalsKeep, KeepsShape, ShapesKept, PointsBack, LeadsBack, ReadsBack, CountsAll, ComparesInOrder, EachFreed, ReleasesAll, Measures}
+use Rattle.store.specs.Claims.{RefusalsKeep, KeepsShape, ShapesKept, PointsBack, LeadsBack, ReadsBack, CountsAll, ComparesInOrder, EachFreed, ReleasesAll, ReadAs, Measures}
 use Rattle.store.specs.laws.Load.{load-given, load-leaves}
 use Rattle.store.specs.laws.Move.{move-leaves}
 use Rattle.store.specs.laws.Entries.{length-noted, noted-beyond, noted-entry}
@@ -46,6 +48,7 @@ use Rattle.store.specs.declared.release.Release.{Release}
 use Rattle.store.specs.declared.release.Release.the-variants as release
 use Rattle.store.specs.declared.comparing.Comparison.{Comparison}
 use Rattle.store.specs.declared.comparing.Comparison.the-variants as comparison
+use Rattle.store.specs.declared.locate.Reading.{Reading}
 use Rattle.store.specs.declared.measuring.Measurement.{Measurement}
 use Rattle.store.specs.declared.measuring.Measurement.the-variants as measurement
 use Rattle.store.specs.declared.counting.Usage.{Usage}
@@ -427,12 +430,40 @@ releases-all cue x e = go (releaseChecks cue x) refl
               ∙ count ∙ sym (length-pointers s (x .image) places) ∙ ap length (sym p),
         )
 
--- distances measure
+-- what a tag is read as
+read-as : (s : ℕ) (p : Pointer) (x : State) (o : Reading) → FoundAt s p x o → ReadAs s p x o
+read-as s p x o f =
+    let n : ℕ = sizeAt (x .image) (o .header) in
+    let b : o .base ≡ o .header + 16 = ap (λ (r : Reading). r .base) (f .read) in
+    let size : o .size ≡ n = ap (λ (r : Reading). r .size) (f .read) in
+    let a : o .offset ≡ fromStart (o .header) p = ap (λ (r : Reading). r .offset) (f .read) in
+    let z : o .remaining ≡ toEnd (o .header) n p = ap (λ (r : Reading). r .remaining) (f .read) in
+    record {
+      header = f .tested;
+      base = b;
+      size = size;
+      offset = a ∙ sym (ap (λ (k : ℕ). pos (p .address) -ℤ pos k) b ∙ start-is (o .header) p);
+      remaining = z ∙ sym (ap₂ (λ (k m : ℕ). pos (k + m) -ℤ pos (p .address)) b size ∙ end-is (o .header) p n);
+      sum = ap₂ _+ℤ_ a z ∙ distances-sum (o .header) p n ∙ ap pos (sym size);
+      in-body = λ k. sym (found-body s p x o f k);
+      at-base = subst (λ (k : ℕ). (o .offset ≡ pos 0) ↔ (p .address ≡ k)) (sym b) (found-base s p x o f);
+    }
+
+-- distances gives it
+distances-read : (s p : ℕ) (x : State) (o : Reading) → opening x ≡ Accepted s → FoundAt s (unpack p) x o
+    → distances p x ≡ measurement.Distances (o .offset) (o .remaining)
+distances-read s p x o e f =
+    sym (distances-given x s e p (o .header) (f .tested)) ∙ ap (λ (r : Reading). measurement.Distances (r .offset) (r .remaining)) (sym (f .read))
+
+-- each tag is measured
 pub measures : Measures
 measures =
     record {
-      sum = distances-sum;
-      body = in-body;
-      base = start-none;
-      shown = λ p h x e. rw (distances-passed p h x e) (refl, refl, refl, distances-sum h _ (unpack p));
+      reads = λ s p x o e. read-as s p x o (read-found s p x o e);
+      shown =
+          λ s p x o e q.
+          let f = read-found s (unpack p) x o q in
+          let d = distances-read s p x o e f in
+          (d, ap₂ _+ℤ_ (ap startDistance d) (ap endDistance d) ∙ read-as s (unpack p) x o f .sum);
+      declined = λ s p x r e q. sym (distances-unread x s e p r (read-refused s (unpack p) x r q));
     }

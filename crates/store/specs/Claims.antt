@@ -1,12 +1,12 @@
 -- What holds of single calls on every image and table, damaged ones too: demand 1, of demand 2 the pointer that allocate gives, read-back, the
--- balance of tally, that compare is an order, and that a release frees all objects of its cue. Assumes nothing.
+-- balance of tally, that compare is an order, that a release frees all objects of its cue, and what the distances say. Assumes nothing.
 use Prim.Native.Nat.{ℕ, _+_, _^_, _<_}
 use mathlib.Core.Path.{_≡_}
 use mathlib.Core.Bool.{true, _&&_}
 use mathlib.Core.List.{List, [], _∷_}
 use mathlib.Core.Logic.{_↔_}
 use lib.ListN.{length, drop}
-use lib.IntN.{pos, negℤ, _+ℤ_}
+use lib.IntN.{pos, negℤ, _+ℤ_, _-ℤ_}
 use lib.Signed.{leZ}
 use Rattle.frame.specs.Pointers.{unpack, pack, goodTag}
 use Rattle.frame.specs.Tags.{pointerTo, usedEntries}
@@ -15,9 +15,13 @@ use Rattle.block.specs.Layout.{slotExponent, typeAt, sizeAt, cueAt}
 use Rattle.block.specs.Walk.{firstFit}
 use Rattle.block.specs.declared.walk.Fit.the-variants as fit
 use Rattle.store.specs.State.{State, IsAccepted, returned, value, comparisonNumber, comparisonValue, distancesNumber, startDistance, endDistance, usageNumber, liveObjects, liveBytes, freeBytes, overheadBytes, Balances}
-use Rattle.store.specs.Calls.{setUp, allocateFor, load, store, free, compare, cuePointers, releaseCue, freeTotal, tally, leadsBack, headerPlace, located, reading, inBody, distancesChecks, distances}
+use Rattle.store.specs.Calls.{setUp, allocateFor, load, store, free, compare, cuePointers, releaseCue, freeTotal, tally, opening, leadsBack, headerPlace, located, readTag, inBody, distances}
 use Rattle.store.specs.Step.{Call, step}
+use Rattle.store.specs.declared.answer.Refusal.{Refusal}
 use Rattle.store.specs.declared.answer.Answer.the-variants.{Accepted}
+use Rattle.store.specs.declared.locate.Reading.{Reading}
+use Rattle.store.specs.declared.locate.Found.the-variants as found
+use Rattle.store.specs.declared.measuring.Measurement.the-variants as measurement
 
 -- Demand 1: a refusal leaves image and table as they were, and every value is 0.
 pub record RefusalsKeep : Type 0 where
@@ -97,15 +101,25 @@ ReleasesAll =
     (cue : ℕ) (x : State) → IsAccepted (releaseCue cue x)
     → EachFreed (cuePointers cue (x .image)) x × (value (releaseCue cue x .answer) ≡ length (cuePointers cue (x .image)))
 
--- The distances, as a tag is read, on every image: their sum is the size; row 13 is two signed tests of them, and row 15 one. Those that the call gives are
--- the same.
+-- o is what the tag of p is read as: header, base and size of the object, and how far the address is from both its ends. The sum of these two is the size; row
+-- 13 is two signed tests of them, and row 15 one
+pub record ReadAs (s : ℕ) (p : Pointer) (x : State) (o : Reading) : Type 0 where
+  pub header : located s p x ≡ Accepted (o .header)
+  pub base : o .base ≡ o .header + 16
+  pub size : o .size ≡ sizeAt (x .image) (o .header)
+  pub offset : o .offset ≡ pos (p .address) -ℤ pos (o .base)
+  pub remaining : o .remaining ≡ pos (o .base + o .size) -ℤ pos (p .address)
+  pub sum : o .offset +ℤ o .remaining ≡ pos (o .size)
+  pub in-body : (n : ℕ) → inBody (x .image) (o .header) p n ≡ leZ (pos 0) (o .offset) && leZ (pos n) (o .remaining)
+  pub at-base : (o .offset ≡ pos 0) ↔ (p .address ≡ o .base)
+
+-- Each tag that leads to an object is read so, and distances gives the two that were read: their sum is the size.
 pub record Measures : Type 0 where
-  pub sum : (h size : ℕ) (p : Pointer) → reading h size p .offset +ℤ reading h size p .remaining ≡ pos size
-  pub body :
-      (image : List ℕ) (h : ℕ) (p : Pointer) (n : ℕ) → let o = reading h (sizeAt image h) p in
-      inBody image h p n ≡ leZ (pos 0) (o .offset) && leZ (pos n) (o .remaining)
-  pub base : (h size : ℕ) (p : Pointer) → (reading h size p .offset ≡ pos 0) ↔ (p .address ≡ h + 16)
+  pub reads : (s : ℕ) (p : Pointer) (x : State) (o : Reading) → readTag s p x ≡ found.At o → ReadAs s p x o
   pub shown :
-      (p h : ℕ) (x : State) → distancesChecks p x ≡ Accepted h → let o = reading h (sizeAt (x .image) h) (unpack p) in
-      (distancesNumber (distances p x) ≡ 0) × (startDistance (distances p x) ≡ o .offset) × (endDistance (distances p x) ≡ o .remaining)
-      × (startDistance (distances p x) +ℤ endDistance (distances p x) ≡ pos (sizeAt (x .image) h))
+      (s p : ℕ) (x : State) (o : Reading) → opening x ≡ Accepted s → readTag s (unpack p) x ≡ found.At o
+      → (distances p x ≡ measurement.Distances (o .offset) (o .remaining))
+      × (startDistance (distances p x) +ℤ endDistance (distances p x) ≡ pos (o .size))
+  pub declined :
+      (s p : ℕ) (x : State) (r : Refusal) → opening x ≡ Accepted s → readTag s (unpack p) x ≡ found.Refused r
+      → distances p x ≡ measurement.Refused r

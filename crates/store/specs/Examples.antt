@@ -16,10 +16,12 @@ use Rattle.block.specs.Text.{textFrom, textOf}
 use Rattle.block.specs.Layout.{superblock, withTotal, superblockGood, header, headerAt, wellFormed, sound, isFree, extentAt}
 use Rattle.block.specs.Walk.{Search, walkIn, walkFrom, walk, fitOf, firstFit, metOf, walkTo, countOf, countBlocks, walkCue}
 use Rattle.store.specs.State.{State, state, Outcome, returned, value, comparisonNumber, comparisonValue, distancesNumber, startDistance, endDistance, usageNumber, liveObjects, liveBytes, freeBytes, overheadBytes}
-use Rattle.store.specs.Calls.{setUpChecks, fresh, setUp, opening, entryHolds, fitAnswer, takenExtent, allocateChecks, carved, noted, allocateFor, allocate, headerPlace, verified, leadsBack, located, fromStart, toEnd, inBody, accessed, distancesChecks, distancesAt, distances, movedAnswer, moveAnswer, move, loadAnswer, load, storeChecks, store, copyChecks, compared, compare, textAnswer, textAt, copyTextChecks, copyText, mergeEnd, mergeStart, released, freeChecks, releasedAt, totalFits, totalled, freeRelease, merged, freed, free, gatheredAnswer, placesOf, allHeld, extentsOf, releaseChecks, pointersTo, cuePointers, freeEach, releaseCue, freeTotal, tallyOpened, tallyCounted, tally}
+use Rattle.store.specs.Calls.{setUpChecks, fresh, setUp, opening, entryHolds, fitAnswer, takenExtent, allocateChecks, carved, noted, allocateFor, allocate, headerPlace, verified, leadsBack, located, fromStart, toEnd, foundAt, readTag, inBody, accessed, distancesChecks, distancesAt, distances, movedAnswer, moveAnswer, move, loadAnswer, load, storeChecks, store, copyChecks, compared, compare, textAnswer, textAt, copyTextChecks, copyText, mergeEnd, mergeStart, released, freeChecks, releasedAt, totalFits, totalled, freeRelease, merged, freed, free, gatheredAnswer, placesOf, allHeld, extentsOf, releaseChecks, pointersTo, cuePointers, freeEach, releaseCue, freeTotal, tallyOpened, tallyCounted, tally}
 use Rattle.store.specs.Step as call
 use Rattle.store.specs.declared.answer.Answer.{Answer}
 use Rattle.store.specs.declared.comparing.Comparison.{Comparison}
+use Rattle.store.specs.declared.locate.Found.{Found}
+use Rattle.store.specs.declared.locate.Found.the-variants as found
 use Rattle.store.specs.declared.measuring.Measurement.{Measurement}
 use Rattle.store.specs.declared.counting.Usage.{Usage}
 
@@ -63,6 +65,8 @@ pub data Case : Type 0 where
   retotals : (L : ℕ) (sizes cues : List ℕ) (total index v at byte : ℕ) (c : call.Call) (number left : ℕ) → Case
   -- W8: with so many table entries and another byte, the distances of a pointer: the returned number, and both values
   measures : (L : ℕ) (before : List ℕ) (entries at byte pointer number : ℕ) (start end : ℤ) → Case
+  -- W8: what the tag of a pointer is read as
+  reads : (L : ℕ) (before : List ℕ) (pointer header base size : ℕ) (offset remaining : ℤ) → Case
 
 -- a store set up on an image and table that were full of other bytes
 abbrev begun : ℕ → State
@@ -116,6 +120,13 @@ gives u number objects live free overhead =
 -- two signed numbers are one
 abbrev equal : ℤ → ℤ → Bool
 equal a b = leZ a b && leZ b a
+
+-- the tag reader found that object, and these distances
+abbrev finds : Found → ℕ → ℕ → ℕ → ℤ → ℤ → Bool
+finds (found.At o) header base size offset remaining =
+    eqb (o .header) header
+    && (eqb (o .base) base && (eqb (o .size) size && (equal (o .offset) offset && equal (o .remaining) remaining)))
+finds (found.Refused r) header base size offset remaining = false
 
 abbrev same : Bool → Bool → Bool
 same a b = cond a b (not b)
@@ -181,6 +192,8 @@ holds (measures L before entries at byte pointer number start end) =
     let x : State = placed before (begun L) in
     let m : Measurement = distances pointer (state (set (x .image) at byte) (take entries (x .table))) in
     eqb (distancesNumber m) number && (equal (startDistance m) start && equal (endDistance m) end)
+holds (reads L before pointer header base size offset remaining) =
+    finds (readTag 6 (unpack pointer) (placed before (begun L))) header base size offset remaining
 
 abbrev pub all : List Case → Bool
 all [] = true
@@ -319,6 +332,9 @@ cases =
     ∷ retotals 256 four inTurn 0xFFFFFFFF 2 0 78 1 (call.releases 7) 7 0xFFFFFFFF
     ∷ retotals 256 four inTurn 0xFFFFFFFF 2 0 0 16 (call.stores 0x8010000000000020 4 5) 0 0xFFFFFFFF
     ∷ retotals 256 four inTurn 113 2 0 4 0 (call.loads 0x8010000000000020 4) 4 0
+    ∷ reads 1024 (10 ∷ []) 0x8010000000000027 16 32 10 (pos 7) (pos 3)
+    ∷ reads 1024 (10 ∷ 20 ∷ []) 0x0007000000000039 42 58 20 (negsuc 0) (pos 21)
+    ∷ reads 64 (17 ∷ []) 0x8010000000000032 16 32 17 (pos 18) (negsuc 0)
     ∷ measures 1024 (10 ∷ []) 400 0 16 0x8010000000000020 0 (pos 0) (pos 10)
     ∷ measures 1024 (10 ∷ []) 400 0 16 0x801000000000001F 0 (negsuc 0) (pos 11)
     ∷ measures 1024 (10 ∷ []) 400 0 16 0x8010000000000029 0 (pos 9) (pos 1)
@@ -357,5 +373,5 @@ cases =
     ∷ []
 
 pub worked : T (all cases)
-unfolding frameNumber frameNumberIn unpack pack goodTag reach landed moved wrapper tagNumber pointerTo tagMatches usedEntries entryAt encode decode field put superblock withTotal superblockGood header headerAt wellFormed sound walkIn walkFrom walk fitOf firstFit setUpChecks fresh setUp opening entryHolds fitAnswer takenExtent allocateChecks carved noted allocateFor headerPlace verified leadsBack located fromStart toEnd inBody accessed distancesChecks distancesAt distances movedAnswer moveAnswer move loadAnswer load storeChecks store compareBytes textFrom textOf copyChecks compared compare textAnswer textAt copyTextChecks copyText countOf countBlocks tallyOpened tallyCounted tally metOf walkTo mergeEnd mergeStart released freeChecks releasedAt totalFits totalled freeRelease merged freed free walkCue gatheredAnswer placesOf allHeld extentsOf releaseChecks pointersTo cuePointers freeEach releaseCue freeTotal
+unfolding frameNumber frameNumberIn unpack pack goodTag reach landed moved wrapper tagNumber pointerTo tagMatches usedEntries entryAt encode decode field put superblock withTotal superblockGood header headerAt wellFormed sound walkIn walkFrom walk fitOf firstFit setUpChecks fresh setUp opening entryHolds fitAnswer takenExtent allocateChecks carved noted allocateFor headerPlace verified leadsBack located fromStart toEnd foundAt readTag inBody accessed distancesChecks distancesAt distances movedAnswer moveAnswer move loadAnswer load storeChecks store compareBytes textFrom textOf copyChecks compared compare textAnswer textAt copyTextChecks copyText countOf countBlocks tallyOpened tallyCounted tally metOf walkTo mergeEnd mergeStart released freeChecks releasedAt totalFits totalled freeRelease merged freed free walkCue gatheredAnswer placesOf allHeld extentsOf releaseChecks pointersTo cuePointers freeEach releaseCue freeTotal
 worked = tt

@@ -15,7 +15,7 @@ const DAMAGES: [(u64, Make); 10] = [
     (16, Generator::damage_total),
     (1, Generator::short_image),
     (1, Generator::low_header),
-    (4, Generator::damage_for_distances),
+    (8, Generator::damage_for_distances),
 ];
 
 /// The sixteen bytes at `at`.

@@ -103,10 +103,10 @@ impl Generator {
         let ((step, start), size) = (self.objects[object].pointers[0], self.objects[object].size);
         let h = Pointer::unpack(start).address.wrapping_sub(model::HEADER);
         let Some(header) = model::sound(view.image, h) else { return };
-        let by_entry = !Pointer::unpack(start).small && self.random.percent(70);
+        let by_entry = !Pointer::unpack(start).small && self.random.percent(90);
         if by_entry {
             let value = match self.in_another_frame(start) {
-                Some(other) if self.random.percent(70) => other,
+                Some(other) if self.random.percent(90) => other,
                 _ => self.entry_value(h),
             };
             self.push(Action::Damage(Damage::EntryOf { of: Arg::of(step), value: Some(value) }));

@@ -72,22 +72,13 @@ impl Looked<'_> {
         }
     }
 
-    /// The exponent of slot or frame; the tag is in range.
-    fn reach(&self) -> u32 {
-        if self.p.small {
-            self.s
-        } else {
-            self.p.tag as u32
-        }
-    }
-
     /// The address's place in its slot or frame.
     fn place(&self) -> u64 {
-        self.p.address & ((1 << self.reach()) - 1)
+        self.p.address & ((1 << self.p.reach(self.s)) - 1)
     }
 
     fn is_last(&self) -> bool {
-        self.place() == (1 << self.reach()) - 1
+        self.place() == (1 << self.p.reach(self.s)) - 1
     }
 
     fn length(&self) -> u64 {
@@ -180,11 +171,10 @@ const REFUSED: [Row; 20] = [
 
 /// What the tag leads to, as far as image and table go.
 fn found(image: &[u8], table: &[u64], s: u32, p: Pointer) -> Option<Found> {
-    let in_range = if p.small { p.tag < 1 << s } else { u64::from(s) < p.tag && p.tag <= 31 };
-    if !in_range {
+    if !p.tag_in_range(s) {
         return None;
     }
-    let reach = if p.small { s } else { p.tag as u32 };
+    let reach = p.reach(s);
     let start = p.address >> reach << reach;
     if start >= image.len() as u64 {
         return Some(Found::Behind);

@@ -201,17 +201,9 @@ fn exponent(image: &[u8]) -> Option<u32> {
     image.get(6).map(|&s| u32::from(s)).filter(|s| (6..=15).contains(s) && image.len() >= 64)
 }
 
-fn tag_in_range(s: u32, p: Pointer) -> bool {
-    if p.small {
-        p.tag < 1 << s
-    } else {
-        u64::from(s) < p.tag && p.tag <= 31
-    }
-}
-
 /// 10 before 4 or 5.
 fn tag_first(image: &[u8], _: &[u64], pointer: u64) -> Option<Answer> {
-    (!tag_in_range(exponent(image)?, Pointer::unpack(pointer))).then(|| Answer::new(10, []))
+    (!Pointer::unpack(pointer).tag_in_range(exponent(image)?)).then(|| Answer::new(10, []))
 }
 
 /// Accepted before 5: a small-framed pointer needs no table.
@@ -231,8 +223,8 @@ fn rows_in_another_order() {
 
 /// The header that a tag in range leads to, and its place, if there are 16 bytes.
 fn led_to(image: &[u8], table: &[u64], p: Pointer) -> Option<(u64, Header)> {
-    let s = exponent(image).filter(|&s| tag_in_range(s, p))?;
-    let reach = if p.small { s } else { p.tag as u32 };
+    let s = exponent(image).filter(|&s| p.tag_in_range(s))?;
+    let reach = p.reach(s);
     let start = p.address >> reach << reach;
     let h = if p.small { start + p.tag } else { *table.get(model::entry(s, reach, p.address) as usize)? };
     (start < image.len() as u64 && h <= image.len() as u64 - 16).then(|| (h, Header::read(image, h)))
@@ -257,7 +249,7 @@ fn sound_and_live(image: &[u8], h: u64) -> bool {
 }
 
 fn in_its_frame(image: &[u8], h: u64, p: Pointer) -> bool {
-    let reach = if p.small { u32::from(image[6]) } else { p.tag as u32 };
+    let reach = p.reach(image[6].into());
     h >> reach == p.address >> reach
 }
 
@@ -512,6 +504,7 @@ measures! {
     one_past_the_end |a| a.from_start >= 0 && a.to_end >= a.bytes - 1;
     at_the_end |a| INSIDE(a) || a.to_end == 0;
     // a negative distance as a large one
+    start_unsigned |a| a.to_end >= a.bytes;
     end_unsigned |a| a.from_start >= 0 && a.to_end as u64 >= a.bytes as u64;
     not_at_the_base |a| a.from_start > 0 && a.to_end >= a.bytes;
     not_up_to_the_end |a| a.from_start >= 0 && a.to_end > a.bytes;

@@ -57,7 +57,7 @@ fn find(fault: Behaviour) -> Box<Failure> {
 
 /// The same fault on both sides: only the driver's own checks can find it.
 fn both(fault: Behaviour) -> Box<Failure> {
-    compare(&Faulty(fault), &Faulty(fault), 100_000, 1).expect_err("the fault was not found")
+    compare(&Faulty(fault), &Faulty(fault), 1_000_000, 1).expect_err("the fault was not found")
 }
 
 #[test]

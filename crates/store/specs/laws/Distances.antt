@@ -74,52 +74,56 @@ difference-fits a b n k l = rw (difference-is a b) (by-difference (λ z. mag z <
 
 -- What the two numbers say, of a pointer and an object of `size` bytes at h.
 
-module _ (h size : ℕ) (p : Pointer) where
-  -- their sum
-  pub distances-sum : fromStart h p +ℤ toEnd h size p ≡ pos size
-  unfolding fromStart toEnd
-  distances-sum = difference-sum (p .address) (h + 16) size
-
-  -- row 15
-  pub start-none : (fromStart h p ≡ pos 0) ↔ (p .address ≡ h + 16)
-  unfolding fromStart
-  start-none = difference-none (p .address) (h + 16)
-
+module _ (h : ℕ) (p : Pointer) where
   -- as the integers subtract
   pub start-is : pos (p .address) -ℤ pos (h + 16) ≡ fromStart h p
   unfolding fromStart
   start-is = difference-is (p .address) (h + 16)
 
-  pub end-is : pos (h + 16 + size) -ℤ pos (p .address) ≡ toEnd h size p
+  pub end-is : (size : ℕ) → pos (h + 16 + size) -ℤ pos (p .address) ≡ toEnd h size p
   unfolding toEnd
-  end-is = difference-is (h + 16 + size) (p .address)
+  end-is size = difference-is (h + 16 + size) (p .address)
+
+  -- their sum
+  pub distances-sum : (size : ℕ) → fromStart h p +ℤ toEnd h size p ≡ pos size
+  unfolding fromStart toEnd
+  distances-sum size = difference-sum (p .address) (h + 16) size
+
+  -- row 15
+  start-none : (fromStart h p ≡ pos 0) ↔ (p .address ≡ h + 16)
+  unfolding fromStart
+  start-none = difference-none (p .address) (h + 16)
 
   -- the bytes from the address to the end
-  pub end-bytes : p .address ≤ h + 16 + size → toEnd h size p ≡ pos (h + 16 + size - p .address)
+  end-bytes : (size : ℕ) → p .address ≤ h + 16 + size → toEnd h size p ≡ pos (h + 16 + size - p .address)
   unfolding toEnd
-  end-bytes l = difference-high (h + 16 + size) (p .address) l
+  end-bytes size l = difference-high (h + 16 + size) (p .address) l
 
--- row 13
-pub in-body : (image : List ℕ) (h : ℕ) (p : Pointer) (n : ℕ) → inBody image h p n ≡ leZ (pos 0) (fromStart h p) && leZ (pos n) (toEnd h (sizeAt image h) p)
-unfolding inBody fromStart toEnd
-in-body image h p n =
-    let a : leZ (pos 0) (subℕ (p .address) (h + 16)) ≡ leb (h + 16) (p .address) = difference-least (p .address) (h + 16) 0 ∙ ap (λ (k : ℕ). leb k (p .address)) (omega arith) in
-    let b : leZ (pos n) (subℕ (h + 16 + sizeAt image h) (p .address)) ≡ leb (p .address + n) (h + 16 + sizeAt image h) = difference-least (h + 16 + sizeAt image h) (p .address) n in
-    rw (a, b) refl
+  -- row 13
+  in-body : (image : List ℕ) (n : ℕ) → inBody image h p n ≡ leZ (pos 0) (fromStart h p) && leZ (pos n) (toEnd h (sizeAt image h) p)
+  unfolding inBody fromStart toEnd
+  in-body image n =
+      let a : leZ (pos 0) (subℕ (p .address) (h + 16)) ≡ leb (h + 16) (p .address) =
+      difference-least (p .address) (h + 16) 0 ∙ ap (λ (k : ℕ). leb k (p .address)) (omega arith)
+      in
+      let b : leZ (pos n) (subℕ (h + 16 + sizeAt image h) (p .address)) ≡ leb (p .address + n) (h + 16 + sizeAt image h) =
+      difference-least (h + 16 + sizeAt image h) (p .address) n
+      in
+      rw (a, b) refl
 
 -- as they are read of the object that a tag leads to
 
 module _ (s : ℕ) (p : Pointer) (x : State) (o : Reading) (f : FoundAt s p x o) where
   pub found-body : (n : ℕ) → leZ (pos 0) (o .offset) && leZ (pos n) (o .remaining) ≡ inBody (x .image) (o .header) p n
   found-body n =
-      ap (λ (r : Reading). leZ (pos 0) (r .offset) && leZ (pos n) (r .remaining)) (f .read) ∙ sym (in-body (x .image) (o .header) p n)
+      ap (λ (r : Reading). leZ (pos 0) (r .offset) && leZ (pos n) (r .remaining)) (f .read) ∙ sym (in-body (o .header) p (x .image) n)
 
   pub found-base : (o .offset ≡ pos 0) ↔ (p .address ≡ o .header + 16)
-  found-base = rw (f .read) (start-none (o .header) (o .size) p)
+  found-base = rw (f .read) (start-none (o .header) p)
 
   pub found-remaining : p .address ≤ o .header + 16 + sizeAt (x .image) (o .header)
       → o .remaining ≡ pos (o .header + 16 + sizeAt (x .image) (o .header) - p .address)
-  found-remaining l = ap (λ (r : Reading). r .remaining) (f .read) ∙ end-bytes (o .header) (sizeAt (x .image) (o .header)) p l
+  found-remaining l = ap (λ (r : Reading). r .remaining) (f .read) ∙ end-bytes (o .header) p (sizeAt (x .image) (o .header)) l
 
 -- The call's rows.
 
@@ -147,9 +151,3 @@ module _ (x : State) (s : ℕ) (e : opening x ≡ Accepted s) (word : ℕ) where
       ≡ measurement.Distances (subℕ (unpack word .address) (h + 16)) (subℕ (h + 16 + sizeAt (x .image) h) (unpack word .address))
   unfolding fromStart toEnd
   distances-located h l = sym (distances-given h l)
-
--- by its tests
-pub distances-passed : (word h : ℕ) (x : State) → distancesChecks word x ≡ Accepted h
-    → distances word x ≡ measurement.Distances (fromStart h (unpack word)) (toEnd h (sizeAt (x .image) h) (unpack word))
-unfolding distances distancesAt
-distances-passed word h x e = rw e

@@ -64,7 +64,8 @@ returns c =
     let u = at-parts g in
     let s = start u .args .s in
     let l = rw (reaches g .exponent) at (c .before .frame-start .ensures) in
-    found-refused _ _ _ ∙ found-by s (parts u) _ _ (starts-past s (parts u) (state _ _) (reaches g .good) (omega (arith, l, c .if1 .taken))) ∙ read u
+    found-refused _ _ _
+    ∙ found-by s (parts u) _ _ (starts-past s (parts u) (state _ _) (reaches g .good) (omega (arith, l, c .if1 .taken))) ∙ read u
 
 header-place-requires : tie.Need-header-place-requires
 header-place-requires c κs =
@@ -73,7 +74,8 @@ header-place-requires c κs =
     let o = is-open b in
     let r = reaches (at-good c) in
     let l = rw (c .before .frame-start .ensures) at (c .if1 .left) in
-    (omega (arith, o .high), in-range u, r .good, r .exponent, omega (arith, o .short, l), lt-of-lt-of-le (entry-used (b .args .s) _ _ (parts u .address) (r .small (omega (arith, o .high))) l) (o .entries))
+    let used = entry-used (b .args .s) _ _ (parts u .address) (r .small (omega (arith, o .high))) l in
+    (omega (arith, o .high), in-range u, r .good, r .exponent, omega (arith, o .short, l), lt-of-lt-of-le used (o .entries))
 
 verified-at-requires : tie.Need-verified-at-requires
 verified-at-requires c κs =
@@ -87,7 +89,8 @@ returns-2 : tie.Need-returns-2
 returns-2 c =
     let u = c .before .before .before in
     let s = start u .args .s in
-    found-refused _ _ _ ∙ found-by s (parts u) _ _ (bad-tag _ _ (state _ _) (reach-bad _ _ (sym (c .before .before .reach .ensures) ∙ c .enum-told .given .1))) ∙ read u
+    found-refused _ _ _
+    ∙ found-by s (parts u) _ _ (bad-tag _ _ (state _ _) (reach-bad _ _ (sym (c .before .before .reach .ensures) ∙ c .enum-told .given .1))) ∙ read u
 
 -- row 11, or the object
 returns-3 : tie.Need-returns-3
@@ -95,7 +98,9 @@ returns-3 c =
     let g = at-good (c .before .before) in
     let u = at-parts g in
     let s = start u .args .s in
-    c .verified-at .ensures ∙ found-by s (parts u) (state _ _) _ (starts-in s (parts u) (state _ _) (reaches g .good) _ (starts (c .before .before)) (c .before .header-place .ensures)) ∙ read u
+    c .verified-at .ensures
+    ∙ found-by s (parts u) (state _ _) _ (starts-in s (parts u) (state _ _) (reaches g .good) _ (starts (c .before .before)) (c .before .header-place .ensures))
+    ∙ read u
 
 pub locate-spec : {M : Type 1} → statement M
 locate-spec =

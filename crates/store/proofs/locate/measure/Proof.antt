@@ -44,8 +44,8 @@ returns c =
     let b = c .before in
     let a = b .args in
     ap₂ (λ (x y : ℤ). record { header = a .h; base = a .h + 16; size = a .size; offset = x; remaining = y })
-    (exact _ _ (address-low b) (base-low b) ∙ start-is (a .h) (a .size) (a .p))
-    (exact _ _ (end-low b) (address-low b) ∙ end-is (a .h) (a .size) (a .p))
+    (exact _ _ (address-low b) (base-low b) ∙ start-is (a .h) (a .p))
+    (exact _ _ (end-low b) (address-low b) ∙ end-is (a .h) (a .p) (a .size))
 
 pub measure-spec : {M : Type 1} → statement M
 measure-spec =
