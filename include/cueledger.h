@@ -39,9 +39,9 @@ extern "C" {
 #endif
 
 #define CUE_VERSION_MAJOR 1
-#define CUE_VERSION_MINOR 5
+#define CUE_VERSION_MINOR 6
 #define CUE_VERSION_PATCH 0
-#define CUE_VERSION "1.5.0"
+#define CUE_VERSION "1.6.0"
 
 /* 17 to 19 are a call log's (docs/FORMAT.md): the program replay prints them, and no function returns them. */
 enum cue_refusal {
@@ -51,7 +51,7 @@ enum cue_refusal {
     CUE_TOO_FEW_ENTRIES = 3, /* setup: table shorter than CUE_TABLE_ENTRIES */
     CUE_BAD_SUPERBLOCK = 4,  /* image not set up, set up with another length, or damaged at its start */
     CUE_SHORT_TABLE = 5,     /* table shorter than CUE_TABLE_ENTRIES */
-    CUE_EMPTY = 6,           /* size or length 0 */
+    CUE_EMPTY = 6,           /* fill, copy, compare: length 0 */
     CUE_UNSOUND = 7,         /* unsound header on the walk: the image is damaged */
     CUE_NO_SPACE = 8,        /* no free block is large enough */
     CUE_ENTRY_TAKEN = 9,     /* the new object's table entry is not zero: the table is damaged, or another image's */
@@ -77,7 +77,7 @@ static inline const char *cue_reason(uint32_t number)
     case CUE_TOO_FEW_ENTRIES: return "table too short to set up";
     case CUE_BAD_SUPERBLOCK: return "superblock not as laid out";
     case CUE_SHORT_TABLE: return "table shorter than the used entries";
-    case CUE_EMPTY: return "size or length 0";
+    case CUE_EMPTY: return "length 0";
     case CUE_UNSOUND: return "walk meets an unsound header";
     case CUE_NO_SPACE: return "no free block fits";
     case CUE_ENTRY_TAKEN: return "table entry not zero";
@@ -104,9 +104,9 @@ static inline const char *cue_reason(uint32_t number)
  * them are never written. The free total is image_len - 16.
  * Refusals, in order: 1, 2, 3.
  *
- * The slot exponent s sets the slot, 2^s bytes. An object with header and body in one slot (small-framed) is found from
- * its pointer alone; any other takes a table entry, and its loads and stores read the table too. The table takes 48 * 8
- * bytes for each 2^(s + 1) bytes of image, at least once:
+ * The slot exponent s sets the slot, 2^s bytes. An object with header, body and the byte behind them in one slot
+ * (small-framed) is found from its pointer alone; any other takes a table entry, and its loads and stores read the table
+ * too. The table takes 48 * 8 bytes for each 2^(s + 1) bytes of image, at least once:
  *     s        6      7      8      9     10     11     12     13     14     15
  *     table  300 %  150 %   75 %   38 %   19 %  9.4 %  4.7 %  2.3 %  1.2 %  0.6 %  of the image
  * Of many objects of one size, about (16 + size) / 2^s are not small-framed, and all are where 17 + size > 2^s:
@@ -119,7 +119,9 @@ uint32_t cue_setup(uint8_t *image, size_t image_len, uint64_t *table, size_t tab
 /* Takes the lowest free block that fits and gives the tagged pointer to the body, which is not written: it is zero on an
  * image that only these calls have written since cue_setup. The free total falls by the object's extent: 16 + size, and
  * the at most 15 spare bytes behind it.
- * Refusals, in order: 4, 5, 6, then 7 or 8 as the walk ends, 9, 22 (the extent exceeds the free total). */
+ * Size 0 gives an object of no bytes, a header of 16 without a body: no other live object has its pointer, and no byte can
+ * be loaded or stored through it. Its address may be image_len.
+ * Refusals, in order: 4, 5, then 7 or 8 as the walk ends, 9, 22 (the extent exceeds the free total). */
 uint32_t cue_allocate(uint8_t *image, size_t image_len, uint64_t *table, size_t table_len, uint32_t size, uint16_t type, uint64_t *pointer);
 
 /* The same for a cue, whose objects cue_release frees together. cue_allocate is for cue 0.

@@ -88,18 +88,18 @@ pub fn free_totals(bench: &mut Bench) {
     }
 }
 
-/// Allocate and free of an object of 32 bytes behind the last block, in each image; times are divided by `units`.
-fn allocate_and_free(bench: &mut Bench, name: &str, layout: Layout, images: usize, units: usize) {
+/// Allocate and free of an object of so many bytes behind the last block, in each image; times are divided by `units`.
+fn allocate_and_free_of(bench: &mut Bench, size: u32, name: &str, layout: Layout, images: usize, units: usize) {
     let mut lents: Vec<Lent> = (0..images).map(|_| layout.lent()).collect();
     let units = units * images;
     // it has the same pointer in every image
-    let last = lents.iter_mut().map(|lent| lent.allocate(32)).last().unwrap();
+    let last = lents.iter_mut().map(|lent| lent.allocate(size)).last().unwrap();
     let give = |lents: &mut Vec<Lent>| lents.iter_mut().for_each(|lent| sink(Model::free(lent, last).unwrap()));
-    let take = |lents: &mut Vec<Lent>| lents.iter_mut().for_each(|lent| sink(lent.allocate(32)));
+    let take = |lents: &mut Vec<Lent>| lents.iter_mut().for_each(|lent| sink(lent.allocate(size)));
     // not timed: the object is freed before each round of allocate, and allocated again after each of free
     let allocates = both!(|C, lents: Vec<Lent>| {
         give(lents);
-        time(|| lents.iter_mut().for_each(|lent| sink(C::allocate(lent, 32).unwrap())))
+        time(|| lents.iter_mut().for_each(|lent| sink(C::allocate(lent, size).unwrap())))
     });
     bench.line(&format!("allocate, {name}"), units, &mut lents, allocates, Other::None);
     let frees = both!(|C, lents: Vec<Lent>| {
@@ -108,6 +108,10 @@ fn allocate_and_free(bench: &mut Bench, name: &str, layout: Layout, images: usiz
         ns
     });
     bench.line(&format!("free, {name}"), units, &mut lents, frees, Other::None);
+}
+
+fn allocate_and_free(bench: &mut Bench, name: &str, layout: Layout, images: usize, units: usize) {
+    allocate_and_free_of(bench, 32, name, layout, images, units);
 }
 
 fn tally(bench: &mut Bench, name: &str, mut lents: Vec<Lent>, units: usize) {
@@ -122,6 +126,7 @@ pub fn few(bench: &mut Bench) {
         let layout = Layout { blocks, extent: 32, free: 64, slot_exponent: 15 };
         allocate_and_free(bench, &format!("{name}, small-framed"), layout, 256, 1);
         allocate_and_free(bench, &format!("{name}, large-framed"), Layout { slot_exponent: 6, ..layout }, 256, 1);
+        allocate_and_free_of(bench, 0, &format!("{name}, no bytes"), layout, 256, 1);
         tally(bench, name, (0..256).map(|_| layout.lent()).collect(), 1);
     }
     // the object lies across 2^17

@@ -38,7 +38,6 @@ pub fn measure(bench: &mut Bench) {
     // a text of three letters
     Model::fill(&mut lent, small, 3, b'_').unwrap();
     refused!(bench, lent, "set-up, s = 5", 1, |C, lent| C::set_up(lent, 5));
-    refused!(bench, lent, "allocate 0 bytes", 6, |C, lent| C::allocate(lent, 0));
     refused!(bench, lent, "allocate, no space behind 12 blocks", 8, |C, lent| C::allocate(lent, 2000));
     refused!(bench, lent, "load, bad tag", 10, |C, lent| C::load(lent, small & !(1 << 63) | 63 << 48, 8));
     refused!(bench, lent, "distances, bad tag", 10, |C, lent| C::distances(lent, small & !(1 << 63) | 63 << 48));
@@ -49,6 +48,7 @@ pub fn measure(bench: &mut Bench) {
     refused!(bench, lent, "load, past the end, large-framed", 13, |C, lent| C::load(lent, large + 293, 8));
     refused!(bench, lent, "store, past the end, small-framed", 13, |C, lent| C::store(lent, small + 33, 8, 1));
     refused!(bench, lent, "copy, source past the end", 13, |C, lent| C::copy(lent, large, small, 41));
+    refused!(bench, lent, "fill 0 bytes", 6, |C, lent| C::fill(lent, small, 0, 1));
     refused!(bench, lent, "compare 0 bytes", 6, |C, lent| C::compare(lent, small, large, 0));
     refused!(bench, lent, "compare, right past the end", 13, |C, lent| C::compare(lent, large, small, 41));
     refused!(bench, lent, "text copy, target too small", 13, |C, lent| C::copy_text(lent, small + 37, small));

@@ -22,7 +22,7 @@ static void report(const char *call, uint32_t number)
 
 int main(void)
 {
-    uint64_t record, name, buffer, moved, value, objects, live_bytes, free_bytes, overhead_bytes, total;
+    uint64_t record, name, buffer, empty, moved, value, objects, live_bytes, free_bytes, overhead_bytes, total;
     int64_t order, from_start, to_end;
 
     report("set up", cue_setup(STORE, SLOT_EXPONENT));
@@ -75,6 +75,12 @@ int main(void)
     report("copy the text to the record", cue_copy_text(STORE, record, name, &value));
     printf("%" PRIu64 " bytes\n", value);
     report("free the name", cue_free(STORE, name));
+
+    report("allocate 0 for cue 11", cue_allocate_for(STORE, 0, 9, 11, &empty)); /* no samples yet, but a pointer of its own */
+    report("load 1 there", cue_load(STORE, empty, 1, &value));
+    report("distances there", cue_distances(STORE, empty, &from_start, &to_end));
+    printf("%" PRId64 " from the start, %" PRId64 " to the end\n", from_start, to_end);
+    report("free it", cue_free(STORE, empty));
 
     report("allocate 100 for cue 12", cue_allocate_for(STORE, 100, 9, 12, &buffer));
     report("allocate 2000 for cue 12", cue_allocate_for(STORE, 2000, 9, 12, &buffer)); /* large-framed: longer than a slot */

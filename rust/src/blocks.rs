@@ -25,7 +25,7 @@ pub struct Block {
     pub kind: Kind,
     /// The object's type number; 0 for a free block.
     pub type_number: u16,
-    /// Bytes of the object; 0 for a free block.
+    /// Bytes of the object, which may have none; 0 for a free block.
     pub size: u32,
     /// The cue that the object was allocated for; 0 for a free block.
     pub cue: u32,
@@ -107,7 +107,7 @@ impl<'a> Blocks<'a> {
         let (type_number, cue) = (u16::from_le_bytes([t0, t1]), u32::from_le_bytes([c0, c1, c2, c3]));
         let kind = match u16::from_le_bytes([k0, k1]) {
             1 if type_number == 0 && size == 0 && cue == 0 => Kind::Free,
-            2 if size >= 1 && (16..=31).contains(&(i64::from(extent) - i64::from(size))) => Kind::Live,
+            2 if (16..=31).contains(&(i64::from(extent) - i64::from(size))) => Kind::Live,
             _ => return None,
         };
         let inside = extent as usize >= HEADER && extent as usize <= rest.len();

@@ -19,7 +19,7 @@ use core::fmt;
 pub struct Pointer(u64);
 
 impl Pointer {
-    /// Whether the object is small-framed: header and body inside one slot.
+    /// Whether the object is small-framed: header, body and the byte behind them inside one slot.
     ///
     /// ```
     /// # use cueledger::Pointer;

@@ -22,7 +22,7 @@ pub enum Refusal {
     BadSuperblock = 4,
     /// 5: the table is shorter than the used entries.
     ShortTable = 5,
-    /// 6: the size or length is 0.
+    /// 6, fill, copy, compare: the length is 0.
     Empty = 6,
     /// 7: the walk met an unsound header; free: it passed the object's header without meeting it, or the next one is unsound.
     ///
@@ -124,7 +124,7 @@ impl Refusal {
             Refusal::TooFewEntries => "table too short to set up",
             Refusal::BadSuperblock => "superblock not as laid out",
             Refusal::ShortTable => "table shorter than the used entries",
-            Refusal::Empty => "size or length 0",
+            Refusal::Empty => "length 0",
             Refusal::Unsound => "walk meets an unsound header",
             Refusal::NoSpace => "no free block fits",
             Refusal::EntryTaken => "table entry not zero",

@@ -151,17 +151,23 @@ impl<'a> Store<'a> {
     /// The body is not written; it is zero on an image that only these calls have written since [`Store::set_up`]. The
     /// [free total](Store::free_total) falls by the object's extent.
     ///
-    /// Refused with, in this order: [`Empty`](Refusal::Empty); [`Unsound`](Refusal::Unsound) or [`NoSpace`](Refusal::NoSpace), as
-    /// the walk over the blocks ends; [`EntryTaken`](Refusal::EntryTaken); [`WrongTotal`](Refusal::WrongTotal). The last two never
-    /// occur where only these calls have written, through pointers of live objects.
+    /// Size 0 gives an object of no bytes, a header of 16 without a body: no other live object has its pointer, and nothing can be
+    /// read or written through it. Its address may be the image's length.
+    ///
+    /// Refused with, in this order: [`Unsound`](Refusal::Unsound) or [`NoSpace`](Refusal::NoSpace), as the walk over the blocks
+    /// ends; [`EntryTaken`](Refusal::EntryTaken); [`WrongTotal`](Refusal::WrongTotal). The last two never occur where only these
+    /// calls have written, through pointers of live objects.
     ///
     /// ```
-    /// # use cueledger::{Refusal, Store};
+    /// # use cueledger::{Refusal, Store, Width};
     /// # let (mut image, mut table) = ([0u8; 1024], [0u64; Store::table_entries(1024, 9)]);
     /// let mut store = Store::set_up(&mut image, &mut table, 9)?;
     /// assert_eq!(store.allocate(10, 7)?.address(), 32); // 16 bytes of superblock, 16 of header
-    /// assert_eq!(store.allocate(0, 7), Err(Refusal::Empty));
     /// assert_eq!(store.allocate(1000, 7), Err(Refusal::NoSpace));
+    ///
+    /// let empty = store.allocate(0, 7)?;
+    /// assert_eq!(empty.address(), 58); // behind its header
+    /// assert_eq!(store.load(empty, Width::One), Err(Refusal::OutOfBounds));
     /// # Ok::<(), Refusal>(())
     /// ```
     #[inline]

@@ -80,6 +80,35 @@ fn last_bytes() {
     assert!(Blocks::new(&image).all(|block| block.unwrap().cue == 0));
 }
 
+/// A live block of no bytes has 0 to 15 spare ones; one byte has as many.
+#[test]
+fn no_bytes() {
+    let (mut image, mut table) = ([0; 64], [0; Store::table_entries(64, EXPONENT)]);
+    let mut store = Store::set_up(&mut image, &mut table, EXPONENT).unwrap();
+    let empties = [(); 3].map(|()| store.allocate_for(0, 0x0102, CUE).unwrap());
+    let live = |place| Block { place, extent: 16, kind: Kind::Live, type_number: 0x0102, size: 0, cue: CUE };
+    assert!(store.blocks().eq([16, 32, 48].map(|place| Ok(live(place)))));
+    assert_eq!(empties.map(|empty| empty.address()), [32, 48, 64]);
+    assert_eq!(store.allocate(0, 0), Err(Refusal::NoSpace));
+    assert_eq!(store.tally(), counted(store.image()));
+
+    for size in 0..4u8 {
+        for extent in 0..=48u8 {
+            let (mut image, mut table) = ([0; 64], table);
+            Store::set_up(&mut image, &mut table, EXPONENT).unwrap();
+            // kind 2, and a free block up to the end
+            image[16..28].copy_from_slice(&[extent, 0, 0, 0, 2, 0, 0, 0, size, 0, 0, 0]);
+            if (16..=32).contains(&extent) {
+                image[16 + usize::from(extent)..][..5].copy_from_slice(&[48 - extent, 0, 0, 0, 1]);
+            }
+            let first = Blocks::new(&image).next().unwrap();
+            assert_eq!(first.is_ok(), (16 + size..=31 + size).contains(&extent), "extent {extent}, size {size}");
+            let expected = counted(&image);
+            assert_eq!(Store::open(&mut image, &mut table).unwrap().tally(), expected, "extent {extent}, size {size}");
+        }
+    }
+}
+
 /// The free total is that of the free blocks; on a damaged superblock it is given as it stands.
 #[test]
 fn free_total() {

@@ -63,6 +63,10 @@ int main(void)
     expect_distances(pointer - 1, CUE_ACCEPTED, -1, 11);
     expect_distances(pointer + 11, CUE_ACCEPTED, 11, -1);
     expect_distances(pointer + 32, CUE_DANGLING, 0, 0);
+    expect("allocate 0", cue_allocate(image, 1024, table, CUE_TABLE_ENTRIES(1024, 6), 0, 7, &pointer), CUE_ACCEPTED);
+    expect_distances(pointer, CUE_ACCEPTED, 0, 0);
+    expect("fill 0", cue_fill(image, 1024, table, CUE_TABLE_ENTRIES(1024, 6), pointer, 0, 1), CUE_EMPTY);
+    expect("fill 1", cue_fill(image, 1024, table, CUE_TABLE_ENTRIES(1024, 6), pointer, 1, 1), CUE_OUT_OF_BOUNDS);
 
     /* a reason of its own for each number, and one for all that no call returns */
     for (number = CUE_ACCEPTED; number <= CUE_WRONG_TOTAL + 1; number++)

@@ -2,7 +2,7 @@
 
 use crate::counts::Counts;
 use crate::distances;
-use crate::model::{self, Pointer};
+use crate::model::{self, Header, Pointer};
 use crate::random::Random;
 use crate::store::{Access, Answer, Call, Store};
 use crate::totals;
@@ -87,8 +87,8 @@ pub struct Buffers {
     pub lent_image: usize,
     pub lent_table: usize,
     pub content: u64,
-    /// A history begun by set-up, on which 9 and 22 never occur, tally is accepted, the free total is its free bytes, and release
-    /// takes out the heap's objects.
+    /// A history begun by set-up, on which 9 and 22 never occur, tally is accepted, the free total is its free bytes, release takes
+    /// out the heap's objects, and allocate is accepted where there is room, with a pointer that leads to no other object.
     pub history: bool,
 }
 
@@ -116,6 +116,8 @@ pub enum Mismatch {
     NotTheHeaps,
     NotOfABody,
     NotByDistances,
+    NotByRoom,
+    NotItsOwn,
 }
 
 impl fmt::Display for Mismatch {
@@ -136,6 +138,8 @@ impl fmt::Display for Mismatch {
             Mismatch::NotTheHeaps => write!(f, "the expected store's release is not the single frees of the heap's objects of its cue"),
             Mismatch::NotOfABody => write!(f, "the expected store's distances are not those from a live header's body, of their sum as size"),
             Mismatch::NotByDistances => write!(f, "the expected store's answer is not what the distances of its pointers say"),
+            Mismatch::NotByRoom => write!(f, "the expected store answered 8 although a run of free bytes is long enough, or accepted although none is"),
+            Mismatch::NotItsOwn => write!(f, "the expected store gave a pointer that leads to another live object too"),
         }
     }
 }
@@ -338,6 +342,14 @@ impl<'a, A: Store, B: Store> Run<'a, A, B> {
         if !distances::agree(e.store, &mut asked.0[..n], &mut asked.1[..m], call, &expected) {
             return Err(Mismatch::NotByDistances);
         }
+        if let (true, Call::Allocate { size, .. } | Call::AllocateFor { size, .. }) = (self.begun, call) {
+            if [0, 8].contains(&expected.refusal) && expected.accepted() != (self.longest_run() >= model::HEADER + u64::from(size)) {
+                return Err(Mismatch::NotByRoom);
+            }
+            if expected.accepted() && !self.is_its_own(expected.values[0]) {
+                return Err(Mismatch::NotItsOwn);
+            }
+        }
         if self.begun && !self.hear(call, &expected) {
             return Err(Mismatch::NotTheHeaps);
         }
@@ -385,6 +397,24 @@ impl<'a, A: Store, B: Store> Run<'a, A, B> {
         let mut call = |call| side.store.call(&mut side.image[..self.lent_image], &mut side.table[..self.lent_table], call);
         let (total, tally) = (call(Call::FreeTotal), call(Call::Tally));
         !tally.accepted() || total == Answer::new(0, [tally.values[2]])
+    }
+
+    /// The most bytes side by side outside superblock and live extents, before the call.
+    fn longest_run(&self) -> u64 {
+        let image = &self.before.0[..self.lent_image];
+        let (mut end, mut longest) = (model::SUPERBLOCK, 0);
+        for h in self.heap.keys().filter(|&&base| base <= image.len() as u64).filter_map(|base| base.checked_sub(model::HEADER)) {
+            longest = longest.max(h.saturating_sub(end));
+            end = h + u64::from(Header::read(image, h).extent);
+        }
+        longest.max((image.len() as u64).saturating_sub(end))
+    }
+
+    /// Whether no live object has this tag in this slot or frame: moves keep both.
+    fn is_its_own(&self, pointer: u64) -> bool {
+        let (s, p) = (self.answers.slot_exponent, Pointer::unpack(pointer));
+        let shared = |q: Pointer| (p.small, p.tag) == (q.small, q.tag) && p.address >> p.reach(s) == q.address >> p.reach(s);
+        p.tag_in_range(s) && !self.heap.values().any(|&(other, _)| shared(Pointer::unpack(other)))
     }
 
     /// Keeps the heap; whether a release is accepted and has done what single frees of the heap's objects do.

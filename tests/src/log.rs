@@ -209,6 +209,7 @@ mod tests {
         let (pointer, other) = (0x8010000000000020, 0x0123456789abcdef);
         for call in [
             Call::Allocate { size: u32::MAX, type_number: 0x8001 },
+            Call::Allocate { size: 0, type_number: 0 },
             Call::Free { pointer },
             Call::Move { pointer, distance: -3 },
             Call::Load { pointer, width: 0xffff },

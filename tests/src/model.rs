@@ -105,7 +105,7 @@ pub fn sound(image: &[u8], h: u64) -> Option<Header> {
     }
     let fits_kind = match header.kind {
         FREE => header.type_number == 0 && size == 0 && header.last == 0,
-        LIVE => size >= 1 && HEADER + size <= extent && extent <= 31 + size,
+        LIVE => HEADER + size <= extent && extent <= 31 + size,
         _ => false,
     };
     fits_kind.then_some(header)
@@ -310,9 +310,6 @@ pub fn allocate(image: &mut [u8], table: &mut [u64], size: u32, type_number: u16
 
 pub fn allocate_for(image: &mut [u8], table: &mut [u64], size: u32, type_number: u16, cue: u32) -> Answer {
     let s = open(image, table)?;
-    if size == 0 {
-        return Err(6);
-    }
     let need = HEADER + u64::from(size);
     let mut h = SUPERBLOCK;
     let extent = loop {

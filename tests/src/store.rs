@@ -72,8 +72,8 @@ macro_rules! calls {
 // name, what it does to image and table, its refusals, and its arguments: pointers; others
 calls! {
     SetUp "set-up" Writes [1 2 3] { ; slot_exponent: u32 }
-    Allocate "allocate" Writes [4 5 6 7 8 9 22] { ; size: u32, type_number: u16 }
-    AllocateFor "allocate for" Writes [4 5 6 7 8 9 22] { ; size: u32, type_number: u16, cue: u32 }
+    Allocate "allocate" Writes [4 5 7 8 9 22] { ; size: u32, type_number: u16 }
+    AllocateFor "allocate for" Writes [4 5 7 8 9 22] { ; size: u32, type_number: u16, cue: u32 }
     Move "move" Reads [4 5 10 12] { pointer; distance: i64 }
     Load "load" Reads [4 5 14 10 11 13] { pointer; width: u64 }
     Store "store" Writes [4 5 14 16 10 11 13] { pointer; width: u64, value: u64 }

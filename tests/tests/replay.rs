@@ -202,6 +202,38 @@ fn sample() -> Vec<Input> {
     vec![sample, none]
 }
 
+/// An object of no bytes alone, and as many as there can be, each used and freed.
+fn empties() -> Vec<Input> {
+    let empty = Call::Allocate { size: 0, type_number: 7 };
+    let through = |pointer| {
+        [
+            Call::Load { pointer, width: 1 },
+            Call::Store { pointer, width: 1, value: 0 },
+            Call::Fill { pointer, length: 0, value: 0 },
+            Call::Fill { pointer, length: 1, value: 0 },
+            Call::Copy { target: pointer, source: pointer, length: 0 },
+            Call::Copy { target: pointer, source: pointer, length: 1 },
+            Call::Move { pointer, distance: 1 },
+            Call::Move { pointer, distance: -1 },
+            Call::Free { pointer: pointer + 1 },
+            Call::Free { pointer },
+            Call::Free { pointer },
+        ]
+    };
+    let alone = Input::new("an object of no bytes", records(&[&[empty][..], &through(POINTER)].concat()));
+    let moved = ["18 0 8010000000000021", "18 0 801000000000001F"];
+    let refused = |line: &str| format!("{line} 0000000000000000\n");
+    let lines = ["19 13", "20 13", "21 6", "21 13", "22 6", "22 13"].map(refused).concat() + &moved.map(|line| line.to_string() + "\n").concat();
+    assert_eq!(alone.expected, "16 0 8010000000000020\n".to_string() + &lines + &["17 15", "17 0", "17 11"].map(refused).concat());
+
+    let calls = vec![empty; log::LENGTH / 16];
+    let answers = log::answers(&calls);
+    // headers up to 8176; the last base is the image's end
+    assert_eq!((answers[510], answers[511]), (Answer::new(0, [0x000E000000002000]), Answer::new(8, [])));
+    let used = answers[..511].iter().flat_map(|answer| through(answer.values[0]));
+    vec![alone, Input::new("as many as there can be", records(&calls.into_iter().chain(used).collect::<Vec<_>>()))]
+}
+
 /// Random logs without a malformed record, unless they are longer than the limit.
 fn valid(seed: u64) -> Vec<Input> {
     let mut random = Random::new(seed);
@@ -378,6 +410,11 @@ fn samples() {
 }
 
 #[test]
+fn objects_of_no_bytes() {
+    agrees("objects of no bytes", empties());
+}
+
+#[test]
 fn valid_logs() {
     agrees("valid logs", valid(SEED));
 }
@@ -514,7 +551,7 @@ impl Program for FirstPiece {
 
 type Faulty = fn(&[u8]) -> String;
 
-const FAULTS: [(&str, Faulty); 29] = [
+const FAULTS: [(&str, Faulty); 31] = [
     // what is printed
     ("lower-case digits", |input| log::replay(input).to_lowercase()),
     ("kind with a zero before", |input| lines(input, |line| if line.starts_with("log") { line.into() } else { format!("0{line}") })),
@@ -621,13 +658,27 @@ const FAULTS: [(&str, Faulty); 29] = [
             log::answers(&backwards).into_iter().rev().collect()
         })
     }),
+    ("6 for an object of no bytes", |input| {
+        answered(input, |calls| {
+            let asked = |call: &Call<u64>| matches!(call, Call::Allocate { size: 0, .. });
+            let others: Vec<_> = calls.iter().copied().filter(|call| !asked(call)).collect();
+            let mut answers = log::answers(&others).into_iter();
+            calls.iter().map(|call| if asked(call) { Answer::new(6, []) } else { answers.next().unwrap() }).collect()
+        })
+    }),
+    ("one byte for none", |input| {
+        replaced(input, |call| match call {
+            Call::Allocate { size: 0, type_number } => Call::Allocate { size: 1, type_number },
+            call => call,
+        })
+    }),
     ("another length", |input| answered(input, |calls| on(log::LENGTH + 1, log::SLOT_EXPONENT, calls))),
     ("another slot exponent", |input| answered(input, |calls| on(log::LENGTH, log::SLOT_EXPONENT + 1, calls))),
 ];
 
 #[test]
 fn faults_are_found() {
-    let groups = [sample(), cut(), malformed(), valid(SEED), changed(SEED), noise(SEED), at_the_limit()];
+    let groups = [sample(), cut(), malformed(), empties(), valid(SEED), changed(SEED), noise(SEED), at_the_limit()];
     let inputs: Vec<_> = groups.into_iter().flatten().collect();
     assert!(difference(&log::replay, &inputs).is_none(), "the model itself");
     for (fault, program) in FAULTS {

@@ -63,7 +63,6 @@ module _ (image : List ℕ) (h : ℕ) (low : 16 ≤ h) (room : h + 16 ≤ length
   pub live-by : kindAt image h ≡ 2
       → sound image h
       ≡ leb (extentAt image h) (length image - h)
-      && leb 1 (sizeAt image h)
       && leb (16 + sizeAt image h) (extentAt image h)
       && leb (extentAt image h) (31 + sizeAt image h)
   unfolding wellFormed

@@ -45,6 +45,17 @@ kinds : (sound image 78 ≡ true) × (sound (ofKind 2) 42 ≡ true) × (sound (o
 unfolding image ofKind superblock header encode decode field put headerAt wellFormed sound
 kinds = (refl, refl, refl, refl, refl, refl)
 
+-- `image` with a live header of no bytes and that extent at h
+withNone : ℕ → ℕ → List ℕ
+withNone h extent = put image h (liveHeader extent 1 0 0)
+
+-- it takes 16 to 31 bytes, and may end with the image
+empties :
+    (sound (withNone 16 15) 16 ≡ false) × (sound (withNone 16 16) 16 ≡ true) × (sound (withNone 16 31) 16 ≡ true) × (sound (withNone 16 32) 16 ≡ false)
+    × (sound (withNone 1008 16) 1008 ≡ true) × (sound (withNone 1008 17) 1008 ≡ false)
+unfolding image withNone superblock header encode decode field put headerAt wellFormed sound
+empties = (refl, refl, refl, refl, refl, refl)
+
 fits : (firstFit image 946 ≡ fit.At 78) × (firstFit image 947 ≡ fit.End) × (firstFit damaged 16 ≡ fit.Unsound 42)
 unfolding image damaged superblock header encode decode field put headerAt wellFormed sound walkIn walkFrom walk fitOf firstFit
 fits = (refl, refl, refl)

@@ -104,9 +104,9 @@ isLive image h = eqb (kindAt image h) 2
 abbrev pub freeFormed : Header → Bool
 freeFormed d = eqb (d .ty) 0 && (eqb (d .size) 0 && eqb (d .cue) 0)
 
--- a live block has kind 2, a size of at least 1, and an extent of its header and size and at most 15 bytes more; its cue may be any
+-- a live block has kind 2, and an extent of its header and size and at most 15 bytes more; its size may be 0, its cue any
 abbrev pub liveFormed : Header → Bool
-liveFormed d = eqb (d .kind) 2 && (leb 1 (d .size) && (leb (16 + d .size) (d .extent) && leb (d .extent) (31 + d .size)))
+liveFormed d = eqb (d .kind) 2 && (leb (16 + d .size) (d .extent) && leb (d .extent) (31 + d .size))
 
 -- whether the header d is as it must be at h in an image of L bytes
 unfoldable pub wellFormed : ℕ → ℕ → Header → Bool

@@ -185,7 +185,7 @@ pub fn not_open(run: Run) -> Run {
     lend(run, 1024, 383).make(Call::Load(TEN | 32, 1), BYTES, 5, 0)
 }
 
-// Refusals 11 and 15, and a free that is accepted once; sizes that find no room: 6 and 8.
+// Refusals 11 and 15, and a free that is accepted once; sizes that find no room: 8.
 pub fn frees(run: Run) -> Run {
     heading(b"Cases: free");
     let run = lend(run, 1024, 384).make(Call::Free(TEN | 33), DONE, 15, 0);
@@ -195,7 +195,6 @@ pub fn frees(run: Run) -> Run {
     let run = run.make(Call::Free(TEN | 32), DONE, 11, 0);
     let run = run.distances(TEN | 32, 11, 0, 0);
     heading(b"Cases: allocate, with 1008 bytes free");
-    let run = run.make(Call::Allocate(0), BYTES, 6, 0);
     let run = run.make(Call::Allocate(993), BYTES, 8, 0);
     run.make(Call::Allocate(4294967295), BYTES, 8, 0)
 }
@@ -216,6 +215,47 @@ pub fn fresh(run: Run) -> Run {
     let run = first(run, 17, 0, TEN | 32).tally(0, 1, 17, 0, 31);
     let run = first(run, 32, 0, F7 | 32).tally(0, 1, 32, 0, 16);
     first(run, 33, 8, 0)
+}
+
+// An object of no bytes whose base is the image's end: each read and write is refused, and free and release take it out.
+pub fn empties(run: Run) -> Run {
+    heading(b"Cases: objects of no bytes, from 64 bytes");
+    let run = first(run, 0, 0, TEN | 32);
+    heading(b"Cases: 16 bytes at 32, and an object of no bytes behind them, whose base is at 64");
+    let run = run.quietly(Call::SetUp(6))
+        .quietly(Call::Allocate(16))
+        .make(Call::Allocate(0), BYTES, 0, F7 | 64)
+        .tally(0, 2, 16, 0, 32);
+    let run = run.make(Call::FreeTotal, NUMBER, 0, 0);
+    let run = run.make(Call::Allocate(0), BYTES, 8, 0);
+    let run = run.make(Call::Load(F7 | 64, 1), BYTES, 13, 0);
+    let run = run.make(Call::Store(F7 | 64, 1, 1), DONE, 13, 0);
+    let run = run.make(Call::Fill(F7 | 64, 1, 7), DONE, 13, 0);
+    let run = run.make(Call::Fill(F7 | 64, 0, 7), DONE, 6, 0);
+    let run = run.make(Call::Copy(F7 | 64, TEN | 32, 1), DONE, 13, 0);
+    let run = run.make(Call::Copy(TEN | 32, F7 | 64, 1), DONE, 13, 0);
+    let run = run.make(Call::CopyText(F7 | 64, TEN | 32), NUMBER, 13, 0);
+    let run = run.make(Call::CopyText(TEN | 32, F7 | 64), NUMBER, 13, 0);
+    let run = run.make(Call::Move(F7 | 64, 63), BYTES, 0, F7 | 127);
+    let run = run.make(Call::Move(F7 | 64, 64), BYTES, 12, 0);
+    let run = run.make(Call::Free(F7 | 65), DONE, 15, 0);
+    let run = run.make(Call::Free(F7 | 64), DONE, 0, 0);
+    let run = run.make(Call::Load(F7 | 64, 1), BYTES, 11, 0);
+    let run = run.make(Call::AllocateFor(0, 7), BYTES, 0, F7 | 64);
+    let run = run.make(Call::Release(7), NUMBER, 0, 1);
+    run.make(Call::FreeTotal, NUMBER, 0, 16)
+}
+
+// Both ends of an object of no bytes are its base.
+pub fn measured_empty(run: Run) -> Run {
+    heading(b"Cases: distances and compare at an object of no bytes, whose base is at 32");
+    let run = lend(run, 1024, 384).quietly(Call::SetUp(6))
+        .quietly(Call::Allocate(0));
+    let run = run.distances(TEN | 32, 0, 0, 0);
+    let run = run.distances(TEN | 31, 0, -1, 1);
+    let run = run.distances(TEN | 33, 0, 1, -1);
+    let run = run.compare(TEN | 32, TEN | 32, 1, 13, 0);
+    run.compare(TEN | 32, TEN | 32, 0, 6, 0)
 }
 
 // Four buffers for two cues, one behind the other; the first has its line.

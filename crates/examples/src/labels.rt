@@ -1,5 +1,5 @@
 // The first column of each call's line: 32 places, in the order of the calls.
-pub const LABELS: [u8; 4896] = *b"set up                          \
+pub const LABELS: [u8; 5696] = *b"set up                          \
 10 bytes                        \
 20 bytes                        \
 32 bytes                        \
@@ -112,7 +112,6 @@ at 32                           \
 tally                           \
 at 32 again                     \
 distances at 32                 \
-0                               \
 993                             \
 2^32-1                          \
 31, from 1024 bytes             \
@@ -124,6 +123,32 @@ tally: 15 bytes are spare       \
 32, from 64 bytes               \
 tally                           \
 33, from 64 bytes               \
+0, from 64 bytes                \
+allocate 0                      \
+tally                           \
+free total                      \
+allocate 0 again                \
+load 1 at 64                    \
+store 1 in 1 at 64              \
+fill 1 at 64 with 7             \
+fill 0 at 64 with 7             \
+copy 1 from 32 to 64            \
+copy 1 from 64 to 32            \
+text from 32 to 64              \
+text from 64 to 32              \
+move by 63                      \
+move by 64                      \
+free at 65, not the base        \
+free at 64                      \
+load 1 at 64                    \
+allocate 0 for cue 7            \
+release 7                       \
+free total                      \
+at 32, the base and the end     \
+at 31, one before               \
+at 33, one past                 \
+compare 1 at 32 with itself     \
+compare 0 at 32 with itself     \
 allocate 10 for cue 7           \
 release 7                       \
 tally                           \

@@ -28,7 +28,8 @@ fn main() {
     let run = cases::distances(cases::texts(run));
     let run = cases::tags(cases::frame_moves(cases::slot_moves(run)));
     let run = cases::frees(cases::not_open(run));
-    let run = cases::totals(cases::cues(cases::fresh(run)));
+    let run = cases::measured_empty(cases::empties(cases::fresh(run)));
+    let run = cases::totals(cases::cues(run));
     let run = cases::damaged(cases::spare_totals(run));
     text(b"\n");
     decimal(run.made);

@@ -42,7 +42,7 @@ pub fn heading(t: &[u8]) {
 // The label of the call with this number, 0 the first.
 pub fn label(call: u64) {
     text(b"  ");
-    if call < 153 {
+    if call < 178 {
         let at = 32 * call as usize;
         let end = at + 32;
         text(&LABELS[at..end]);
@@ -56,7 +56,7 @@ image length outside 64 to 2^30     \
 table too short to set up           \
 superblock not as laid out          \
 table shorter than the used entries \
-size or length 0                    \
+length 0                            \
 walk meets an unsound header        \
 no free block fits                  \
 table entry not zero                \

@@ -70,8 +70,8 @@ written image k g b m p i v le =
 pub patched-length : (b : Block) (i : ℕ) (v : List ℕ) → i + length v ≤ length (b .body) → length (patched b i v .body) ≡ length (b .body)
 patched-length b i v le = length-put (b .body) i v le
 
-pub patched-ok : (b : Block) (i : ℕ) (v : List ℕ) → i + length v ≤ length (b .body) → BlockOk b → BlockOk (patched b i v)
-patched-ok b i v le k = record { type-fits = k .type-fits; cue-fits = k .cue-fits; some-byte = omega (arith, patched-length b i v le, k .some-byte); tight = k .tight }
+pub patched-ok : (b : Block) (i : ℕ) (v : List ℕ) → BlockOk b → BlockOk (patched b i v)
+patched-ok b i v k = record { type-fits = k .type-fits; cue-fits = k .cue-fits; tight = k .tight }
 
 module _ (image : List ℕ) (l : Layout) (k g : ℕ) (b : Block) (m : Layout) (f : Focus image l k (item g b m)) (i : ℕ) (v : List ℕ)
     (le : i + length v ≤ length (b .body)) where
@@ -79,5 +79,5 @@ module _ (image : List ℕ) (l : Layout) (k g : ℕ) (b : Block) (m : Layout) (f
   pub write-remade : Remade image (put image (k + g + 16 + i) v) (f .fill (item g (patched b i v) m))
   write-remade =
       focus-remade image l k (item g b m) f (item g (patched b i v) m)
-      (f .part .good .0, patched-ok b i v le (f .part .good .1), f .part .good .2) (omega (arith, patched-length b i v le))
+      (f .part .good .0, patched-ok b i v (f .part .good .1), f .part .good .2) (omega (arith, patched-length b i v le))
       (put image (k + g + 16 + i) v) (written image k g b m (f .part) i v le)

@@ -62,8 +62,8 @@ placed-in n type cue l = item 0 (new n type cue (gap l)) (regap (left n (gap l))
 new-extent : (n type cue g : ℕ) → extent (new n type cue g) ≡ 16 + (n + over n g)
 new-extent n type cue g = simp length-replicate
 
-new-ok : (n type cue g : ℕ) → 1 ≤ n → type < 2 ^ 16 → cue < 2 ^ 32 → BlockOk (new n type cue g)
-new-ok n type cue g a b c = record { type-fits = b; cue-fits = c; some-byte = simp length-replicate a; tight = over-tight n g }
+new-ok : (n type cue g : ℕ) → type < 2 ^ 16 → cue < 2 ^ 32 → BlockOk (new n type cue g)
+new-ok n type cue g b c = record { type-fits = b; cue-fits = c; tight = over-tight n g }
 
 new-bytes : (n type cue g : ℕ) → blockBytes (new n type cue g) ≡ liveHeader (16 + (n + over n g)) type n cue ++ (zeros n ++ zeros (over n g))
 unfolding blockBytes
@@ -141,10 +141,10 @@ carve-bytes image h l p n type cue le =
 -- the layout with the new block
 
 module _ (image : List ℕ) (l : Layout) (k : ℕ) (m : Layout) (f : Focus image l k m) (n type cue : ℕ) (le : 16 + n ≤ gap m) where
-  pub carve-remade : 1 ≤ n → type < 2 ^ 16 → cue < 2 ^ 32 → Remade image (carved image k n type cue) (f .fill (placed-in n type cue m))
-  carve-remade pos fits cue-fits =
+  pub carve-remade : type < 2 ^ 16 → cue < 2 ^ 32 → Remade image (carved image k n type cue) (f .fill (placed-in n type cue m))
+  carve-remade fits cue-fits =
       focus-remade image l k m f (placed-in n type cue m)
-      (tt, new-ok n type cue (gap m) pos fits cue-fits, regap-ok (left n (gap m)) m (left-ok n (gap m)) (f .part .good))
+      (tt, new-ok n type cue (gap m) fits cue-fits, regap-ok (left n (gap m)) m (left-ok n (gap m)) (f .part .good))
       (omega (arith, new-extent n type cue (gap m), regap-size (left n (gap m)) m, over-left n (gap m) le))
       (carved image k n type cue) (carve-bytes image k m (f .part) n type cue le)
 

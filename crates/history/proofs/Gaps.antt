@@ -84,7 +84,6 @@ GapOk (suc g) = 16 ≤ suc g
 pub record BlockOk (b : Block) : Type 0 where
   pub type-fits : b .type < 2 ^ 16
   pub cue-fits : b .cue < 2 ^ 32
-  pub some-byte : 1 ≤ length (b .body)
   pub tight : b .spare ≤ 15
 
 abbrev pub Ok : Layout → Type 0

@@ -97,8 +97,8 @@ pub data Fitted (image : List ℕ) (l : Layout) (n type cue : ℕ) : Type 0 wher
   room : (h : ℕ) → Carved image l n type cue h → Fitted image l n type cue
   full : firstFit image (16 + n) ≡ fit.End → ((a : ℕ) → Clear image l a (16 + n) → ⊥) → Fitted image l n type cue
 
-pub fitted : (image : List ℕ) (l : Layout) → Placed image l → (n type cue : ℕ) → 1 ≤ n → type < 2 ^ 16 → cue < 2 ^ 32 → Fitted image l n type cue
-fitted image l p n type cue least fits cue-fits = go (first-fit image l p (16 + n) (omega arith))
+pub fitted : (image : List ℕ) (l : Layout) → Placed image l → (n type cue : ℕ) → type < 2 ^ 16 → cue < 2 ^ 32 → Fitted image l n type cue
+fitted image l p n type cue fits cue-fits = go (first-fit image l p (16 + n) (omega arith))
   where
     go : FirstFit image l (16 + n) → Fitted image l n type cue
     go (at h e r) =
@@ -113,7 +113,7 @@ fitted image l p n type cue least fits cue-fits = go (first-fit image l p (16 + 
           zeroed = refl;
           for-cue = refl;
           next = f .fill (placed-in n type cue m);
-          remade = carve-remade image l h m f n type cue (r .room) least fits cue-fits;
+          remade = carve-remade image l h m f n type cue (r .room) fits cue-fits;
           taken = carve-taken image l h m f n type cue (r .room);
           looks = f .looks (placed-in n type cue m) h (some (new n type cue (gap m))) (omega arith) (carve-looks image l h m f n type cue (r .room));
         })

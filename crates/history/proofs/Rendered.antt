@@ -130,8 +130,8 @@ module _ (image : List ℕ) (h g : ℕ) (b : Block) (l : Layout) (p : Part image
 
   pub block-sound : sound image (h + g) ≡ true
   block-sound =
-      sound-live-at image (h + g) (extent b) (b .type) (length (b .body)) (b .cue) block-header (omega (arith, p .low)) (omega (arith, p .whole))
-      (p .good .1 .some-byte) (omega arith) (omega (arith, p .good .1 .tight))
+      sound-live-at image (h + g) (extent b) (b .type) (length (b .body)) (b .cue) block-header (omega (arith, p .low)) (omega (arith, p .whole)) (omega arith)
+      (omega (arith, p .good .1 .tight))
 
   pub block-not-free : isFree image (h + g) ≡ false
   block-not-free = ap (λ (d : Header). eqb (d .kind) 1) block-header

@@ -11,7 +11,7 @@ use lib.ListN.{length, take, drop, replicate, length-replicate, length-drop}
 use lib.Seq.{length-take-le, take-all}
 use lib.Dec.{leb, ltb, eqb}
 use lib.IntN.{ℤ}
-use borrow.Author.Tests.{eq-eqb, eqb-true, eqb-false, leb-true, le-leb, ltb-true}
+use borrow.Author.Tests.{eq-eqb, eqb-true, eqb-false, leb-true, le-leb}
 use Rattle.frame.specs.Pointers.{unpack, pack, goodTag, reach, moved}
 use Rattle.frame.specs.Tags.{pointerTo}
 use Rattle.frame.specs.laws.Objects.{unpack-address, own-pointer, moved-pointer, own-again}
@@ -36,14 +36,14 @@ use Rattle.store.specs.laws.Move.{moved-bad, moved-out, moved-in, move-outcome}
 use Rattle.store.specs.laws.Entries.{entry-holds}
 use Rattle.store.specs.laws.Access.{through}
 use Rattle.store.specs.laws.Total.{total-fits}
-use Rattle.store.specs.laws.Allocate.{allocate-refuses-empty, allocate-refuses-full, allocate-at}
+use Rattle.store.specs.laws.Allocate.{allocate-refuses-full, allocate-at}
 use Rattle.store.specs.laws.Store.{store-through, store-refuses-width, store-refuses-large}
 use Rattle.store.specs.laws.Fill.{fill-through, fill-refuses-empty}
 use Rattle.store.specs.laws.Copy.{copy-through, copy-refuses-empty}
 use Rattle.store.specs.laws.CopyText.{text-ended, text-endless, text-located, copy-text-through, copy-text-refuses}
 use Rattle.store.specs.laws.Free.{free-unread, free-refuses-base, free-lost, free-merges}
 use Rattle.store.specs.declared.answer.Refusal.{Refusal}
-use Rattle.store.specs.declared.answer.Refusal.the-variants.{Empty, Unsound, NoSpace, NotBase, OutOfBounds, Unterminated}
+use Rattle.store.specs.declared.answer.Refusal.the-variants.{Unsound, NoSpace, NotBase, OutOfBounds, Unterminated}
 use Rattle.store.specs.declared.answer.Answer.{Answer}
 use Rattle.store.specs.declared.answer.Answer.the-variants.{Accepted, Refused}
 use Rattle.history.specs.Heap.{Object, Heap, start, member, ownerOf, offset, inside, bytesAt, written, pointed, newObject, change, without, write, copied, textIn, copiedText, textCopied, hear}
@@ -77,9 +77,8 @@ in-range o p n low high = and-both _ _ (le-leb _ _ low) (le-leb _ _ high)
 
 -- Allocate.
 
--- how allocate ends: size 0, no clear run, or a new object
+-- how allocate ends: no clear run, or a new object
 pub data Allocated (s L : ℕ) (x : State) (heap : Heap) (i : Invariant s L x heap) (size type cue : ℕ) : Type 0 where
-  empty : ltb 0 size ≡ false → allocateFor size type cue x ≡ refuse Empty x → Allocated s L x heap i size type cue
   no-room :
       allocateFor size type cue x ≡ refuse NoSpace x → ((a : ℕ) → Clear (x .image) (i .laid .layout) a (16 + size) → ⊥)
       → Allocated s L x heap i size type cue
@@ -158,21 +157,18 @@ module _ {s L : ℕ} {x : State} {heap : Heap} (i : Invariant s L x heap) where
     unfolding new
     new-entry = entry-holds s h size 0 (x .table) (λ l. entry-zero s L heap (x .table) (i .tabled) (heap ++ (new ∷ [])) (ranged new-laid) h new new-vacant new-law l)
 
-    new-given : ltb 0 size ≡ true → Allocated s L x heap i size type cue
+    new-given : Allocated s L x heap i size type cue
     unfolding new
-    new-given e =
-        given h (c .clear) (allocate-at s x (opens i) size type cue e h (exponent-is (i .laid)) (c .found) new-entry new-total)
+    new-given =
+        given h (c .clear) (allocate-at s x (opens i) size type cue h (exponent-is (i .laid)) (c .found) new-entry new-total)
         (record { laid = new-laid; tabled = new-tabled })
 
   pub allocated : (size type cue : ℕ) → type < 2 ^ 16 → cue < 2 ^ 32 → Allocated s L x heap i size type cue
-  allocated size type cue fits cue-fits =
-      byBool (ltb 0 size)
-      (λ e. go e (fitted (x .image) (i .laid .layout) (i .laid .placed) size type cue (ltb-true 0 size e) fits cue-fits))
-      (λ e. empty e (allocate-refuses-empty s x (opens i) size type cue e))
+  allocated size type cue fits cue-fits = go (fitted (x .image) (i .laid .layout) (i .laid .placed) size type cue fits cue-fits)
     where
-      go : ltb 0 size ≡ true → Fitted (x .image) (i .laid .layout) size type cue → Allocated s L x heap i size type cue
-      go e (room h c) = new-given size type cue h c e
-      go e (full f n) = no-room (allocate-refuses-full s x (opens i) size type cue e f) n
+      go : Fitted (x .image) (i .laid .layout) size type cue → Allocated s L x heap i size type cue
+      go (room h c) = new-given size type cue h c
+      go (full f n) = no-room (allocate-refuses-full s x (opens i) size type cue f) n
 
   pub allocate-step : (size type cue : ℕ) → type < 2 ^ 16 → cue < 2 ^ 32
       → Invariant s L (allocateFor size type cue x .after) (hear heap (allocatesFor size type cue) (allocateFor size type cue x .answer))
@@ -181,7 +177,6 @@ module _ {s L : ℕ} {x : State} {heap : Heap} (i : Invariant s L x heap) where
     where
       go : Allocated s L x heap i size type cue
           → Invariant s L (allocateFor size type cue x .after) (hear heap (allocatesFor size type cue) (allocateFor size type cue x .answer))
-      go (empty e f) = rw f i
       go (no-room f n) = rw f i
       go (given h c f j) = rw f j
 

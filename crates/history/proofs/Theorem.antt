@@ -1,6 +1,6 @@
 -- Demand 3, and the further claims about its lists.
 -- In order: the induction over the list; each field of `Holds` from the invariant; the claims. Not here: the steps of single calls (`Steps`). Assumes nothing.
-use Prim.Native.Nat.{ℕ, zero, suc, _+_, _^_, _≤_, _<_}
+use Prim.Native.Nat.{ℕ, _+_, _^_, _≤_, _<_}
 use mathlib.Core.Path.{_≡_, refl, sym, ap, _∙_, subst}
 use mathlib.Core.Bool.{Bool, true, false, cond, _&&_}
 use mathlib.Core.List.{List, [], _∷_}
@@ -20,7 +20,8 @@ use Rattle.block.specs.declared.text.Text.{Text}
 use Rattle.block.specs.declared.text.Text.the-variants.{Ends, Endless}
 use Rattle.block.specs.Layout.{storedTotal, extentAt}
 use Rattle.store.specs.State.{State, Outcome, IsAccepted, returned, value, comparisonNumber, usageNumber, freeBytes}
-use Rattle.store.specs.Calls.{setUp, allocateFor, free, compare, copyText, freeTotal, tally, located}
+use Rattle.store.specs.Claims.{NoAccess}
+use Rattle.store.specs.Calls.{setUp, allocateFor, free, load, compare, copyText, freeTotal, tally, located}
 use Rattle.store.specs.laws.Refusals.{demand-iff, refused-some}
 use Rattle.store.specs.Step.{Call, allocates, frees, moves, loads, stores, fills, copies, copiesText, allocatesFor, releases, step}
 use Rattle.store.specs.laws.Total.{free-total-given}
@@ -32,6 +33,7 @@ use Rattle.store.specs.laws.Store.{store-through}
 use Rattle.store.specs.laws.Fill.{fill-through}
 use Rattle.store.specs.laws.Copy.{copy-through}
 use Rattle.store.specs.laws.Compare.{bytesThrough, compare-through}
+use Rattle.store.specs.laws.Empty.{empty-load, empty-access}
 use Rattle.store.specs.declared.answer.Answer.the-variants.{Accepted}
 use Rattle.store.specs.declared.answer.Refusal.the-variants.{OutOfBounds}
 use Rattle.store.specs.declared.comparing.Comparison.the-variants as comparison
@@ -39,6 +41,7 @@ use Rattle.store.specs.declared.counting.Usage.the-variants as usage
 use Rattle.history.specs.Heap.{Object, Heap, holds, ownerOf, inside, textIn, hear, HearsNoOther}
 use Rattle.history.specs.History.{known, admitted, Configuration, next, after, allAdmitted, begun, In, headerOf, FreeRun, EntriesApart, PointersApart, PointersLead, FreesExactly, LoadsExactly, StoresExactly, FillsExactly, BothInside, CopiesExactly, ComparesExactly, TextsExactly, LoadsBytes, ComparesBytes, TextsCounted, EachAllocate, Holds, Demand3}
 use Rattle.history.specs.Release.{ReleasesSingly}
+use Rattle.history.specs.Empty.{NoEmptyLoads, NoEmptyAccess}
 use Rattle.history.specs.Tidiness.{MeetsNoUnsound, NeverUnsound, Balanced, StaysBalanced, RightTotal, StaysTotalled, Tidy, StaysTidy}
 use Rattle.history.proofs.Gaps.{Block, extent, Layout, blocks, bodies, gaps, overheads, counts, blockAt, Clear}
 use Rattle.history.proofs.Image.{counted-as, no-neighbours, free-zero, tail-zero}
@@ -46,7 +49,7 @@ use Rattle.history.proofs.Heap.{find, find-in, find-place, in-find, pla
 use Rattle.history.proofs.Table.{entries-differ}
 use Rattle.history.proofs.Invariant.{Invariant, object-of, ranged, exponent-is, total-is, opens, Leads, leads, accesses, measures, begins-with}
 use Rattle.history.proofs.Invariant as invariant
-use Rattle.history.proofs.Steps.{Allocated, empty, no-room, given, allocated, allocate-step, Freeing, taken, declined, freeing, free-step, move-step, load-step, read-through, store-step, fill-step, copy-step, copies-text, copies-no-text, copy-text-step}
+use Rattle.history.proofs.Steps.{Allocated, no-room, given, allocated, allocate-step, Freeing, taken, declined, freeing, free-step, move-step, load-step, read-through, store-step, fill-step, copy-step, copies-text, copies-no-text, copy-text-step}
 use Rattle.history.proofs.Releases.{release-counts, release-step, freed-singly}
 
 -- The list.
@@ -239,7 +242,6 @@ module _ {s L : ℕ} (x : Configuration) (i : Invariant s L (x .state) (x .heap)
 
   -- what allocate returns
   data Returns (size type cue : ℕ) : Type 0 where
-    six : size ≡ 0 → returned (allocateFor size type cue (x .state) .answer) ≡ 6 → Returns size type cue
     eight : returned (allocateFor size type cue (x .state) .answer) ≡ 8 → ((a : ℕ) → FreeRun x a (16 + size) → ⊥) → Returns size type cue
     nought : returned (allocateFor size type cue (x .state) .answer) ≡ 0 → (a : ℕ) → FreeRun x a (16 + size) → Returns size type cue
 
@@ -249,38 +251,30 @@ module _ {s L : ℕ} (x : Configuration) (i : Invariant s L (x .state) (x .heap)
       number : (r : Outcome) → allocateFor size type cue (x .state) ≡ r → returned (allocateFor size type cue (x .state) .answer) ≡ returned (r .answer)
       number r e = ap (λ (z : Outcome). returned (z .answer)) e
 
-      nothing : (n : ℕ) → ltb 0 n ≡ false → n ≡ 0
-      nothing zero e = refl
-      nothing (suc n) e = absurd (true-false (lt-ltb 0 (suc n) (omega arith)) e)
-
       go : Allocated s L (x .state) (x .heap) i size type cue → Returns size type cue
-      go (empty e f) = six (nothing size e) (number _ f)
       go (no-room f n) = eight (number _ f) (λ a r. n a (run-clear a (16 + size) r))
       go (given h c f j) = nought (number _ f) h (clear-run h (16 + size) c)
 
   -- no other number
-  never : (n : ℕ) → (n ≡ 0 → ⊥) → (n ≡ 6 → ⊥) → (n ≡ 8 → ⊥) → EachAllocate (x .state) (λ size r. r ≡ n → ⊥)
-  never n a b c size type cue l fits cue-fits e = go (allocate-returns size type cue fits cue-fits)
+  never : (n : ℕ) → (n ≡ 0 → ⊥) → (n ≡ 8 → ⊥) → EachAllocate (x .state) (λ size r. r ≡ n → ⊥)
+  never n a b size type cue l fits cue-fits e = go (allocate-returns size type cue fits cue-fits)
     where
       go : Returns size type cue → ⊥
-      go (six z f) = b (sym e ∙ f)
-      go (eight f r) = c (sym e ∙ f)
+      go (eight f r) = b (sym e ∙ f)
       go (nought f k r) = a (sym e ∙ f)
 
-  has-room : EachAllocate (x .state) (λ size r. 0 < size → (r ≡ 0) ↔ ((a : ℕ) × FreeRun x a (16 + size)))
-  has-room size type cue u fits cue-fits l = go (allocate-returns size type cue fits cue-fits)
+  has-room : EachAllocate (x .state) (λ size r. (r ≡ 0) ↔ ((a : ℕ) × FreeRun x a (16 + size)))
+  has-room size type cue u fits cue-fits = go (allocate-returns size type cue fits cue-fits)
     where
       go : Returns size type cue → IsAccepted (allocateFor size type cue (x .state)) ↔ ((a : ℕ) × FreeRun x a (16 + size))
-      go (six z f) = absurd (omega arith)
       go (eight f n) =
           ((λ (e : IsAccepted (allocateFor size type cue (x .state))). absurd (omega arith)), λ (w : (a : ℕ) × FreeRun x a (16 + size)). absurd (n (w .0) (w .1)))
       go (nought f a r) = ((λ e. (a, r)), λ w. f)
 
-  has-none : EachAllocate (x .state) (λ size r. 0 < size → (r ≡ 8) ↔ ((a : ℕ) → FreeRun x a (16 + size) → ⊥))
-  has-none size type cue u fits cue-fits l = go (allocate-returns size type cue fits cue-fits)
+  has-none : EachAllocate (x .state) (λ size r. (r ≡ 8) ↔ ((a : ℕ) → FreeRun x a (16 + size) → ⊥))
+  has-none size type cue u fits cue-fits = go (allocate-returns size type cue fits cue-fits)
     where
       go : Returns size type cue → (returned (allocateFor size type cue (x .state) .answer) ≡ 8) ↔ ((a : ℕ) → FreeRun x a (16 + size) → ⊥)
-      go (six z f) = absurd (omega arith)
       go (eight f n) = ((λ e. n), λ w. f)
       go (nought f a r) =
           ((λ (e : returned (allocateFor size type cue (x .state) .answer) ≡ 8). absurd (omega arith)), λ (w : (b : ℕ) → FreeRun x b (16 + size) → ⊥). absurd (w a r))
@@ -307,7 +301,7 @@ module _ {s L : ℕ} (x : Configuration) (i : Invariant s L (x .state) (x .heap)
         reads = load-value;
         orders = compare-value;
         text-counts = text-value;
-        no-conflict = never 9 (λ z. omega arith) (λ z. omega arith) (λ z. omega arith);
+        no-conflict = never 9 (λ z. omega arith) (λ z. omega arith);
         room = has-room;
         no-space = has-none;
       }
@@ -323,7 +317,7 @@ module _ {s L : ℕ} (x : Configuration) (i : Invariant s L (x .state) (x .heap)
   pub meets-no-unsound : MeetsNoUnsound (x .state)
   meets-no-unsound =
       record {
-        allocates = never 7 (λ z. omega arith) (λ z. omega arith) (λ z. omega arith);
+        allocates = never 7 (λ z. omega arith) (λ z. omega arith);
         tallies = λ e. omega (arith, tally-accepted);
       }
 
@@ -338,7 +332,7 @@ module _ {s L : ℕ} (x : Configuration) (i : Invariant s L (x .state) (x .heap)
         given = ap returned (sym total-given);
         tallies = tally-accepted;
         sum = ap value (sym total-given) ∙ total-is (i .laid) ∙ sym (ap freeBytes tallied);
-        allocates = never 22 (λ z. omega arith) (λ z. omega arith) (λ z. omega arith);
+        allocates = never 22 (λ z. omega arith) (λ z. omega arith);
         frees = λ p fits e. not-wrong p e (freeing i p fits);
         releases = λ cue fits e. omega (arith, release-counts i cue .0);
       }
@@ -349,6 +343,17 @@ module _ {s L : ℕ} (x : Configuration) (i : Invariant s L (x .state) (x .heap)
       not-wrong : (p : ℕ) → returned (free p (x .state) .answer) ≡ 22 → Freeing s L (x .state) (x .heap) p → ⊥
       not-wrong p e (taken o m a q j) = omega (arith, q)
       not-wrong p e (declined r q t n) = t (sym (ap (λ (z : Outcome). returned (z .answer)) q) ∙ e)
+
+  -- nothing is read or written through a pointer of an object of no bytes
+  module _ (o : Object) (m : In o (x .heap)) (z : o .size ≡ 0) (p : ℕ) (t : holds o p ≡ true) where
+    abbrev led : located s (unpack p) (x .state) ≡ Accepted (headerOf o)
+    led = pointer-leads o p (at-place o m) t .found
+
+    pub no-load : (width : ℕ) → IsAccepted (load p width (x .state)) → ⊥
+    no-load = empty-load s p (x .state) (headerOf o) (opens i) led (about o m .size ∙ z)
+
+    pub no-access : NoAccess p (x .state)
+    no-access = empty-access s p (x .state) (headerOf o) (opens i) led (about o m .size ∙ z)
 
   pub tidy : Tidy (x .state .image)
   tidy =
@@ -379,6 +384,14 @@ stays-totalled s x e calls a = right-total (after calls (begun s x)) (keeps call
 pub stays-tidy : StaysTidy
 unfolding StaysTidy
 stays-tidy s x e calls a = tidy (after calls (begun s x)) (keeps calls (begun s x) (begins s x e) a)
+
+pub no-empty-loads : NoEmptyLoads
+unfolding NoEmptyLoads
+no-empty-loads s x e calls a = no-load (after calls (begun s x)) (keeps calls (begun s x) (begins s x e) a)
+
+pub no-empty-access : NoEmptyAccess
+unfolding NoEmptyAccess
+no-empty-access s x e calls a = no-access (after calls (begun s x)) (keeps calls (begun s x) (begins s x e) a)
 
 pub releases-singly : ReleasesSingly
 unfolding ReleasesSingly

@@ -25,7 +25,7 @@ abbrev fresh6 : Configuration
 fresh6 = begun 6 (state (replicate 128 7) (replicate 60 9))
 
 -- an object of no cue is written through a moved pointer, its bytes and then its text are copied to one of cue 9, and it is freed; the other takes a
--- number of 3 bytes; two objects of cue 2^32 - 1 are released; some calls are refused
+-- number of 3 bytes; two objects of cue 2^32 - 1 are released; of two objects of no bytes one is moved through and one is freed; some calls are refused
 abbrev pub calls : List Call
 calls =
     allocates 10 1
@@ -50,14 +50,25 @@ calls =
     ∷ frees 0x8010000000000026
     ∷ frees 0x8010000000000020
     ∷ frees 0x8010000000000020
+    ∷ allocatesFor 0 4 9
+    ∷ allocates 0 5
+    ∷ moves 0x8010000000000020 (pos 5)
+    ∷ stores 0x8010000000000025 1 1
+    ∷ fills 0x8010000000000020 1 1
+    ∷ copies 0x8010000000000020 0x802A00000000003A 1
+    ∷ copiesText 0x802A00000000003A 0x000700000000004E
+    ∷ frees 0x000700000000004E
     ∷ []
 
--- each of them is admitted; the abstract heap is left with the second object, which holds the number and the zero byte of the text; tally counts that
--- object, the two gaps around it, and its header; the free total is that of the gaps, and the distances are those of its pointer one byte before the body
+-- each of them is admitted; the abstract heap is left with the second object, which holds the number and the zero byte of the text, and with one of no bytes
+-- where the first was; tally counts both, the gap behind them, their headers and ten spare bytes; the free total is that of the gap; the distances are those
+-- of the second object's pointer one byte before the body, and of the empty one's base
 pub admitted-calls : (allAdmitted calls fresh6 ≡ true)
-    × (after calls fresh6 .heap ≡ record { answer = 0x802A00000000003A; size = 4; cue = 9; pointers = 0x802A000000000039 ∷ 0x802A00000000003A ∷ []; bytes = 5 ∷ 6 ∷ 7 ∷ 0 ∷ [] } ∷ [])
-    × (tally (after calls fresh6 .state) ≡ usage.Counts 1 4 92 16)
-    × (freeTotal (after calls fresh6 .state) ≡ Accepted 92)
+    × (after calls fresh6 .heap ≡ record { answer = 0x802A00000000003A; size = 4; cue = 9; pointers = 0x802A000000000039 ∷ 0x802A00000000003A ∷ []; bytes = 5 ∷ 6 ∷ 7 ∷ 0 ∷ [] }
+    ∷ record { answer = 0x8010000000000020; size = 0; cue = 9; pointers = 0x8010000000000025 ∷ 0x8010000000000020 ∷ []; bytes = [] } ∷ [])
+    × (tally (after calls fresh6 .state) ≡ usage.Counts 2 4 66 42)
+    × (freeTotal (after calls fresh6 .state) ≡ Accepted 66)
     × (distances 0x802A000000000039 (after calls fresh6 .state) ≡ Distances (negsuc 0) (pos 5))
+    × (distances 0x8010000000000020 (after calls fresh6 .state) ≡ Distances (pos 0) (pos 0))
 unfolding frameNumber frameNumberIn unpack pack goodTag reach landed moved wrapper tagNumber pointerTo tagMatches usedEntries entryAt encode decode field put superblock withTotal superblockGood header headerAt wellFormed sound walkIn walkFrom walk fitOf firstFit metOf walkTo setUpChecks fresh setUp opening entryHolds fitAnswer takenExtent allocateChecks carved noted allocateFor headerPlace verified leadsBack located fromStart toEnd inBody accessed distancesChecks distancesAt distances movedAnswer moveAnswer move loadAnswer load storeChecks store fillChecks fill copyChecks copy textFrom textOf textAnswer textAt copyTextChecks copyText mergeEnd mergeStart released freeChecks releasedAt totalFits totalled freeRelease merged freed free walkCue gatheredAnswer placesOf allHeld extentsOf releaseChecks pointersTo cuePointers freeEach releaseCue member ownerOf inside change without passing write copied copiedText textCopied hear after allAdmitted known countOf countBlocks tallyOpened tallyCounted tally freeTotal
-admitted-calls = (refl, refl, refl, refl, refl)
+admitted-calls = (refl, refl, refl, refl, refl, refl)

@@ -212,10 +212,10 @@ pub record Holds (s : ℕ) (x : Configuration) : Type 0 where
   pub reads : LoadsBytes x
   pub orders : ComparesBytes x
   pub text-counts : TextsCounted x
-  -- allocate never answers 9; a nonzero size is accepted exactly when some run is long enough, and gets 8 exactly when none is
+  -- allocate never answers 9; any size, 0 too, is accepted exactly when some run is long enough, and gets 8 exactly when none is
   pub no-conflict : EachAllocate (x .state) (λ size r. r ≡ 9 → ⊥)
-  pub room : EachAllocate (x .state) (λ size r. 0 < size → (r ≡ 0) ↔ ((a : ℕ) × FreeRun x a (16 + size)))
-  pub no-space : EachAllocate (x .state) (λ size r. 0 < size → (r ≡ 8) ↔ ((a : ℕ) → FreeRun x a (16 + size) → ⊥))
+  pub room : EachAllocate (x .state) (λ size r. (r ≡ 0) ↔ ((a : ℕ) × FreeRun x a (16 + size)))
+  pub no-space : EachAllocate (x .state) (λ size r. (r ≡ 8) ↔ ((a : ℕ) → FreeRun x a (16 + size) → ⊥))
 
 -- A claim about what every history begun by set-up leaves: an accepted set-up on any image and table, then any admitted list of calls.
 abbrev pub AfterEveryHistory : (ℕ → Configuration → Type 0) → Type 0

@@ -4,5 +4,6 @@ pub mod Heap
 pub mod History
 pub mod Tidiness
 pub mod Release
+pub mod Empty
 -- worked example
 pub mod Examples

@@ -37,9 +37,10 @@ use Rattle.store.specs.laws.Copy.{Copies, copy-parts, copy-declined, cop
 use Rattle.store.specs.laws.Compare.{swapped-order, transitive-order}
 use Rattle.store.specs.laws.CopyText.{CopiesText, copy-text-parts, copy-text-declined, copy-text-done}
 use Rattle.store.specs.Step.{Call, allocates, frees, moves, loads, stores, fills, copies, copiesText, allocatesFor, releases, step}
-use Rattle.store.specs.Claims.{RefusalsKeep, KeepsShape, ShapesKept, PointsBack, LeadsBack, ReadsBack, CountsAll, ComparesInOrder, EachFreed, ReleasesAll, ReadAs, Measures}
+use Rattle.store.specs.Claims.{RefusalsKeep, KeepsShape, ShapesKept, PointsBack, LeadsBack, ReadsBack, CountsAll, ComparesInOrder, EachFreed, ReleasesAll, ReadAs, Measures, EmptyBodies}
 use Rattle.store.specs.laws.Load.{load-given, load-leaves}
 use Rattle.store.specs.laws.Move.{move-leaves}
+use Rattle.store.specs.laws.Empty.{empty-load, empty-access}
 use Rattle.store.specs.laws.Entries.{length-noted, noted-beyond, noted-entry}
 use Rattle.store.specs.laws.Tally.{tally-balanced}
 use Rattle.store.specs.declared.answer.Answer.{Answer}
@@ -331,7 +332,7 @@ module _ (size type cue : ℕ) (x : State) (h : ℕ) (fits : type < 2 ^ 16) (cue
         short = omega (arith, a .opens .short);
         is-sound =
             sound-live-at (allotted (x .image) h size type cue) h (takenExtent (x .image) h size) type size cue left-header low (omega (arith, carved-at .ends))
-            (a .some-size) (carved-at .holds) (carved-at .tight);
+            (carved-at .holds) (carved-at .tight);
         is-live = eq-eqb _ _ (ap (λ (d : Header). d .kind) left-header);
         size-is = ap (λ (d : Header). d .size) left-header;
         entry = noted-entry (slotExponent (x .image)) h size h (x .table) (a .indexed);
@@ -467,3 +468,7 @@ measures =
           (d, ap₂ _+ℤ_ (ap startDistance d) (ap endDistance d) ∙ read-as s (unpack p) x o f .sum);
       declined = λ s p x r e q. sym (distances-unread x s e p r (read-refused s (unpack p) x r q));
     }
+
+-- an object of no bytes gives no access
+pub empty-bodies : EmptyBodies
+empty-bodies = record { loads = empty-load; others = empty-access }

@@ -71,7 +71,7 @@ opening x =
     (demand (leb (usedEntries (slotExponent (x .image)) (length (x .image))) (length (x .table))) ShortTable
     (Accepted (slotExponent (x .image))))
 
--- Allocate, for a cue or for none: 6, 7 or 8 as the walk ends, 9 where the new object's entry is not zero, 22.
+-- Allocate, for a cue or for none: 7 or 8 as the walk ends, 9 where the new object's entry is not zero, 22. The size may be 0.
 
 -- whether the object at h needs no table entry, or its entry holds v
 unfoldable pub entryHolds : ℕ → ℕ → ℕ → ℕ → List ℕ → Bool
@@ -91,10 +91,9 @@ takenExtent image h size = cond (ltb (extentAt image h - (16 + size)) 16) (exten
 unfoldable pub allocateChecks : ℕ → State → Answer
 allocateChecks size x =
     andThen (opening x) λ s.
-    demand (ltb 0 size) Empty
-    (fitAnswer (firstFit (x .image) (16 + size)) λ h.
+    fitAnswer (firstFit (x .image) (16 + size)) λ h.
     demand (entryHolds s h size 0 (x .table)) EntryTaken
-    (demand (leb (takenExtent (x .image) h size) (storedTotal (x .image))) WrongTotal (Accepted h)))
+    (demand (leb (takenExtent (x .image) h size) (storedTotal (x .image))) WrongTotal (Accepted h))
 
 -- the image with a live block in the free one at h; a rest of 16 bytes or more becomes a free block
 unfoldable pub carved : List ℕ → ℕ → ℕ → ℕ → ℕ → List ℕ

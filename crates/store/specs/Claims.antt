@@ -1,5 +1,6 @@
 -- What holds of single calls on every image and table, damaged ones too: demand 1, of demand 2 the pointer that allocate gives, read-back, the
--- balance of tally, that compare is an order, that a release frees all objects of its cue, and what the distances say. Assumes nothing.
+-- balance of tally, that compare is an order, that a release frees all objects of its cue, what the distances say, and that an object of no bytes gives no
+-- access. Assumes nothing.
 use Prim.Native.Nat.{ℕ, _+_, _^_, _<_}
 use mathlib.Core.Path.{_≡_}
 use mathlib.Core.Bool.{true, _&&_}
@@ -15,7 +16,7 @@ use Rattle.block.specs.Layout.{slotExponent, typeAt, sizeAt, cueAt}
 use Rattle.block.specs.Walk.{firstFit}
 use Rattle.block.specs.declared.walk.Fit.the-variants as fit
 use Rattle.store.specs.State.{State, IsAccepted, returned, value, comparisonNumber, comparisonValue, distancesNumber, startDistance, endDistance, usageNumber, liveObjects, liveBytes, freeBytes, overheadBytes, Balances}
-use Rattle.store.specs.Calls.{setUp, allocateFor, load, store, free, compare, cuePointers, releaseCue, freeTotal, tally, opening, leadsBack, headerPlace, located, readTag, inBody, distances}
+use Rattle.store.specs.Calls.{setUp, allocateFor, load, store, fill, copy, free, compare, copyText, cuePointers, releaseCue, freeTotal, tally, opening, leadsBack, headerPlace, located, readTag, inBody, distances}
 use Rattle.store.specs.Step.{Call, step}
 use Rattle.store.specs.declared.answer.Refusal.{Refusal}
 use Rattle.store.specs.declared.answer.Answer.the-variants.{Accepted}
@@ -123,3 +124,24 @@ pub record Measures : Type 0 where
   pub declined :
       (s p : ℕ) (x : State) (r : Refusal) → opening x ≡ Accepted s → readTag s (unpack p) x ≡ found.Refused r
       → distances p x ≡ measurement.Refused r
+
+-- no store, fill, copy, compare or text copy through p is accepted, however many bytes it asks for, and whatever the other pointer
+pub record NoAccess (p : ℕ) (x : State) : Type 0 where
+  pub stores : (width v : ℕ) → IsAccepted (store p width v x) → ⊥
+  pub fills : (n byte : ℕ) → IsAccepted (fill p n byte x) → ⊥
+  pub copies-to : (source n : ℕ) → IsAccepted (copy p source n x) → ⊥
+  pub copies-from : (target n : ℕ) → IsAccepted (copy target p n x) → ⊥
+  pub compares-left : (right n : ℕ) → comparisonNumber (compare p right n x) ≡ 0 → ⊥
+  pub compares-right : (left n : ℕ) → comparisonNumber (compare left p n x) ≡ 0 → ⊥
+  pub texts-to : (source : ℕ) → IsAccepted (copyText p source x) → ⊥
+  pub texts-from : (target : ℕ) → IsAccepted (copyText target p x) → ⊥
+
+-- a claim about each number whose tag leads to an object of no bytes
+abbrev pub EachEmpty : (ℕ → State → Type 0) → Type 0
+EachEmpty P =
+    (s p : ℕ) (x : State) (h : ℕ) → opening x ≡ Accepted s → located s (unpack p) x ≡ Accepted h → sizeAt (x .image) h ≡ 0 → P p x
+
+-- Nothing is read or written through it.
+pub record EmptyBodies : Type 0 where
+  pub loads : EachEmpty (λ p x. (width : ℕ) → IsAccepted (load p width x) → ⊥)
+  pub others : EachEmpty NoAccess

@@ -16,7 +16,7 @@ use Rattle.block.specs.Text.{textFrom, textOf}
 use Rattle.block.specs.Layout.{superblock, withTotal, superblockGood, header, headerAt, wellFormed, sound, isFree, extentAt}
 use Rattle.block.specs.Walk.{Search, walkIn, walkFrom, walk, fitOf, firstFit, metOf, walkTo, countOf, countBlocks, walkCue}
 use Rattle.store.specs.State.{State, state, Outcome, returned, value, comparisonNumber, comparisonValue, distancesNumber, startDistance, endDistance, usageNumber, liveObjects, liveBytes, freeBytes, overheadBytes}
-use Rattle.store.specs.Calls.{setUpChecks, fresh, setUp, opening, entryHolds, fitAnswer, takenExtent, allocateChecks, carved, noted, allocateFor, allocate, headerPlace, verified, leadsBack, located, fromStart, toEnd, foundAt, readTag, inBody, accessed, distancesChecks, distancesAt, distances, movedAnswer, moveAnswer, move, loadAnswer, load, storeChecks, store, copyChecks, compared, compare, textAnswer, textAt, copyTextChecks, copyText, mergeEnd, mergeStart, released, freeChecks, releasedAt, totalFits, totalled, freeRelease, merged, freed, free, gatheredAnswer, placesOf, allHeld, extentsOf, releaseChecks, pointersTo, cuePointers, freeEach, releaseCue, freeTotal, tallyOpened, tallyCounted, tally}
+use Rattle.store.specs.Calls.{setUpChecks, fresh, setUp, opening, entryHolds, fitAnswer, takenExtent, allocateChecks, carved, noted, allocateFor, allocate, headerPlace, verified, leadsBack, located, fromStart, toEnd, foundAt, readTag, inBody, accessed, distancesChecks, distancesAt, distances, movedAnswer, moveAnswer, move, loadAnswer, load, storeChecks, store, fillChecks, fill, copyChecks, copy, compared, compare, textAnswer, textAt, copyTextChecks, copyText, mergeEnd, mergeStart, released, freeChecks, releasedAt, totalFits, totalled, freeRelease, merged, freed, free, gatheredAnswer, placesOf, allHeld, extentsOf, releaseChecks, pointersTo, cuePointers, freeEach, releaseCue, freeTotal, tallyOpened, tallyCounted, tally}
 use Rattle.store.specs.Step as call
 use Rattle.store.specs.declared.answer.Answer.{Answer}
 use Rattle.store.specs.declared.comparing.Comparison.{Comparison}
@@ -305,7 +305,6 @@ cases =
     ∷ retotals 256 four inTurn 25 2 0 0 16 (call.allocatesFor 10 0 9) 22 25
     ∷ retotals 64 [] [] 47 2 0 0 16 (call.allocates 17 0) 22 47
     ∷ retotals 64 [] [] 48 2 0 0 16 (call.allocates 17 0) 0 0
-    ∷ retotals 256 four inTurn 0 2 0 0 16 (call.allocates 0 0) 6 0
     ∷ retotals 256 four inTurn 0 2 0 16 1 (call.allocates 10 0) 7 0
     ∷ retotals 256 four inTurn 0 2 0 0 16 (call.allocates 1000 0) 8 0
     ∷ retotals 256 (10 ∷ []) (0 ∷ []) 0 0 5 0 16 (call.allocates 20 0) 9 0
@@ -370,8 +369,59 @@ cases =
     ∷ measures 1024 (10 ∷ []) 400 0 16 0x8010FFFFFFFFFFFF 11 (pos 0) (pos 0)
     ∷ measures 1024 (10 ∷ []) 400 0 16 0x000700000000003A 11 (pos 0) (pos 0)
     ∷ measures 1024 (10 ∷ []) 400 20 1 0x8010000000000020 11 (pos 0) (pos 0)
+    ∷ object 64 [] 0 16 32 6 0x8010000000000020
+    ∷ framed 64 [] 0 true
+    ∷ takes 64 [] 0 16
+    ∷ leaves 64 [] 0 32 32
+    ∷ object 64 (0 ∷ []) 0 32 48 5 0x8020000000000030
+    ∷ object 64 (0 ∷ 0 ∷ []) 0 48 64 7 0x0007000000000040
+    ∷ declined 64 (0 ∷ 0 ∷ 0 ∷ []) 0 8
+    ∷ object 64 (16 ∷ []) 0 48 64 7 0x0007000000000040
+    ∷ entry 64 (16 ∷ []) 0 0 48
+    ∷ takes 64 (16 ∷ []) 0 16
+    ∷ declined 64 (17 ∷ []) 0 8
+    ∷ takes 79 (16 ∷ []) 0 31
+    ∷ tallies 79 (16 ∷ 0 ∷ []) 2 16 0 47
+    ∷ tallies 64 (0 ∷ 0 ∷ 0 ∷ []) 3 0 0 48
+    ∷ damages 64 (0 ∷ []) 16 15
+    ∷ damages 79 (16 ∷ 0 ∷ []) 56 16
+    ∷ totals 64 (0 ∷ []) 32
+    ∷ totals 79 (16 ∷ 0 ∷ []) 0
+    ∷ retotals 256 four inTurn 15 2 0 0 16 (call.allocates 0 0) 22 15
+    ∷ retotals 256 four inTurn 16 2 0 0 16 (call.allocatesFor 0 0 9) 0 0
+    ∷ retotals 64 (16 ∷ []) (0 ∷ []) 0 0 5 0 16 (call.allocates 0 0) 9 0
+    ∷ moves 64 (16 ∷ 0 ∷ []) 0x0007000000000040 (pos 63) 0 0x000700000000007F
+    ∷ moves 64 (16 ∷ 0 ∷ []) 0x0007000000000040 (pos 64) 12 0
+    ∷ moves 64 (16 ∷ 0 ∷ []) 0x0007000000000040 (negsuc 63) 0 0x0007000000000000
+    ∷ measures 64 (0 ∷ []) 400 0 16 0x8010000000000020 0 (pos 0) (pos 0)
+    ∷ measures 64 (16 ∷ 0 ∷ []) 400 0 16 0x0007000000000040 0 (pos 0) (pos 0)
+    ∷ measures 64 (16 ∷ 0 ∷ []) 400 0 16 0x0007000000000041 0 (pos 1) (negsuc 0)
+    ∷ measures 64 (16 ∷ 0 ∷ []) 400 0 16 0x000700000000003F 0 (negsuc 0) (pos 1)
+    ∷ reads 64 (16 ∷ 0 ∷ []) 0x0007000000000040 48 64 0 (pos 0) (pos 0)
+    ∷ accesses 64 (0 ∷ []) 0x8010000000000020 1 0 13 13 0
+    ∷ accesses 64 (0 ∷ []) 0x801000000000001F 1 0 13 13 0
+    ∷ accesses 79 (16 ∷ 0 ∷ []) 0x0007000000000040 1 0 13 13 0
+    ∷ accesses 64 (16 ∷ 0 ∷ []) 0x0007000000000040 1 0 13 13 0
+    ∷ accesses 64 (16 ∷ 0 ∷ []) 0x0007000000000040 0 0 14 14 0
+    ∷ retotals 64 (16 ∷ 0 ∷ []) (7 ∷ 9 ∷ []) 0 2 0 0 16 (call.fills 0x0007000000000040 1 5) 13 0
+    ∷ retotals 64 (16 ∷ 0 ∷ []) (7 ∷ 9 ∷ []) 0 2 0 0 16 (call.fills 0x0007000000000040 0 5) 6 0
+    ∷ retotals 64 (16 ∷ 0 ∷ []) (7 ∷ 9 ∷ []) 0 2 0 0 16 (call.copies 0x0007000000000040 0x8010000000000020 1) 13 0
+    ∷ retotals 64 (16 ∷ 0 ∷ []) (7 ∷ 9 ∷ []) 0 2 0 0 16 (call.copies 0x8010000000000020 0x0007000000000040 1) 13 0
+    ∷ retotals 64 (16 ∷ 0 ∷ []) (7 ∷ 9 ∷ []) 0 2 0 0 16 (call.copies 0x0007000000000040 0x0007000000000040 0) 6 0
+    ∷ compares 64 (16 ∷ 0 ∷ []) 0x8010000000000020 [] 0x0007000000000040 0x8010000000000020 1 13 (pos 0)
+    ∷ compares 64 (16 ∷ 0 ∷ []) 0x8010000000000020 [] 0x8010000000000020 0x0007000000000040 1 13 (pos 0)
+    ∷ compares 64 (16 ∷ 0 ∷ []) 0x8010000000000020 [] 0x0007000000000040 0x0007000000000040 0 6 (pos 0)
+    ∷ texts 64 (16 ∷ 0 ∷ []) 0x8010000000000020 hello 0x8010000000000020 0x0007000000000040 13 0 0x0000006F6C6C6568
+    ∷ texts 64 (16 ∷ 0 ∷ []) 0x8010000000000020 [] 0x0007000000000040 0x8010000000000020 13 0 0
+    ∷ retotals 64 (16 ∷ 0 ∷ []) (7 ∷ 9 ∷ []) 0 2 0 0 16 (call.frees 0x0007000000000040) 0 16
+    ∷ retotals 64 (16 ∷ 0 ∷ []) (7 ∷ 9 ∷ []) 0 2 0 0 16 (call.frees 0x0007000000000041) 15 0
+    ∷ retotals 79 (16 ∷ 0 ∷ []) (7 ∷ 9 ∷ []) 0 2 0 0 16 (call.frees 0x0007000000000040) 0 31
+    ∷ releases 64 (16 ∷ 0 ∷ []) (7 ∷ 9 ∷ []) [] 2 0 9 0 1 (2 ∷ 32 ∷ 1 ∷ 16 ∷ []) (0 ∷ 0 ∷ [])
+    ∷ releases 64 (0 ∷ 0 ∷ 0 ∷ []) (7 ∷ 9 ∷ 7 ∷ []) [] 2 0 7 0 2 (1 ∷ 16 ∷ 2 ∷ 16 ∷ 1 ∷ 16 ∷ []) (0 ∷ 0 ∷ [])
+    ∷ releases 64 (0 ∷ 0 ∷ 0 ∷ []) (7 ∷ 9 ∷ 7 ∷ []) (7 ∷ []) 2 0 9 0 1 (1 ∷ 48 ∷ []) (0 ∷ 0 ∷ [])
+    ∷ keeps 64 (16 ∷ 0 ∷ []) (7 ∷ 9 ∷ []) 0 0 0 16 9 21
     ∷ []
 
 pub worked : T (all cases)
-unfolding frameNumber frameNumberIn unpack pack goodTag reach landed moved wrapper tagNumber pointerTo tagMatches usedEntries entryAt encode decode field put superblock withTotal superblockGood header headerAt wellFormed sound walkIn walkFrom walk fitOf firstFit setUpChecks fresh setUp opening entryHolds fitAnswer takenExtent allocateChecks carved noted allocateFor headerPlace verified leadsBack located fromStart toEnd foundAt readTag inBody accessed distancesChecks distancesAt distances movedAnswer moveAnswer move loadAnswer load storeChecks store compareBytes textFrom textOf copyChecks compared compare textAnswer textAt copyTextChecks copyText countOf countBlocks tallyOpened tallyCounted tally metOf walkTo mergeEnd mergeStart released freeChecks releasedAt totalFits totalled freeRelease merged freed free walkCue gatheredAnswer placesOf allHeld extentsOf releaseChecks pointersTo cuePointers freeEach releaseCue freeTotal
+unfolding frameNumber frameNumberIn unpack pack goodTag reach landed moved wrapper tagNumber pointerTo tagMatches usedEntries entryAt encode decode field put superblock withTotal superblockGood header headerAt wellFormed sound walkIn walkFrom walk fitOf firstFit setUpChecks fresh setUp opening entryHolds fitAnswer takenExtent allocateChecks carved noted allocateFor headerPlace verified leadsBack located fromStart toEnd foundAt readTag inBody accessed distancesChecks distancesAt distances movedAnswer moveAnswer move loadAnswer load storeChecks store fillChecks fill compareBytes textFrom textOf copyChecks copy compared compare textAnswer textAt copyTextChecks copyText countOf countBlocks tallyOpened tallyCounted tally metOf walkTo mergeEnd mergeStart released freeChecks releasedAt totalFits totalled freeRelease merged freed free walkCue gatheredAnswer placesOf allHeld extentsOf releaseChecks pointersTo cuePointers freeEach releaseCue freeTotal
 worked = tt

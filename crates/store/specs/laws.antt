@@ -21,3 +21,5 @@ pub mod Free
 pub mod Release
 pub mod Sweep
 pub mod Tally
+-- several calls
+pub mod Empty

@@ -42,9 +42,6 @@ fn allocatable(image: &[u8], table: &[u64], s: u32, size: u32) -> Site
     requires { ⌜ opening (state (now image) (now table)) ≡ Answer.Accepted s ⌝ }
     ensures { λ r. ⌜ r ≡ siteOf s size (allocateChecks size (state (now (image .entry)) (now (table .entry)))) ⌝ }
 {
-    if size == 0 {
-        return Site::Refused(Refusal::Empty);
-    }
     match first_fit(image, 16 + size as u64) {
         Fit::Unsound(_) => Site::Refused(Refusal::Unsound),
         Fit::End => Site::Refused(Refusal::NoSpace),

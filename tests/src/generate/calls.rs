@@ -20,7 +20,7 @@ impl Generator {
     pub(super) fn size(&mut self, view: &View<'_>) -> u32 {
         let length = self.buffers.lent_image as u64;
         let jitter = self.random.within(0, 18);
-        let size = match self.random.below(20) {
+        let size = match self.random.below(22) {
             0..6 => self.random.within(1, 40),
             6..9 => self.random.within(1, 200),
             9 | 10 => self.random.within(1, length / 4),
@@ -34,7 +34,8 @@ impl Generator {
                 None => length,
             },
             17 => length.saturating_sub(16 + jitter),
-            18 => self.random.pick(&[0, 0, 1, 1, 0xffff_ffff, 0xffff_fff0, 0xffff_ffef, 1 << 30, 1 << 31]),
+            18 | 19 => 0,
+            20 => self.random.pick(&[1, 1, 0xffff_ffff, 0xffff_fff0, 0xffff_ffef, 1 << 30, 1 << 31]),
             _ => self.random.word() >> self.random.within(32, 63),
         };
         size.min(u64::from(u32::MAX)) as u32

@@ -37,7 +37,7 @@ impl Generator {
         self.call(Call::AllocateFor { size, type_number, cue });
         if self.random.percent(40) {
             for _ in 0..self.random.within(1, 4) {
-                let size = self.random.within(1, 40) as u32;
+                let size = if self.random.percent(20) { 0 } else { self.random.within(1, 40) as u32 };
                 self.call(Call::AllocateFor { size, type_number, cue });
             }
         }
@@ -110,12 +110,16 @@ impl Generator {
         let (mut blocks, end) = (Vec::new(), view.image.len() as u64);
         let mut at = self.block(view).map_or(end, |(h, _)| h);
         while at != end {
-            let extent = if blocks.len() < DAMAGED { self.random.within(16, 80) } else { end };
+            let extent = match self.random.below(5) {
+                _ if blocks.len() >= DAMAGED => end,
+                0 => self.random.within(16, 31),
+                _ => self.random.within(16, 80),
+            };
             let extent = if at + extent + 16 > end { end - at } else { extent };
-            let header = if extent == 16 || self.random.percent(40) {
+            let header = if self.random.percent(40) {
                 Header::free(extent)
             } else {
-                let spare = self.random.below(16).min(extent - 17);
+                let spare = self.random.below(16).min(extent - 16);
                 Header::live(extent, 5, (extent - 16 - spare) as u32, self.random.pick(&self.cues[..2]))
             };
             self.overwrite(at, header.bytes());

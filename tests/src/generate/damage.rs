@@ -5,7 +5,7 @@ use crate::case::{Action, Arg, Damage, View};
 use crate::model::{Header, Pointer, TOTAL};
 use crate::store::Call;
 
-const DAMAGES: [(u64, Make); 10] = [
+const DAMAGES: [(u64, Make); 11] = [
     (2, Generator::misuse),
     (2, Generator::damage_superblock),
     (2, Generator::damage_byte),
@@ -16,6 +16,7 @@ const DAMAGES: [(u64, Make); 10] = [
     (1, Generator::short_image),
     (1, Generator::low_header),
     (8, Generator::damage_for_distances),
+    (14, Generator::damage_for_empties),
 ];
 
 /// The sixteen bytes at `at`.
@@ -81,7 +82,7 @@ impl Generator {
     /// A header that would be sound but for its place, 15: the free total's highest byte is its extent's lowest.
     fn low_header(&mut self, view: &View<'_>) {
         let before = sixteen(view, 15);
-        let (size, spare) = (self.random.within(1, 240.min(view.image.len() as u64 - 46)), self.random.below(16));
+        let (size, spare) = (self.random.within(0, 240.min(view.image.len() as u64 - 46)), self.random.below(16));
         let pointer = Arg::Number(Pointer::to(self.slot_exponent, 15, size).pack());
         self.overwrite(15, Header::live(16 + size + spare, 0, size as u32, 0).bytes());
         self.push(Action::Damage(Damage::EntryOf { of: pointer, value: None }));

@@ -9,13 +9,20 @@ impl Generator {
     /// It writes nothing: any pointer will do.
     pub(super) fn distances(&mut self, view: &View<'_>) {
         let kind = self.random.below(20);
-        let pointer = match (kind, self.object(true)) {
+        let object = if self.random.percent(10) { self.widest() } else { self.object(true) };
+        let pointer = match (kind, object) {
             (0..11, Some(object)) => self.over_its_reach(object),
             (11 | 12, Some(object)) => self.retagged(object),
             (13, Some(object)) => self.near_48_bits(object),
             _ => self.pointer(view),
         };
         self.call(Call::Distances { pointer });
+    }
+
+    /// A live object in the largest frame.
+    fn widest(&self) -> Option<usize> {
+        let reach = |&i: &usize| Some(Pointer::unpack(self.objects[i].pointers[0].1)).filter(|p| !p.small).map(|p| p.tag);
+        (0..self.objects.len()).filter(|&i| self.objects[i].live).max_by_key(reach)
     }
 
     /// Of a start's pointers over its slot or frame, or of itself.
@@ -40,7 +47,7 @@ impl Generator {
 
     /// How far a start is moved: around both ends of the body, the header, the spare bytes, the ends of slot or frame and of the
     /// image, or anywhere between.
-    fn in_reach(&mut self, start: u64, size: u32) -> i64 {
+    pub(super) fn in_reach(&mut self, start: u64, size: u32) -> i64 {
         let p = Pointer::unpack(start);
         let (address, size) = (p.address as i64, i64::from(size));
         let reach = if p.small { self.slot_exponent } else { (p.tag as u32).min(31) };

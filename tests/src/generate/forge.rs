@@ -10,14 +10,14 @@ impl Generator {
         let Some(object) = self.object(true) else { return };
         let size = u64::from(self.objects[object].size);
         let (step, start) = self.objects[object].pointers[0];
-        if size < 17 {
+        if size < 16 {
             return;
         }
         let offset = self.random.below(size - 15);
         let h = Pointer::unpack(start).address + offset;
         // inside the body, or up to the image's end over the neighbours
         let room = if self.random.percent(60) { size - offset } else { (self.buffers.lent_image as u64).saturating_sub(h) };
-        let forged = self.random.within(1, room.saturating_sub(16).max(1)) as u32;
+        let forged = if self.random.percent(25) { 0 } else { self.random.within(0, room.saturating_sub(16)) as u32 };
         let header = self.forged_header(forged);
         self.write_header(Arg::of(step), offset, header);
         let pointer = Arg::Header { step, offset, size: forged };
@@ -69,8 +69,8 @@ impl Generator {
 
     /// Sound for a body of `size` bytes, or nearly so.
     fn forged_header(&mut self, size: u32) -> Header {
-        let spare = self.random.pick(&[0, 0, 0, 1, 15, 16]);
-        let mut header = Header::live(u64::from(size) + 16 + spare, 9, size, self.last_bytes());
+        let more = self.random.pick(&[15, 16, 16, 16, 17, 31, 32]);
+        let mut header = Header::live(u64::from(size) + more, 9, size, self.last_bytes());
         if self.random.percent(15) {
             header.kind = self.random.pick(&[0, 1, 3, 0x102]);
         }
@@ -78,7 +78,7 @@ impl Generator {
     }
 
     fn use_forged(&mut self, view: &View<'_>, pointer: Arg, size: u32) {
-        match self.random.below(12) {
+        match self.random.below(14) {
             0..3 => {
                 let width = self.width();
                 self.call(Call::Load { pointer, width });
@@ -93,8 +93,9 @@ impl Generator {
             }
             6 => {
                 let length = self.length(i64::from(size));
-                let right = self.live_start();
-                self.call(Call::Compare { left: pointer, right, length });
+                let other = self.live_start();
+                let (left, right) = self.random.pick(&[(pointer, other), (other, pointer)]);
+                self.call(Call::Compare { left, right, length });
             }
             7 => self.distances_around(pointer, view.answers.resolve(pointer), size),
             _ if self.mode == Mode::History => {}
@@ -106,6 +107,12 @@ impl Generator {
                 let other = self.live_start();
                 let (target, source) = self.random.pick(&[(pointer, other), (other, pointer)]);
                 self.call(Call::CopyText { target, source });
+            }
+            10 | 11 => {
+                let length = self.length(i64::from(size));
+                let other = self.live_start();
+                let (target, source) = self.random.pick(&[(pointer, other), (other, pointer)]);
+                self.call(Call::Copy { target, source, length });
             }
             _ => {
                 let length = self.length(i64::from(size));

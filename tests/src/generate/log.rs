@@ -53,16 +53,16 @@ pub fn calls(seed: u64, count: usize) -> Vec<Call<u64>> {
 /// Calls made again and again up to the limit, the last one cut there, behind others: those that walk over as many blocks
 /// as there can be, and those that write as many bytes.
 pub fn slow() -> Vec<(&'static str, Vec<u8>)> {
-    let small = Call::Allocate { size: 1, type_number: 0 };
-    let full = vec![small; (LENGTH - 16) / 17];
+    let empty = Call::Allocate { size: 0, type_number: 0 };
+    let full = vec![empty; (LENGTH - 16) / 16];
     let last = answers(&full).last().unwrap().values[0];
     let length = LENGTH as u32 - 32;
     let all = Call::Allocate { size: length, type_number: 0 };
     let pointer = answers(&[all])[0].values[0];
     let copy = |to, from| Call::Copy { target: pointer + to, source: pointer + from, length: length - 1 };
     let logs: [(_, &[_], &[_]); 6] = [
-        ("allocate in a full store", &full, &[small]),
-        ("free and allocate in a full store", &full, &[Call::Free { pointer: last }, small]),
+        ("allocate in a full store", &full, &[empty]),
+        ("free and allocate in a full store", &full, &[Call::Free { pointer: last }, empty]),
         ("allocate and free the whole store", &[], &[all, Call::Free { pointer }]),
         ("fill the whole store", &[all], &[Call::Fill { pointer, length, value: 255 }]),
         ("copy it up by one", &[all], &[copy(1, 0)]),

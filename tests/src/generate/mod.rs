@@ -1,15 +1,16 @@
 //! Random cases. What is generated depends on the seed and on the expected store's answers, never on the tested store's.
 //!
 //! Here are the case, its buffers and its book of objects; `calls` makes one call, `texts` those of texts, `cues` those of
-//! cues with damages for them, `totals` free totals, `distances` those of pointers with damages for them, `pointers` the
-//! pointers, `forge` headers inside bodies, `misuse` wrong slices and set-ups, `damage` what is written behind the store's back;
-//! `log` makes a list of calls alone, `blocks` an image of many blocks.
+//! cues with damages for them, `totals` free totals, `distances` those of pointers with damages for them, `empties` objects of no
+//! bytes with damages for them, `pointers` the pointers, `forge` headers inside bodies, `misuse` wrong slices and set-ups, `damage`
+//! what is written behind the store's back; `log` makes a list of calls alone, `blocks` an image of many blocks.
 
 pub mod blocks;
 mod calls;
 mod cues;
 mod damage;
 mod distances;
+mod empties;
 mod forge;
 pub mod log;
 mod misuse;
@@ -42,7 +43,7 @@ const MODES: [(u64, Mode); 3] = [(40, Mode::History), (30, Mode::Hostile), (30, 
 type Make = fn(&mut Generator, &View<'_>);
 
 /// The mix: how often in a case's ordinary course, and how often on wrong slices or damaged bytes.
-const MIX: [(u64, u64, Make); 15] = [
+const MIX: [(u64, u64, Make); 16] = [
     (24, 1, Generator::allocate),
     (9, 1, Generator::allocate_for),
     (12, 1, Generator::free),
@@ -58,6 +59,7 @@ const MIX: [(u64, u64, Make); 15] = [
     (4, 1, Generator::free_total),
     (4, 0, Generator::forge),
     (8, 1, Generator::distances),
+    (6, 1, Generator::empties),
 ];
 
 /// An object as document 01's book keeps it; dead ones are kept for stale pointers.

@@ -98,7 +98,7 @@ impl Generator {
     /// As if a header stood in the body.
     fn into_body(&mut self, _: &View<'_>) -> Option<Arg> {
         let (step, _, size) = self.known(true)?;
-        Some(Arg::Header { step, offset: self.random.below(u64::from(size).min(1 << 30) + 1), size: self.random.within(1, 80) as u32 })
+        Some(Arg::Header { step, offset: self.random.below(u64::from(size).min(1 << 30) + 1), size: self.random.within(0, 80) as u32 })
     }
 
     // ---- from the image, or from nothing

@@ -65,7 +65,7 @@ impl Generator {
         if free.is_empty() || self.random.percent(50) {
             return self.size(view);
         }
-        self.random.pick(&free).saturating_sub(14 + self.random.below(20) as u32).max(1)
+        self.random.pick(&free).saturating_sub(14 + self.random.below(20) as u32)
     }
 
     fn total_for(&mut self, call: Call<Arg>) -> (Total, i64) {
@@ -125,7 +125,7 @@ impl Generator {
     /// On a fresh store: headers changed through a forged one, so that blocks and total do not suit each other. Then allocate and free
     /// answer 22, as they may in a log.
     pub(super) fn reach_for_total(&mut self) {
-        let (size, type_number) = (self.random.within(1, 160) as u32, 9);
+        let (size, type_number) = (self.random.within(0, 160) as u32, 9);
         let allocate = |size| Call::Allocate { size, type_number };
         // the first body gets a header whose body is the second header
         let [first, second, last] = [16, size, 1].map(|size| self.call(allocate(size)));

@@ -1,13 +1,15 @@
-//! What occurs in the calls with two pointers, in release, with the free total, and in distances, beside their answers: seen in
-//! image and table as they were before.
+//! What occurs in the calls with two pointers, in release, with the free total, in distances, and with objects of no bytes, beside
+//! their answers: seen in image and table as they were before.
 
 mod distances;
+mod empties;
 mod releases;
 mod totals;
 
 use crate::model::{self, Pointer};
 use crate::store::{Answer, Call};
 use distances::Distances;
+use empties::Empties;
 use releases::Releases;
 use std::fmt;
 use totals::Totals;
@@ -29,6 +31,7 @@ pub struct Seen {
     releases: Releases,
     totals: Totals,
     distances: Distances,
+    empties: Empties,
 }
 
 /// A pointer, the bytes from its address to its body's end, and those behind. A pointer whose first byte is refused has none.
@@ -112,6 +115,7 @@ fn add(counts: &mut [u64], rows: &[Row], looked: &Looked<'_>) {
 impl Seen {
     pub fn look(&mut self, image: &[u8], table: &[u64], call: &Call<u64>, answer: &Answer) {
         self.totals.look(image, call, answer);
+        self.empties.look(image, table, call, answer);
         let (place, first, second, bytes) = match *call {
             Call::Copy { target, source, length } => (0, target, source, length as usize),
             Call::Compare { left, right, length } => (1, left, right, length as usize),
@@ -152,6 +156,7 @@ impl Seen {
         all.extend(self.releases.all().map(|(what, count)| (format!("release: {what}"), count)));
         all.extend(self.totals.all().map(|(call, what, count)| (format!("{call}, total: {what}"), count)));
         all.extend(self.distances.all().map(|(what, count)| (format!("distances: {what}"), count)));
+        all.extend(self.empties.all().map(|(what, count)| (format!("no bytes: {what}"), count)));
         all
     }
 
@@ -172,6 +177,7 @@ impl fmt::Display for Seen {
         writeln!(f, "text copies: {}", list(&TEXTS, &self.texts))?;
         writeln!(f, "releases: {}", self.releases.all().map(|(what, count)| format!("{what} {count}")).collect::<Vec<_>>().join(", "))?;
         writeln!(f, "free totals: {}", self.totals.all().map(|(call, what, count)| format!("{call} {what} {count}")).collect::<Vec<_>>().join(", "))?;
-        write!(f, "distances: {}", self.distances.all().map(|(what, count)| format!("{what} {count}")).collect::<Vec<_>>().join(", "))
+        writeln!(f, "distances: {}", self.distances.all().map(|(what, count)| format!("{what} {count}")).collect::<Vec<_>>().join(", "))?;
+        write!(f, "objects of no bytes: {}", self.empties.all().map(|(what, count)| format!("{what} {count}")).collect::<Vec<_>>().join(", "))
     }
 }

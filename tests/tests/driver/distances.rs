@@ -231,7 +231,7 @@ fn led_to(image: &[u8], table: &[u64], p: Pointer) -> Option<(u64, Header)> {
 }
 
 /// The model without 11 where the header that the tag leads to is so.
-fn accepting(image: &mut [u8], table: &mut [u64], call: Call<u64>, accepts: fn(&[u8], u64, Header, Pointer) -> bool) -> Answer {
+pub(super) fn accepting(image: &mut [u8], table: &mut [u64], call: Call<u64>, accepts: fn(&[u8], u64, Header, Pointer) -> bool) -> Answer {
     let answer = right(image, table, call);
     let Call::Distances { pointer } = call else { return answer };
     let p = Pointer::unpack(pointer);
@@ -260,7 +260,7 @@ fn tags(image: &[u8], h: u64, header: Header, p: Pointer) -> bool {
 }
 
 /// Live, at a place from 16 on, with the tag: unsound by its extent or size alone.
-fn unsound(image: &[u8], h: u64, header: Header, p: Pointer) -> bool {
+pub(super) fn unsound(image: &[u8], h: u64, header: Header, p: Pointer) -> bool {
     h >= 16 && header.is_live() && in_its_frame(image, h, p) && tags(image, h, header, p)
 }
 
@@ -350,7 +350,7 @@ const INSIDE: Fits = |a| a.from_start >= 0 && a.to_end >= a.bytes;
 
 /// The calls, and which of their pointers: the one tested first or the other.
 #[derive(Clone, Copy, PartialEq, Eq)]
-enum Of {
+pub(super) enum Of {
     Load,
     Store,
     Fill,
@@ -363,7 +363,7 @@ enum Of {
 }
 
 /// The calls that access bytes.
-fn pointers(call: Call<u64>) -> Option<[Option<(Of, u64)>; 2]> {
+pub(super) fn pointers(call: Call<u64>) -> Option<[Option<(Of, u64)>; 2]> {
     Some(match call {
         Call::Load { pointer, .. } => [Some((Of::Load, pointer)), None],
         Call::Store { pointer, .. } => [Some((Of::Store, pointer)), None],
@@ -380,7 +380,7 @@ fn address(pointer: u64) -> usize {
 }
 
 /// How many bytes from the pointer on are asked for; a text's are those up to the first zero byte, here also behind its body.
-fn bytes(image: &[u8], call: Call<u64>, of: Of) -> Option<u64> {
+pub(super) fn bytes(image: &[u8], call: Call<u64>, of: Of) -> Option<u64> {
     match call {
         Call::Load { width, .. } | Call::Store { width, .. } => Some(width),
         Call::Fill { length, .. } | Call::Copy { length, .. } | Call::Compare { length, .. } => Some(length.into()),
@@ -390,7 +390,7 @@ fn bytes(image: &[u8], call: Call<u64>, of: Of) -> Option<u64> {
 }
 
 /// The call without any test, where its bytes are in the image.
-fn unchecked(image: &mut [u8], call: Call<u64>) -> Option<Answer> {
+pub(super) fn unchecked(image: &mut [u8], call: Call<u64>) -> Option<Answer> {
     let count = bytes(image, call, Of::TextTarget)? as usize;
     let place = |image: &[u8], pointer: u64| image.get(address(pointer)..)?.get(..count).map(|_| address(pointer));
     let value = match call {

@@ -3,6 +3,7 @@
 mod compares;
 mod cues;
 mod distances;
+mod empties;
 mod texts;
 mod totals;
 
@@ -88,8 +89,8 @@ fn free_that_leaves_a_merged_header() {
         }
         answer
     });
-    // set-up, two objects, both freed
-    assert_eq!(failure.case.steps.len(), 5, "{failure}");
+    // set-up, two objects, both freed; pointers that are numbers need the objects before
+    assert!(failure.case.steps.len() <= SHORT, "{failure}");
     assert!(failure.text.contains("MISMATCH, image byte"), "{failure}");
 }
 

@@ -352,11 +352,6 @@ fn allocate_asks_before_7() {
 }
 
 #[test]
-fn allocate_asks_before_6() {
-    find(|image, table, call| before(image, table, call, Allocate, 6, |_, total, call| need(call) > total));
-}
-
-#[test]
 fn allocate_takes_22_for_8() {
     find(|image, table, call| match (of(call), right(image, table, call)) {
         (Some(Allocate), Answer { refusal: 22, .. }) => Answer::new(8, []),

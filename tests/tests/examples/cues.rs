@@ -292,14 +292,13 @@ fn allocate_for_refused<S: Store>(store: S) {
         assert_eq!(lent.call(Call::AllocateFor { size, type_number: 7, cue: 5 }), Answer::new(refusal, []));
         assert!((&lent.image, &lent.table) == (&before.0, &before.1));
     };
-    refused(&mut lent, 0, 6);
     refused(&mut lent, 993, 8);
     refused(&mut lent, u32::MAX, 8);
     lent.table[0] = 1;
     refused(&mut lent, 32, 9);
     lent.image[16 + 12] = 1;
     refused(&mut lent, 32, 7);
-    refused(&mut lent, 0, 6);
+    refused(&mut lent, 0, 7);
     lent.table.truncate(383);
     refused(&mut lent, 0, 5);
     lent.image[0] = 3;

@@ -361,16 +361,20 @@ fn kinds<S: Store>(store: S) {
             let before = lent.image.clone();
             let sound = match kind {
                 1 => header.type_number == 0 && header.last == 0 && [(16, 0), (32, 0), (48, 0)].contains(&(header.extent, header.size)),
-                2 => [(32, 1), (32, 16), (48, 17), (48, 32)].contains(&(header.extent, header.size)),
+                2 => [(16, 0), (32, 1), (32, 16), (48, 17), (48, 32)].contains(&(header.extent, header.size)),
                 _ => false,
             };
             // an object of 32 bytes there is large-framed, and has another pointer
-            let leads_home = sound && kind == 2 && header.size != 32;
+            let loaded = match header.size {
+                0 if sound && kind == 2 => 13,
+                1..32 if sound && kind == 2 => 0,
+                _ => 11,
+            };
             // no object carries this cue
             let calls = [Call::Tally, Call::Release { cue: 3 }, Call::Allocate { size: 64, type_number: 0 }, Call::Load { pointer, width: 1 }];
             let refusals = calls.map(|call| lent.refusal(call));
             let walked = if sound { 0 } else { 7 };
-            assert_eq!(refusals, [walked, walked, if sound { 8 } else { 7 }, if leads_home { 0 } else { 11 }], "{header:?}");
+            assert_eq!(refusals, [walked, walked, if sound { 8 } else { 7 }, loaded], "{header:?}");
             if !sound {
                 assert_eq!(lent.refusal(Call::Free { pointer }), 11, "{header:?}");
             }
@@ -475,4 +479,5 @@ on_each_store!(tallies kinds largest_image past_the_largest_image past_32_bits);
 
 mod cues;
 mod distances;
+mod empties;
 mod totals;

@@ -165,8 +165,7 @@ fn rows_in_order<S: Store>(store: S) {
     let mut lent = Lent::fresh(store, 1024);
     let [small, large] = [10, 20].map(|size| lent.call(allocate_for(size, 7)).values[0]);
     assert_eq!(lent.table[0], 42);
-    // 6, 8; the next entry is taken
-    lent.refuses(&[0], allocate(0), 6);
+    // 8; the next entry is taken
     lent.refuses(&[0], allocate(1000), 8);
     lent.table[1] = 5;
     lent.refuses(&[0], allocate(100), 9);

@@ -26,7 +26,6 @@ pub record Free (d : Header) : Type 0 where
 -- what a live header says
 pub record Live (d : Header) : Type 0 where
   pub is-kind : d .kind ≡ 2
-  pub some-size : 1 ≤ d .size
   pub holds : 16 + d .size ≤ d .extent
   pub tight : d .extent ≤ 31 + d .size
 
@@ -49,13 +48,11 @@ module _ (L h : ℕ) (d : Header) where
       })
   well-formed-kinds false p e =
       let r = and-right (eqb (d .kind) 2) _ e in
-      let q = and-right (leb 1 (d .size)) _ r in
       inr
       (record {
         is-kind = eqb-true _ _ (and-left _ _ e);
-        some-size = leb-true _ _ (and-left _ _ r);
-        holds = leb-true _ _ (and-left _ _ q);
-        tight = leb-true _ _ (and-right (leb (16 + d .size) (d .extent)) _ q);
+        holds = leb-true _ _ (and-left _ _ r);
+        tight = leb-true _ _ (and-right (leb (16 + d .size) (d .extent)) _ r);
       })
 
   -- taken apart
@@ -83,7 +80,6 @@ module _ (L h : ℕ) (d : Header) where
         le-leb _ _ b,
         ne-eqb (d .kind) 1 (omega arith),
         eq-eqb _ _ (f .is-kind),
-        le-leb _ _ (f .some-size),
         le-leb _ _ (f .holds),
         le-leb _ _ (f .tight),
       )
@@ -144,11 +140,11 @@ module _ (image : List ℕ) (h : ℕ) where
       ∙ well-formed-free (length image) h (fields e 1 0 0 0) a b (record { is-kind = refl; no-type = refl; no-size = refl; no-cue = refl })
 
   -- a live block with room for its extent, whatever its cue
-  pub sound-live-at : (e t s c : ℕ) → headerAt image h ≡ fields e 2 t s c → 16 ≤ h → h + e ≤ length image → 1 ≤ s → 16 + s ≤ e → e ≤ 31 + s → sound image h ≡ true
-  sound-live-at e t s c d p b one a u =
+  pub sound-live-at : (e t s c : ℕ) → headerAt image h ≡ fields e 2 t s c → 16 ≤ h → h + e ≤ length image → 16 + s ≤ e → e ≤ 31 + s → sound image h ≡ true
+  sound-live-at e t s c d p b a u =
       sound-by p (omega arith)
       ∙ ap (wellFormed (length image) h) d
-      ∙ well-formed-live (length image) h (fields e 2 t s c) b (record { is-kind = refl; some-size = one; holds = a; tight = u })
+      ∙ well-formed-live (length image) h (fields e 2 t s c) b (record { is-kind = refl; holds = a; tight = u })
 
   -- a place without room for a header
   pub unsound-low : h < 16 → sound image h ≡ false

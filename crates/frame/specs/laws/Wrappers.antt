@@ -23,8 +23,8 @@ wrapper-holds n h size a l u k =
     between (firstHeld h) a (lastHeld h size) n (omega arith) u k
     ∙ sym (between (firstHeld h) h (lastHeld h size) n (omega arith) (omega arith) k)
 
-pub wrapper-at-least : (h size : ℕ) → 1 ≤ size → 5 ≤ wrapper h size
-wrapper-at-least h size l = lt-of-not-le (λ g. let q = wrapper-iff 4 h size .0 g in omega arith)
+pub wrapper-at-least : (h size : ℕ) → 5 ≤ wrapper h size
+wrapper-at-least h size = lt-of-not-le (λ g. let q = wrapper-iff 4 h size .0 g in omega arith)
 
 pub wrapper-at-most : (h size : ℕ) → h + 16 + size ≤ 2 ^ 30 → wrapper h size ≤ 31
 unfolding wrapper

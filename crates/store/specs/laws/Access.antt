@@ -1,5 +1,5 @@
 -- Bytes through a pointer: rows 10, 11 and 13. Assumes nothing.
-use Prim.Native.Nat.{ℕ, _+_, _≤_}
+use Prim.Native.Nat.{ℕ, _+_, _≤_, _<_}
 use mathlib.Core.Path.{_≡_, refl, sym, ap, _∙_}
 use mathlib.Core.Bool.{Bool, true, false, _&&_, cond}
 use mathlib.Core.List.{List}
@@ -9,7 +9,7 @@ use lib.Dec.{leb}
 use lib.ListN.{length}
 use borrow.Author.Tests.{leb-true, le-leb}
 use Rattle.frame.specs.declared.parts.Pointer.{Pointer}
-use Rattle.block.specs.laws.Booleans.{true-false, and-left, and-right}
+use Rattle.block.specs.laws.Booleans.{byBool, true-false, and-left, and-right}
 use Rattle.block.specs.Layout.{sizeAt}
 use Rattle.block.specs.Bytes.{put}
 use Rattle.block.specs.laws.Headers.{headerAt-put-other}
@@ -43,6 +43,11 @@ body-range image h p n b = (
 range-body : (image : List ℕ) (h : ℕ) (p : Pointer) (n : ℕ) → h + 16 ≤ p .address → p .address + n ≤ h + 16 + sizeAt image h → inBody image h p n ≡ true
 unfolding inBody
 range-body image h p n low high = rw (le-leb _ _ low, le-leb _ _ high)
+
+-- no byte lies in a body of none
+pub empty-body : (image : List ℕ) (h : ℕ) (p : Pointer) (n : ℕ) → sizeAt image h ≡ 0 → 0 < n → inBody image h p n ≡ false
+empty-body image h p n z l =
+    byBool (inBody image h p n) (λ t. let (low, high) = body-range image h p n t in absurd (omega arith)) (λ t. t)
 
 -- accepted bytes pass them
 pub accessed-parts : (s : ℕ) (p : Pointer) (n : ℕ) (x : State) (a : ℕ) → accessed s p n x ≡ Accepted a → Accessed s p n x a

@@ -30,7 +30,7 @@ use Rattle.store.specs.Calls.{opening, entryHolds, fitAnswer, takenExten
 use Rattle.store.specs.laws.Refusals.{demand-met, and-then-met}
 use Rattle.store.specs.laws.Opening.{Open, opening-parts, entry-in}
 use Rattle.store.specs.declared.answer.Refusal.{Refusal}
-use Rattle.store.specs.declared.answer.Refusal.the-variants.{Empty, Unsound, NoSpace, EntryTaken, WrongTotal}
+use Rattle.store.specs.declared.answer.Refusal.the-variants.{Unsound, NoSpace, EntryTaken, WrongTotal}
 use Rattle.store.specs.declared.answer.Answer.{Answer}
 use Rattle.store.specs.declared.allocation.Site.{Site}
 use Rattle.store.specs.declared.allocation.Site.the-variants as site
@@ -63,7 +63,6 @@ fit-met fit.End next v e = let z : _≡_ {A = ℕ} 0 1 = cc in absurd (omega ari
 -- the rows of allocate are passed: an object of `size` bytes goes into the free block at h
 pub record Allocates (size : ℕ) (x : State) (h : ℕ) : Type 0 where
   pub opens : Open x (slotExponent (x .image))
-  pub some-size : 1 ≤ size
   pub found : firstFit (x .image) (16 + size) ≡ fit.At h
   pub lowest : LowestFit (x .image) (16 + size) h
   pub inside : h + 16 + size ≤ length (x .image)
@@ -77,8 +76,7 @@ unfolding allocateChecks
 allocate-parts size x h e =
     let (s, a, b) = and-then-met (opening x) _ h e in
     let o = opening-parts x s a in
-    let c = demand-met (ltb 0 size) Empty _ h b in
-    let (k, f, g) = fit-met (firstFit (x .image) (16 + size)) _ h (c .1) in
+    let (k, f, g) = fit-met (firstFit (x .image) (16 + size)) _ h b in
     let d = demand-met (entryHolds s k size 0 (x .table)) EntryTaken _ h g in
     let t = demand-met (leb (takenExtent (x .image) k size) (storedTotal (x .image))) WrongTotal _ h (d .1) in
     let q : h ≡ k = cc in
@@ -88,7 +86,6 @@ allocate-parts size x h e =
     rw q
     (record {
       opens = p;
-      some-size = ltb-true 0 size (c .0);
       found = f;
       lowest = w;
       inside = i;
@@ -106,38 +103,32 @@ module _ (size : ℕ) (x : State) where
   allocate-shut r e = rw e
 
   module _ (s : ℕ) (o : opening x ≡ Accepted s) where
-    -- row 6
-    pub allocate-empty : size ≡ 0 → Refused Empty ≡ allocateChecks size x
-    unfolding allocateChecks
-    allocate-empty e = rw (o, le-ltb 0 size (omega arith))
+    -- row 7
+    pub allocate-unsound : (h : ℕ) → firstFit (x .image) (16 + size) ≡ fit.Unsound h → Refused Unsound ≡ allocateChecks size x
+    unfolding allocateChecks fitAnswer
+    allocate-unsound h f = rw (o, f)
 
-    module _ (n : size ≡ 0 → ⊥) where
-      -- row 7
-      pub allocate-unsound : (h : ℕ) → firstFit (x .image) (16 + size) ≡ fit.Unsound h → Refused Unsound ≡ allocateChecks size x
-      unfolding allocateChecks fitAnswer
-      allocate-unsound h f = rw (o, lt-ltb 0 size (omega arith), f)
+    -- row 8
+    pub allocate-full : firstFit (x .image) (16 + size) ≡ fit.End → Refused NoSpace ≡ allocateChecks size x
+    unfolding allocateChecks fitAnswer
+    allocate-full f = rw (o, f)
 
-      -- row 8
-      pub allocate-full : firstFit (x .image) (16 + size) ≡ fit.End → Refused NoSpace ≡ allocateChecks size x
-      unfolding allocateChecks fitAnswer
-      allocate-full f = rw (o, lt-ltb 0 size (omega arith), f)
+    -- row 9
+    pub allocate-taken : (h : ℕ) → firstFit (x .image) (16 + size) ≡ fit.At h → entryHolds s h size 0 (x .table) ≡ false → Refused EntryTaken ≡ allocateChecks size x
+    unfolding allocateChecks fitAnswer
+    allocate-taken h f t = rw (o, f, t)
 
-      -- row 9
-      pub allocate-taken : (h : ℕ) → firstFit (x .image) (16 + size) ≡ fit.At h → entryHolds s h size 0 (x .table) ≡ false → Refused EntryTaken ≡ allocateChecks size x
-      unfolding allocateChecks fitAnswer
-      allocate-taken h f t = rw (o, lt-ltb 0 size (omega arith), f, t)
+    -- row 22
+    pub allocate-wrong : (h : ℕ) → firstFit (x .image) (16 + size) ≡ fit.At h → entryHolds s h size 0 (x .table) ≡ true
+        → storedTotal (x .image) < takenExtent (x .image) h size → Refused WrongTotal ≡ allocateChecks size x
+    unfolding allocateChecks fitAnswer
+    allocate-wrong h f t l = rw (o, f, t, lt-leb _ _ l)
 
-      -- row 22
-      pub allocate-wrong : (h : ℕ) → firstFit (x .image) (16 + size) ≡ fit.At h → entryHolds s h size 0 (x .table) ≡ true
-          → storedTotal (x .image) < takenExtent (x .image) h size → Refused WrongTotal ≡ allocateChecks size x
-      unfolding allocateChecks fitAnswer
-      allocate-wrong h f t l = rw (o, lt-ltb 0 size (omega arith), f, t, lt-leb _ _ l)
-
-      -- all are passed
-      pub allocate-given : (h : ℕ) → firstFit (x .image) (16 + size) ≡ fit.At h → entryHolds s h size 0 (x .table) ≡ true
-          → takenExtent (x .image) h size ≤ storedTotal (x .image) → Accepted h ≡ allocateChecks size x
-      unfolding allocateChecks fitAnswer
-      allocate-given h f t l = rw (o, lt-ltb 0 size (omega arith), f, t, le-leb _ _ l)
+    -- all are passed
+    pub allocate-given : (h : ℕ) → firstFit (x .image) (16 + size) ≡ fit.At h → entryHolds s h size 0 (x .table) ≡ true
+        → takenExtent (x .image) h size ≤ storedTotal (x .image) → Accepted h ≡ allocateChecks size x
+    unfolding allocateChecks fitAnswer
+    allocate-given h f t l = rw (o, f, t, le-leb _ _ l)
 
   -- a refusal leaves all as it was
   pub allocate-declined : (type cue : ℕ) (r : Refusal) → allocateChecks size x ≡ Refused r → outcome (Refused r) (x .image) (x .table) ≡ allocateFor size type cue x
@@ -180,28 +171,17 @@ site-chosen s size (Refused r) h t e = let z : _≡_ {A = ℕ} 0 1 = cc in absur
 
 -- What it comes to, where rows 4 and 5 are passed.
 
-module _ (s : ℕ) (x : State) (o : opening x ≡ Accepted s) where
-  -- the size is 0
-  pub allocate-refuses-empty : (size type cue : ℕ) → ltb 0 size ≡ false → allocateFor size type cue x ≡ refuse Empty x
-  allocate-refuses-empty size type cue e =
-      let z : size ≤ 0 = ltb-false 0 size e in
-      sym (allocate-declined size x type cue Empty (sym (allocate-empty size x s o (omega arith))))
+module _ (s : ℕ) (x : State) (o : opening x ≡ Accepted s) (size type cue : ℕ) where
+  -- no block fits
+  pub allocate-refuses-full : firstFit (x .image) (16 + size) ≡ fit.End → allocateFor size type cue x ≡ refuse NoSpace x
+  allocate-refuses-full f = sym (allocate-declined size x type cue NoSpace (sym (allocate-full size x s o f)))
 
-  module _ (size type cue : ℕ) (e : ltb 0 size ≡ true) where
-    -- the size is not zero
-    not-empty : size ≡ 0 → ⊥
-    not-empty z = let l = ltb-true 0 size e in omega arith
-
-    -- no block fits
-    pub allocate-refuses-full : firstFit (x .image) (16 + size) ≡ fit.End → allocateFor size type cue x ≡ refuse NoSpace x
-    allocate-refuses-full f = sym (allocate-declined size x type cue NoSpace (sym (allocate-full size x s o not-empty f)))
-
-    -- the block at h is taken
-    pub allocate-at : (h : ℕ) → slotExponent (x .image) ≡ s → firstFit (x .image) (16 + size) ≡ fit.At h → entryHolds s h size 0 (x .table) ≡ true
-        → takenExtent (x .image) h size ≤ storedTotal (x .image)
-        → allocateFor size type cue x ≡ outcome (Accepted (pack (pointerTo s h size))) (allotted (x .image) h size type cue) (noted s h size h (x .table))
-    allocate-at h q f g l =
-        sym (allocate-done size x type cue h s _ _ _ _ (sym (allocate-given size x s o not-empty h f g l)) (sym q) refl refl refl refl)
+  -- the block at h is taken
+  pub allocate-at : (h : ℕ) → slotExponent (x .image) ≡ s → firstFit (x .image) (16 + size) ≡ fit.At h → entryHolds s h size 0 (x .table) ≡ true
+      → takenExtent (x .image) h size ≤ storedTotal (x .image)
+      → allocateFor size type cue x ≡ outcome (Accepted (pack (pointerTo s h size))) (allotted (x .image) h size type cue) (noted s h size h (x .table))
+  allocate-at h q f g l =
+      sym (allocate-done size x type cue h s _ _ _ _ (sym (allocate-given size x s o h f g l)) (sym q) refl refl refl refl)
 
 -- The carved image.
 
