@@ -45,11 +45,11 @@ kinds : (sound image 78 ≡ true) × (sound (ofKind 2) 42 ≡ true) × (sound (o
 unfolding image ofKind superblock header encode decode field put headerAt wellFormed sound
 kinds = (refl, refl, refl, refl, refl, refl)
 
--- `image` with a live header of no bytes and that extent at h
+-- `image` with the header of an object of no bytes and that extent at h
 withNone : ℕ → ℕ → List ℕ
 withNone h extent = put image h (liveHeader extent 1 0 0)
 
--- it takes 16 to 31 bytes, and may end with the image
+-- such a block takes 16 to 31 bytes, and may end with the image
 empties :
     (sound (withNone 16 15) 16 ≡ false) × (sound (withNone 16 16) 16 ≡ true) × (sound (withNone 16 31) 16 ≡ true) × (sound (withNone 16 32) 16 ≡ false)
     × (sound (withNone 1008 16) 1008 ≡ true) × (sound (withNone 1008 17) 1008 ≡ false)

@@ -4,7 +4,7 @@ use Prim.Native.Nat.{ℕ, _+_, _^_, _≤_, _<_}
 use mathlib.Core.Path.{_≡_, refl, sym, ap, _∙_, subst}
 use mathlib.Core.Bool.{Bool, true, false, cond, _&&_}
 use mathlib.Core.List.{List, [], _∷_}
-use mathlib.Core.Logic.{_↔_, _⊎_}
+use mathlib.Core.Logic.{_↔_, _⊎_, inl, inr}
 use mathlib.Core.Option.{Option, some}
 use native.Mathlib.Omega.{arith}
 use lib.ListN.{length, take, drop}
@@ -20,9 +20,9 @@ use Rattle.block.specs.declared.text.Text.{Text}
 use Rattle.block.specs.declared.text.Text.the-variants.{Ends, Endless}
 use Rattle.block.specs.Layout.{storedTotal, extentAt}
 use Rattle.store.specs.State.{State, Outcome, IsAccepted, returned, value, comparisonNumber, usageNumber, freeBytes}
-use Rattle.store.specs.Claims.{NoAccess}
-use Rattle.store.specs.Calls.{setUp, allocateFor, free, load, compare, copyText, freeTotal, tally, located}
-use Rattle.store.specs.laws.Refusals.{demand-iff, refused-some}
+use Rattle.store.specs.Claims.{NoLoad, NoAccess}
+use Rattle.store.specs.Calls.{setUp, allocateFor, free, compare, copyText, freeTotal, tally, located}
+use Rattle.store.specs.laws.Refusals.{demand-iff, not-accepted}
 use Rattle.store.specs.Step.{Call, allocates, frees, moves, loads, stores, fills, copies, copiesText, allocatesFor, releases, step}
 use Rattle.store.specs.laws.Total.{free-total-given}
 use Rattle.store.specs.laws.Tally.{tally-counts, tally-balanced}
@@ -125,7 +125,7 @@ module _ {s L : ℕ} (x : Configuration) (i : Invariant s L (x .state) (x .heap)
       go : Freeing s L (x .state) (x .heap) p → IsAccepted (free p (x .state)) ↔ ((o : Object) × In o (x .heap) × (o .answer ≡ p))
       go (taken o m a q j) = ((λ e. (o, m, a)), λ w. q)
       go (declined r q t n) = (
-        (λ (e : IsAccepted (free p (x .state))). absurd (refused-some r (sym (ap (λ (z : Outcome). returned (z .answer)) q) ∙ e))),
+        (λ (e : IsAccepted (free p (x .state))). absurd (not-accepted r (sym q) e)),
         λ (w : (o : Object) × In o (x .heap) × (o .answer ≡ p)). absurd (n (w .0) (w .1) (w .2)),
       )
 
@@ -194,7 +194,7 @@ module _ {s L : ℕ} (x : Configuration) (i : Invariant s L (x .state) (x .heap)
           )
       go Endless g =
           let (r, q) = copies-no-text i t p o o′ e f g in (
-            (λ (a : IsAccepted (copyText t p (x .state))). absurd (refused-some r (sym (ap (λ (z : Outcome). returned (z .answer)) q) ∙ a))),
+            (λ (a : IsAccepted (copyText t p (x .state))). absurd (not-accepted r (sym q) a)),
             λ (b : (m : ℕ) × (textIn o′ p ≡ Ends m) × BothInside o o′ t p (m + 1)). let z : _≡_ {A = ℕ} 0 1 = cc (b .1, g) in absurd (omega arith),
           )
 
@@ -255,6 +255,13 @@ module _ {s L : ℕ} (x : Configuration) (i : Invariant s L (x .state) (x .heap)
       go (no-room f n) = eight (number _ f) (λ a r. n a (run-clear a (16 + size) r))
       go (given h c f j) = nought (number _ f) h (clear-run h (16 + size) c)
 
+  two-answers : EachAllocate (x .state) (λ size r. (r ≡ 0) ⊎ (r ≡ 8))
+  two-answers size type cue u fits cue-fits = go (allocate-returns size type cue fits cue-fits)
+    where
+      go : Returns size type cue → (returned (allocateFor size type cue (x .state) .answer) ≡ 0) ⊎ (returned (allocateFor size type cue (x .state) .answer) ≡ 8)
+      go (eight f r) = inr f
+      go (nought f a r) = inl f
+
   -- no other number
   never : (n : ℕ) → (n ≡ 0 → ⊥) → (n ≡ 8 → ⊥) → EachAllocate (x .state) (λ size r. r ≡ n → ⊥)
   never n a b size type cue l fits cue-fits e = go (allocate-returns size type cue fits cue-fits)
@@ -301,6 +308,7 @@ module _ {s L : ℕ} (x : Configuration) (i : Invariant s L (x .state) (x .heap)
         reads = load-value;
         orders = compare-value;
         text-counts = text-value;
+        answers = two-answers;
         no-conflict = never 9 (λ z. omega arith) (λ z. omega arith);
         room = has-room;
         no-space = has-none;
@@ -349,7 +357,7 @@ module _ {s L : ℕ} (x : Configuration) (i : Invariant s L (x .state) (x .heap)
     abbrev led : located s (unpack p) (x .state) ≡ Accepted (headerOf o)
     led = pointer-leads o p (at-place o m) t .found
 
-    pub no-load : (width : ℕ) → IsAccepted (load p width (x .state)) → ⊥
+    pub no-load : NoLoad p (x .state)
     no-load = empty-load s p (x .state) (headerOf o) (opens i) led (about o m .size ∙ z)
 
     pub no-access : NoAccess p (x .state)

@@ -3,9 +3,7 @@
 use Prim.Native.Nat.{ℕ}
 use mathlib.Core.Path.{_≡_}
 use mathlib.Core.Bool.{true}
-use Rattle.store.specs.State.{IsAccepted}
-use Rattle.store.specs.Calls.{load}
-use Rattle.store.specs.Claims.{NoAccess}
+use Rattle.store.specs.Claims.{NoLoad, NoAccess}
 use Rattle.history.specs.Heap.{Object, holds}
 use Rattle.history.specs.History.{Configuration, In, AfterEveryHistory}
 
@@ -15,7 +13,7 @@ EachEmptyLive x P = (o : Object) → In o (x .heap) → o .size ≡ 0 → (p : �
 
 -- On these histories no load succeeds through such a pointer.
 unfoldable pub NoEmptyLoads : Type 0
-NoEmptyLoads = AfterEveryHistory (λ s x. EachEmptyLive x (λ p. (width : ℕ) → IsAccepted (load p width (x .state)) → ⊥))
+NoEmptyLoads = AfterEveryHistory (λ s x. EachEmptyLive x (λ p. NoLoad p (x .state)))
 
 -- Nor does a store, fill, copy, compare or text copy, whatever its other pointer.
 unfoldable pub NoEmptyAccess : Type 0

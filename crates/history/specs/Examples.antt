@@ -25,7 +25,8 @@ abbrev fresh6 : Configuration
 fresh6 = begun 6 (state (replicate 128 7) (replicate 60 9))
 
 -- an object of no cue is written through a moved pointer, its bytes and then its text are copied to one of cue 9, and it is freed; the other takes a
--- number of 3 bytes; two objects of cue 2^32 - 1 are released; of two objects of no bytes one is moved through and one is freed; some calls are refused
+-- number of 3 bytes; two objects of cue 2^32 - 1 are released; of two objects of no bytes the pointer of one is moved, and the other is freed; some calls
+-- are refused
 abbrev pub calls : List Call
 calls =
     allocates 10 1

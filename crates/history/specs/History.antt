@@ -212,7 +212,8 @@ pub record Holds (s : ℕ) (x : Configuration) : Type 0 where
   pub reads : LoadsBytes x
   pub orders : ComparesBytes x
   pub text-counts : TextsCounted x
-  -- allocate never answers 9; any size, 0 too, is accepted exactly when some run is long enough, and gets 8 exactly when none is
+  -- allocate of any size, 0 too, is accepted or answers 8, and never 9: it is accepted exactly when some run is long enough, and gets 8 exactly when none is
+  pub answers : EachAllocate (x .state) (λ size r. (r ≡ 0) ⊎ (r ≡ 8))
   pub no-conflict : EachAllocate (x .state) (λ size r. r ≡ 9 → ⊥)
   pub room : EachAllocate (x .state) (λ size r. (r ≡ 0) ↔ ((a : ℕ) × FreeRun x a (16 + size)))
   pub no-space : EachAllocate (x .state) (λ size r. (r ≡ 8) ↔ ((a : ℕ) → FreeRun x a (16 + size) → ⊥))

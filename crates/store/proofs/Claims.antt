@@ -22,7 +22,7 @@ use Rattle.block.specs.laws.Soundness.{sound-low, sound-end, sound-live-at}
 use Rattle.block.specs.declared.header.Header.{Header}
 use Rattle.store.specs.State.{State, state, Outcome, IsAccepted, returned, value, comparisonNumber, comparisonValue, distancesNumber, startDistance, endDistance, usageNumber, liveObjects, liveBytes, freeBytes, overheadBytes}
 use Rattle.store.specs.Calls.{setUpChecks, setUp, fresh, cleared, takenExtent, allocateChecks, noted, allotted, allocateFor, freeRelease, free, move, moveAnswer, load, loadAnswer, storeChecks, store, fillChecks, fill, copyChecks, copy, compare, copyTextChecks, copyText, releaseChecks, pointersTo, cuePointers, freeEach, releaseCue, freeTotal, tally, opening, fromStart, toEnd, distances}
-use Rattle.store.specs.laws.Refusals.{refused-some}
+use Rattle.store.specs.laws.Refusals.{not-accepted}
 use Rattle.store.specs.laws.SetUp.{Settable, settable-parts, set-up-declined, set-up-done, length-fresh}
 use Rattle.store.specs.laws.Opening.{Open, opening-kept}
 use Rattle.store.specs.laws.TagReading.{Stands, Located, located-object, located-leads, located-at, FoundAt, read-found, read-refused}
@@ -365,7 +365,7 @@ unfolding LeadsBack
 leads-back size type cue x fits cue-fits e = go (allocateChecks size x) refl
   where
     go : (a : Answer) → allocateChecks size x ≡ a → PointsBack size type cue x (allocateFor size type cue x .after) (value (allocateFor size type cue x .answer))
-    go (Refused r) q = absurd (refused-some r (ap (λ (o : Outcome). returned (o .answer)) (allocate-declined size x type cue r q) ∙ e))
+    go (Refused r) q = absurd (not-accepted r (allocate-declined size x type cue r q) e)
     go (Accepted h) q =
         subst (λ (o : Outcome). PointsBack size type cue x (o .after) (value (o .answer)))
         (allocate-done size x type cue h (slotExponent (x .image)) _ _ _ _ q refl refl refl refl refl) (left-leads size type cue x h fits cue-fits (allocate-parts size x h q))
@@ -393,7 +393,7 @@ unfolding ReadsBack
 reads-back p width v x e = go (storeChecks p width v x) refl
   where
     go : (a : Answer) → storeChecks p width v x ≡ a → Gives p width v (store p width v x .after)
-    go (Refused r) q = absurd (refused-some r (ap (λ (o : Outcome). returned (o .answer)) (store-declined p width v x r q) ∙ e))
+    go (Refused r) q = absurd (not-accepted r (store-declined p width v x r q) e)
     go (Accepted a) q =
         let y : State = state (put (x .image) a (encode width v)) (x .table) in
         let read : load p width y ≡ record { answer = Accepted v; after = y } =
@@ -420,7 +420,7 @@ releases-all cue x e = go (releaseChecks cue x) refl
     ps = cuePointers cue (x .image)
 
     go : (a : Answer) → releaseChecks cue x ≡ a → EachFreed ps x × (value (releaseCue cue x .answer) ≡ length ps)
-    go (Refused r) q = absurd (refused-some r (ap (λ (o : Outcome). returned (o .answer)) (release-declined cue x r q) ∙ e))
+    go (Refused r) q = absurd (not-accepted r (release-declined cue x r q) e)
     go (Accepted n) q =
         let s : ℕ = slotExponent (x .image) in
         let (places, r, count) = release-parts cue n x q in

@@ -125,6 +125,10 @@ pub record Measures : Type 0 where
       (s p : ℕ) (x : State) (r : Refusal) → opening x ≡ Accepted s → readTag s (unpack p) x ≡ found.Refused r
       → distances p x ≡ measurement.Refused r
 
+-- no load through p is accepted, of any width
+abbrev pub NoLoad : ℕ → State → Type 0
+NoLoad p x = (width : ℕ) → IsAccepted (load p width x) → ⊥
+
 -- no store, fill, copy, compare or text copy through p is accepted, however many bytes it asks for, and whatever the other pointer
 pub record NoAccess (p : ℕ) (x : State) : Type 0 where
   pub stores : (width v : ℕ) → IsAccepted (store p width v x) → ⊥
@@ -143,5 +147,5 @@ EachEmpty P =
 
 -- Nothing is read or written through it.
 pub record EmptyBodies : Type 0 where
-  pub loads : EachEmpty (λ p x. (width : ℕ) → IsAccepted (load p width x) → ⊥)
+  pub loads : EachEmpty NoLoad
   pub others : EachEmpty NoAccess

@@ -21,5 +21,5 @@ pub mod Free
 pub mod Release
 pub mod Sweep
 pub mod Tally
--- several calls
+-- objects of no bytes
 pub mod Empty

@@ -1,11 +1,11 @@
 -- Tests in a row: refused, or gone on. Assumes nothing.
 use Prim.Native.Nat.{ℕ, _≤_, _<_}
-use mathlib.Core.Path.{_≡_, refl}
+use mathlib.Core.Path.{_≡_, refl, ap, _∙_}
 use mathlib.Core.Bool.{Bool, true, false}
 use mathlib.Core.Logic.{_↔_}
 use native.Mathlib.Omega.{arith}
 use Rattle.block.specs.laws.Booleans.{true-false}
-use Rattle.store.specs.State.{refusalNumber, returned, value, demand, andThen}
+use Rattle.store.specs.State.{State, Outcome, IsAccepted, refusalNumber, returned, value, demand, andThen, refuse}
 use Rattle.store.specs.declared.answer.Refusal.{Refusal}
 use Rattle.store.specs.declared.answer.Refusal.the-variants.{BadExponent, BadLength, TooFewEntries, BadSuperblock, ShortTable, Empty, Unsound, NoSpace, EntryTaken, BadTag, Dangling, Leaves, OutOfBounds, BadWidth, NotBase, TooLarge, Unterminated, EntryLost, WrongTotal}
 use Rattle.store.specs.declared.answer.Answer.{Answer}
@@ -36,6 +36,10 @@ refusal-range WrongTotal = (omega arith, omega arith)
 -- no refusal has the number 0
 pub refused-some : (r : Refusal) → refusalNumber r ≡ 0 → ⊥
 refused-some r e = omega (arith, refusal-range r .0)
+
+-- a refused outcome is not accepted
+pub not-accepted : (r : Refusal) {y : State} {o : Outcome} → refuse r y ≡ o → IsAccepted o → ⊥
+not-accepted r q e = refused-some r (ap (λ (z : Outcome). returned (z .answer)) q ∙ e)
 
 -- an answer that is accepted has a value
 pub accepted-is : (a : Answer) → returned a ≡ 0 → a ≡ Accepted (value a)

@@ -1,6 +1,6 @@
 -- Set-up: its rows, what an accepted one was given and leaves, and the fresh image. Assumes nothing.
 use Prim.Native.Nat.{ℕ, _^_, _≤_, _<_, _-_}
-use mathlib.Core.Path.{_≡_, refl, sym, ap, _∙_}
+use mathlib.Core.Path.{_≡_, refl, sym}
 use mathlib.Core.Bool.{true, false}
 use native.Mathlib.Omega.{arith}
 use lib.Dec.{leb}
@@ -13,9 +13,9 @@ use Rattle.block.specs.laws.Booleans.{and-left, and-right}
 use Rattle.block.specs.Layout.{goodExponent, goodLength, superblock, freeHeader}
 use Rattle.block.specs.laws.Headers.{length-header}
 use Rattle.block.specs.laws.Superblock.{length-superblock}
-use Rattle.store.specs.State.{State, returned, outcome, Outcome, IsAccepted}
+use Rattle.store.specs.State.{State, outcome, IsAccepted}
 use Rattle.store.specs.Calls.{setUpChecks, fresh, cleared, setUp}
-use Rattle.store.specs.laws.Refusals.{refused-some, demand-met}
+use Rattle.store.specs.laws.Refusals.{not-accepted, demand-met}
 use Rattle.store.specs.declared.answer.Refusal.{Refusal}
 use Rattle.store.specs.declared.answer.Refusal.the-variants.{BadExponent, BadLength, TooFewEntries}
 use Rattle.store.specs.declared.answer.Answer.{Answer}
@@ -88,7 +88,7 @@ set-up-accepted s x e = go (setUpChecks s x) refl
         → Settable s x
         × (setUp s x ≡ outcome (Accepted 0) (fresh s (length (x .image))) (cleared s (length (x .image)) (x .table)))
     go (Accepted v) q = (settable-parts s x v q, set-up-done s x v q)
-    go (Refused r) q = absurd (refused-some r (sym (ap (λ (o : Outcome). returned (o .answer)) (set-up-declined s x r q)) ∙ e))
+    go (Refused r) q = absurd (not-accepted r (sym (set-up-declined s x r q)) e)
 
 -- A fresh image.
 

@@ -63,7 +63,7 @@ pack-requires c κs =
 returns : tie.Need-returns
 returns c = allocate-declined _ (state _ _) _ _ _ (sym (allocate-shut _ (state _ _) _ (sym (c .before .before .before .opening .ensures) ∙ c .before .r .given .1)))
 
--- row 6, 7, 8, 9 or 22
+-- row 7, 8, 9 or 22
 returns-2 : tie.Need-returns-2
 returns-2 c = allocate-declined _ (state _ _) _ _ _ (site-declined _ _ _ _ (sym (c .before .before .before .allocatable .ensures) ∙ c .before .r2 .given .1))
 
