@@ -119,7 +119,7 @@ uint32_t cue_setup(uint8_t *image, size_t image_len, uint64_t *table, size_t tab
 /* Takes the lowest free block that fits and gives the tagged pointer to the body, which is not written: it is zero on an
  * image that only these calls have written since cue_setup. The free total falls by the object's extent: 16 + size, and
  * the at most 15 spare bytes behind it.
- * Size 0 gives an object of no bytes, a header of 16 without a body: no other live object has its pointer, and no byte can
+ * Size 0 gives an object of no bytes, a header without a body: no other live object has its pointer, and no byte can
  * be loaded or stored through it. Its address may be image_len.
  * Refusals, in order: 4, 5, then 7 or 8 as the walk ends, 9, 22 (the extent exceeds the free total). */
 uint32_t cue_allocate(uint8_t *image, size_t image_len, uint64_t *table, size_t table_len, uint32_t size, uint16_t type, uint64_t *pointer);

@@ -151,7 +151,7 @@ impl<'a> Store<'a> {
     /// The body is not written; it is zero on an image that only these calls have written since [`Store::set_up`]. The
     /// [free total](Store::free_total) falls by the object's extent.
     ///
-    /// Size 0 gives an object of no bytes, a header of 16 without a body: no other live object has its pointer, and nothing can be
+    /// Size 0 gives an object of no bytes, a header without a body: no other live object has its pointer, and nothing can be
     /// read or written through it. Its address may be the image's length.
     ///
     /// Refused with, in this order: [`Unsound`](Refusal::Unsound) or [`NoSpace`](Refusal::NoSpace), as the walk over the blocks

@@ -139,7 +139,7 @@ impl fmt::Display for Mismatch {
             Mismatch::NotOfABody => write!(f, "the expected store's distances are not those from a live header's body, of their sum as size"),
             Mismatch::NotByDistances => write!(f, "the expected store's answer is not what the distances of its pointers say"),
             Mismatch::NotByRoom => write!(f, "the expected store answered 8 although a run of free bytes is long enough, or accepted although none is"),
-            Mismatch::NotItsOwn => write!(f, "the expected store gave a pointer that leads to another live object too"),
+            Mismatch::NotItsOwn => write!(f, "the expected store gave a pointer that another live object has"),
         }
     }
 }
@@ -410,11 +410,10 @@ impl<'a, A: Store, B: Store> Run<'a, A, B> {
         longest.max((image.len() as u64).saturating_sub(end))
     }
 
-    /// Whether no live object has this tag in this slot or frame: moves keep both.
+    /// Whether no live object has this pointer. One with a live object's tag in its slot or frame is at that object's base, by its
+    /// distances, and so the same.
     fn is_its_own(&self, pointer: u64) -> bool {
-        let (s, p) = (self.answers.slot_exponent, Pointer::unpack(pointer));
-        let shared = |q: Pointer| (p.small, p.tag) == (q.small, q.tag) && p.address >> p.reach(s) == q.address >> p.reach(s);
-        p.tag_in_range(s) && !self.heap.values().any(|&(other, _)| shared(Pointer::unpack(other)))
+        self.heap.values().all(|object| object.0 != pointer)
     }
 
     /// Keeps the heap; whether a release is accepted and has done what single frees of the heap's objects do.

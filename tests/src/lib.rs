@@ -4,12 +4,14 @@
 //! `model` is the documents; `store` the trait that model and library share; `case` a list of calls and damages, and
 //! how it is run on two stores at once; `generate` makes random lists; `counts` and `seen` say what occurred in them;
 //! `shrink` shortens one that fails; `driver` puts them together. `distances` says what a pointer's distances have to do with other
-//! calls' answers, `totals` has the limits of the free total, `single_pass` is another model of release, `log` the call log.
+//! calls' answers, `empties` which pointers lead to objects of no bytes, `totals` has the limits of the free total, `single_pass` is
+//! another model of release, `log` the call log.
 
 pub mod case;
 pub mod counts;
 pub mod distances;
 pub mod driver;
+pub mod empties;
 pub mod generate;
 pub mod library;
 pub mod log;

@@ -1,7 +1,7 @@
 -- How the code's tests and writes of a header add up. Assumes nothing.
 use mathlib.Core.Path.{_≡_, sym, ap, _∙_}
 use mathlib.Core.List.{List, _++_, append-assoc}
-use mathlib.Core.Bool.{_&&_, and-assoc, and-false}
+use mathlib.Core.Bool.{_&&_, and-assoc, and-false, and-true}
 use Prim.Native.Nat.{ℕ, _+_, _-_, _≤_, _<_}
 use native.Mathlib.Omega.{arith}
 use lib.ListN.{length, length-append}
@@ -62,14 +62,16 @@ module _ (image : List ℕ) (h : ℕ) (low : 16 ≤ h) (room : h + 16 ≤ length
   -- of a live block
   pub live-by : kindAt image h ≡ 2
       → sound image h
-      ≡ leb (extentAt image h) (length image - h)
-      && leb (16 + sizeAt image h) (extentAt image h)
+      ≡ leb (16 + sizeAt image h) (extentAt image h)
       && leb (extentAt image h) (31 + sizeAt image h)
+      && leb (extentAt image h) (length image - h)
   unfolding wellFormed
   live-by k =
       let n = ne-eqb (kindAt image h) 1 (omega arith) in
       sound-by image h low room
       ∙ byBool (leb (16 + sizeAt image h) (extentAt image h))
       (λ t. let q : 16 + sizeAt image h ≤ extentAt image h = leb-true _ _ t in
-      simp (le-leb 16 (extentAt image h) (omega arith), inside, n, eq-eqb _ _ k, and-assoc))
+      byBool (leb (extentAt image h) (length image - h))
+      (λ u. simp (le-leb 16 (extentAt image h) (omega arith), inside, n, eq-eqb _ _ k, t, u, and-true))
+      (λ u. simp (inside, t, u, and-false)))
       (λ t. simp (t, n, and-false))

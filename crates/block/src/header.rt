@@ -103,7 +103,7 @@ fn live_sound(image: &[u8], h: usize, extent: u64) -> bool
 {
     let room = (image.len() - h) as u64;
     let size = size_at(image, h);
-    (extent <= room) & (16 + size <= extent) & (extent <= 31 + size)
+    (16 + size <= extent) & (extent <= 31 + size) & (extent <= room)
 }
 
 // Whether the header at h is sound. A walk waits for the extent, so it is read before the branch.

@@ -54,7 +54,7 @@ impl Generator {
         }
     }
 
-    /// One call, or a move and one call. In a history the pointer is a live object's.
+    /// One call, or a move and one call.
     fn use_empty(&mut self, view: &View<'_>, pointer: Arg) {
         let start = view.answers.resolve(pointer);
         let pointer = if self.random.percent(25) {

@@ -1,5 +1,6 @@
 //! What occurs with objects of no bytes.
 
+use crate::empties::{is_empty, Empty};
 use crate::model::{self, Header, Pointer, HEADER};
 use crate::store::{Answer, Call};
 
@@ -36,32 +37,6 @@ fn operands(call: &Call<u64>) -> [Option<(usize, u64)>; 2] {
     }
 }
 
-/// A live object of no bytes.
-#[derive(Clone, Copy)]
-struct Empty {
-    h: u64,
-    header: Header,
-    p: Pointer,
-}
-
-impl Empty {
-    fn base(self) -> u64 {
-        self.h + HEADER
-    }
-
-    fn spare(self) -> u64 {
-        u64::from(self.header.extent) - HEADER
-    }
-
-    fn at_base(self) -> bool {
-        self.p.address == self.base()
-    }
-}
-
-fn is_empty(header: Header) -> bool {
-    header.is_live() && header.size == 0
-}
-
 /// A call, and where it has a pointer that leads to an object of no bytes, that object.
 struct Looked<'a> {
     image: &'a [u8],
@@ -70,6 +45,8 @@ struct Looked<'a> {
     call: Call<u64>,
     answer: Answer,
     empty: Option<Empty>,
+    /// Asked for through that pointer.
+    bytes: u64,
 }
 
 impl Looked<'_> {
@@ -98,6 +75,16 @@ impl Looked<'_> {
     /// The walk ends at a live header of this extent and size.
     fn ends_at(&self, extent: u32, size: u32) -> bool {
         self.refused(7) && self.unsound().is_some_and(|header| header.is_live() && (header.extent, header.size) == (extent, size))
+    }
+
+    /// An accepted call's walk passes such a block.
+    fn passes(&self, met: impl Fn(Header) -> bool) -> bool {
+        let end = match self.call {
+            Call::Allocate { .. } | Call::AllocateFor { .. } => Pointer::unpack(self.answer.values[0]).address,
+            Call::Free { pointer } => Pointer::unpack(pointer).address,
+            _ => self.length() + HEADER,
+        };
+        self.accepted() && self.blocks().any(|(at, header)| at + HEADER < end && met(header))
     }
 
     // ---- allocate
@@ -139,7 +126,7 @@ impl Looked<'_> {
     }
 
     /// The pointer would be that of an object of no bytes, where a free block stands or all is zero.
-    fn freed(&self) -> bool {
+    fn nothing_there(&self) -> bool {
         let Call::Distances { pointer } = self.call else { return false };
         let p = Pointer::unpack(pointer);
         let Some(h) = p.address.checked_sub(HEADER).filter(|h| h + HEADER <= self.length()) else { return false };
@@ -150,16 +137,13 @@ impl Looked<'_> {
         self.blocks().any(|block| block.0 == empty.h)
     }
 
-    fn distances(&self) -> [i64; 2] {
-        [self.answer.values[0] as i64, self.answer.values[1] as i64]
+    /// Its header lies in the body of an object.
+    fn is_in_a_body(&self, empty: Empty) -> bool {
+        self.blocks().any(|(at, header)| header.is_live() && at + HEADER <= empty.h && empty.h <= at + u64::from(header.size))
     }
 
-    fn bytes(&self) -> u64 {
-        match self.call {
-            Call::Load { width, .. } | Call::Store { width, .. } => width,
-            Call::Fill { length, .. } | Call::Copy { length, .. } | Call::Compare { length, .. } => length.into(),
-            _ => 1,
-        }
+    fn distances(&self) -> [i64; 2] {
+        [self.answer.values[0] as i64, self.answer.values[1] as i64]
     }
 
     fn moved(&self) -> i64 {
@@ -175,6 +159,12 @@ impl Looked<'_> {
     fn of_cue(&self) -> Vec<(u64, Header)> {
         let Call::Release { cue } = self.call else { return Vec::new() };
         self.blocks().filter(|(_, header)| header.carries(cue)).collect()
+    }
+
+    /// The objects of other cues.
+    fn others(&self) -> impl Iterator<Item = Header> + '_ {
+        let Call::Release { cue } = self.call else { unreachable!("no release") };
+        self.blocks().map(|block| block.1).filter(move |header| header.is_live() && !header.carries(cue))
     }
 
     fn large(&self, (h, header): (u64, Header)) -> bool {
@@ -223,21 +213,21 @@ const ALLOCATES: [Row; 22] = [
 /// Through its pointer, of a byte or more.
 const ACCESSES: [Row; 12] = [
     ("13", |c| c.outside(|empty| empty.at_base())),
-    ("13 of one byte with a spare byte there", |c| c.bytes() == 1 && c.outside(|empty| empty.at_base() && empty.spare() > 0)),
+    ("13 of one byte with a spare byte there", |c| c.bytes == 1 && c.outside(|empty| empty.at_base() && empty.spare() > 0)),
     ("13 of one byte with a live header there", |c| {
-        c.bytes() == 1 && c.outside(|empty| empty.at_base() && empty.spare() == 0 && c.next(empty).is_some_and(|next| next.is_live()))
+        c.bytes == 1 && c.outside(|empty| empty.at_base() && empty.spare() == 0 && c.next(empty).is_some_and(|next| next.is_live()))
     }),
     ("13 of one byte with a free header there", |c| {
-        c.bytes() == 1 && c.outside(|empty| empty.at_base() && empty.spare() == 0 && c.next(empty).is_some_and(|next| next.is_free()))
+        c.bytes == 1 && c.outside(|empty| empty.at_base() && empty.spare() == 0 && c.next(empty).is_some_and(|next| next.is_free()))
     }),
-    ("13 of one byte at the image's end", |c| c.bytes() == 1 && c.outside(|empty| empty.at_base() && empty.base() == c.length())),
+    ("13 of one byte at the image's end", |c| c.bytes == 1 && c.outside(|empty| empty.at_base() && empty.at_end())),
     ("13 with 15 spare bytes", |c| c.outside(|empty| empty.at_base() && empty.spare() == 15)),
     ("13, small-framed", |c| c.outside(|empty| empty.p.small)),
     ("13, large-framed", |c| c.outside(|empty| !empty.p.small)),
     ("13 before it", |c| c.outside(|empty| empty.p.address < empty.base())),
     ("13 past it", |c| c.outside(|empty| empty.p.address > empty.base())),
     ("13 behind the image", |c| c.outside(|empty| empty.p.address > c.length())),
-    ("13 of a header in a body", |c| c.outside(|empty| empty.at_base() && !c.is_on_the_walk(empty))),
+    ("13 of a header in a body", |c| c.outside(|empty| empty.at_base() && c.is_in_a_body(empty))),
 ];
 
 /// The operands of calls with a length.
@@ -246,10 +236,10 @@ const SIXES: [usize; 5] = [2, 3, 4, 5, 6];
 const FREES: [Row; 16] = [
     ("small-framed", |c| c.accepted() && c.of(|empty| empty.p.small)),
     ("large-framed", |c| c.accepted() && c.of(|empty| !empty.p.small)),
-    ("at the image's end", |c| c.accepted() && c.of(|empty| empty.base() == c.length())),
+    ("at the image's end", |c| c.accepted() && c.of(|empty| empty.at_end())),
     ("with spare bytes", |c| c.accepted() && c.of(|empty| empty.spare() > 0)),
     ("before a free block", |c| c.accepted() && c.of(|empty| c.next(empty).is_some_and(|next| next.is_free()))),
-    ("before a live one", |c| c.accepted() && c.of(|empty| c.next(empty).is_some_and(|next| next.is_live()))),
+    ("before an object of bytes", |c| c.accepted() && c.of(|empty| c.next(empty).is_some_and(|next| next.is_live() && next.size > 0))),
     ("before another one", |c| c.accepted() && c.of(|empty| c.next(empty).is_some_and(is_empty))),
     ("behind a free block", |c| c.accepted() && c.of(|empty| c.before(empty).is_some_and(|before| before.is_free()))),
     ("behind another one", |c| c.accepted() && c.of(|empty| c.before(empty).is_some_and(is_empty))),
@@ -260,7 +250,7 @@ const FREES: [Row; 16] = [
     ("15 before it", |c| c.refused(15) && c.of(|empty| empty.p.address < empty.base())),
     ("15 past it", |c| c.refused(15) && c.of(|empty| empty.p.address > empty.base())),
     ("15 behind the image", |c| c.refused(15) && c.of(|empty| empty.p.address > c.length())),
-    ("7 of a header in a body", |c| c.refused(7) && c.of(|empty| !c.is_on_the_walk(empty))),
+    ("7 of a header in a body", |c| c.refused(7) && c.of(|empty| c.is_in_a_body(empty))),
     ("7 by the next header", |c| c.refused(7) && c.of(|empty| c.is_on_the_walk(empty) && c.next(empty).is_none())),
     ("22", |c| c.refused(22) && c.of(|_| true)),
 ];
@@ -274,7 +264,7 @@ const RELEASES: [Row; 10] = [
     ("large-framed", |c| c.releases(|block| c.large(block))),
     ("at the image's end", |c| c.releases(|(h, _)| h + HEADER == c.length())),
     ("with spare bytes", |c| c.releases(|(_, header)| header.extent > 16)),
-    ("another cue's stays", |c| c.accepted() && c.answer.values[0] > 0 && c.blocks().filter(|block| is_empty(block.1)).count() > c.of_cue().len()),
+    ("another cue's stays", |c| c.accepted() && c.answer.values[0] > 0 && c.others().any(is_empty)),
     ("21 by its entry alone", |c| c.refused(21) && c.of_cue().into_iter().filter(|&block| c.lost(block)).all(|block| is_empty(block.1))),
 ];
 
@@ -290,13 +280,13 @@ const DISTANCES: [Row; 10] = [
     ("0 and 0, small-framed", |c| c.accepted() && c.of(|empty| empty.p.small && c.distances() == [0, 0])),
     ("0 and 0, large-framed", |c| c.accepted() && c.of(|empty| !empty.p.small && c.distances() == [0, 0])),
     ("0 and 0 with spare bytes", |c| c.accepted() && c.of(|empty| empty.spare() > 0 && c.distances() == [0, 0])),
-    ("0 and 0 at the image's end", |c| c.accepted() && c.of(|empty| empty.base() == c.length() && c.distances() == [0, 0])),
+    ("0 and 0 at the image's end", |c| c.accepted() && c.of(|empty| empty.at_end() && c.distances() == [0, 0])),
     ("before it", |c| c.accepted() && c.of(|_| c.distances()[0] < 0)),
     ("past it", |c| c.accepted() && c.of(|_| c.distances()[0] > 0)),
-    ("before one at the image's end", |c| c.accepted() && c.of(|empty| empty.base() == c.length() && c.distances()[0] < 0)),
+    ("before one at the image's end", |c| c.accepted() && c.of(|empty| empty.at_end() && c.distances()[0] < 0)),
     ("behind the image", |c| c.accepted() && c.of(|empty| empty.p.address > c.length())),
-    ("of a header in a body", |c| c.accepted() && c.of(|empty| !c.is_on_the_walk(empty))),
-    ("11 of one that was freed", |c| c.refused(11) && c.freed()),
+    ("of a header in a body", |c| c.accepted() && c.of(|empty| c.is_in_a_body(empty))),
+    ("11 where no object is", |c| c.refused(11) && c.nothing_there()),
 ];
 
 const MOVES: [Row; 7] = [
@@ -304,9 +294,9 @@ const MOVES: [Row; 7] = [
     ("up", |c| c.accepted() && c.of(|_| c.moved() > 0)),
     ("down", |c| c.accepted() && c.of(|_| c.moved() < 0)),
     ("12", |c| c.refused(12) && c.of(|_| true)),
-    ("down from the image's end", |c| c.accepted() && c.of(|empty| empty.at_base() && empty.base() == c.length() && c.moved() < 0)),
-    ("up from the image's end", |c| c.accepted() && c.of(|empty| empty.at_base() && empty.base() == c.length() && c.moved() > 0)),
-    ("12 from the image's end", |c| c.refused(12) && c.of(|empty| empty.at_base() && empty.base() == c.length())),
+    ("down from the image's end", |c| c.accepted() && c.of(|empty| empty.at_base() && empty.at_end() && c.moved() < 0)),
+    ("up from the image's end", |c| c.accepted() && c.of(|empty| empty.at_base() && empty.at_end() && c.moved() > 0)),
+    ("12 from the image's end", |c| c.refused(12) && c.of(|empty| empty.at_base() && empty.at_end())),
 ];
 
 const WALKERS: [&str; 5] = ["allocate", "allocate for", "free", "release", "tally"];
@@ -319,8 +309,8 @@ const WALKS: [Row; 8] = [
     ("7 by extent 33 of one byte", |c| c.ends_at(33, 1)),
     ("7 by extent 0 of no bytes", |c| c.ends_at(0, 0)),
     ("7 by a live header of no bytes and a long extent", |c| c.refused(7) && c.unsound().is_some_and(|header| is_empty(header) && header.extent > 32)),
-    ("over extent 16 of no bytes", |c| c.accepted() && c.blocks().any(|(_, header)| is_empty(header) && header.extent == 16)),
-    ("over extent 31 of no bytes", |c| c.accepted() && c.blocks().any(|(_, header)| is_empty(header) && header.extent == 31)),
+    ("over extent 16 of no bytes", |c| c.passes(|header| is_empty(header) && header.extent == 16)),
+    ("over extent 31 of no bytes", |c| c.passes(|header| is_empty(header) && header.extent == 31)),
 ];
 
 impl Empties {
@@ -335,13 +325,13 @@ impl Empties {
             Err(_) if size == Some(0) && image.len() >= 64 => 0,
             Err(_) => return,
         };
-        let empty = |pointer| if s == 0 { None } else { empty(image, table, pointer) };
-        let looked = |empty| Looked { image, table, s, call: *call, answer: *answer, empty };
+        let empty = |pointer| if s == 0 { None } else { Empty::led_to(image, table, pointer) };
+        let looked = |empty| Looked { image, table, s, call: *call, answer: *answer, empty, bytes: 0 };
         for (place, pointer) in operands(call).into_iter().flatten() {
             let empty = empty(pointer);
             // 13 of two pointers is the first's
             if empty.is_some() && (answer.refusal != 13 || first_outside(image, table, call) == Some(place)) {
-                add(&mut self.accesses[place], &ACCESSES, &looked(empty));
+                add(&mut self.accesses[place], &ACCESSES, &Looked { bytes: asked(image, call, place), ..looked(empty) });
                 if let Some(six) = SIXES.iter().position(|&six| six == place).filter(|_| answer.refusal == 6) {
                     self.sixes[six] += 1;
                 }
@@ -385,17 +375,23 @@ fn add(counts: &mut [u64], rows: &[Row], looked: &Looked<'_>) {
     counts.iter_mut().zip(rows).for_each(|(count, (_, met))| *count += u64::from(met(looked)));
 }
 
-/// The object of no bytes that a pointer leads to.
-fn empty(image: &[u8], table: &[u64], pointer: u64) -> Option<Empty> {
-    let [from_start, to_end] = model::distances(image, table, pointer).ok()?;
-    let p = Pointer::unpack(pointer);
-    let h = (p.address as i64 - from_start) as u64 - HEADER;
-    (from_start + to_end == 0).then(|| Empty { h, header: Header::read(image, h), p })
+/// How many bytes a call asks for through an operand: of a text its first, and all of it with its zero byte at the target.
+fn asked(image: &[u8], call: &Call<u64>, place: usize) -> u64 {
+    match *call {
+        Call::Load { width, .. } | Call::Store { width, .. } => width,
+        Call::Fill { length, .. } | Call::Copy { length, .. } | Call::Compare { length, .. } => length.into(),
+        Call::CopyText { source, .. } if place == 8 => {
+            let text = image.get(Pointer::unpack(source).address as usize..).and_then(|rest| rest.split_inclusive(|&byte| byte == 0).next());
+            text.map_or(1, |text| text.len() as u64)
+        }
+        _ => 1,
+    }
 }
 
-/// Whose 13 it is, where it is for the first byte.
+/// Whose 13 it is.
 fn first_outside(image: &[u8], table: &[u64], call: &Call<u64>) -> Option<usize> {
-    let inside = |pointer| model::load(image, table, pointer, 1).is_ok();
-    let operands = operands(call);
-    operands.iter().flatten().find(|operand| !inside(operand.1)).map(|operand| operand.0)
+    let inside = |(place, pointer)| {
+        model::distances(image, table, pointer).is_ok_and(|[from_start, to_end]| from_start >= 0 && to_end >= asked(image, call, place) as i64)
+    };
+    operands(call).into_iter().flatten().find(|&operand| !inside(operand)).map(|operand| operand.0)
 }

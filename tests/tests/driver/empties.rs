@@ -4,12 +4,9 @@ use super::distances::{accepting, bytes, pointers, unchecked, unsound, Of};
 use super::{both, find, mended, right, Behaviour, Faulty};
 use cueledger_tests::case::Mismatch;
 use cueledger_tests::driver::compare;
+use cueledger_tests::empties::{is_empty, Empty};
 use cueledger_tests::model::{self, Header, Pointer, HEADER};
 use cueledger_tests::store::{Answer, Call, Model};
-
-fn is_empty(header: Header) -> bool {
-    header.is_live() && header.size == 0
-}
 
 fn write(image: &mut [u8], at: u64, header: Header) {
     image[at as usize..at as usize + 16].copy_from_slice(&header.bytes());
@@ -112,6 +109,17 @@ impl Given<'_> {
         Pointer { small, tag, address: self.h + HEADER }.pack()
     }
 
+    /// The one that is there before, in the place of a new one.
+    fn the_first_again(&mut self) -> Answer {
+        match self.first() {
+            Some(first) => {
+                self.undo();
+                accepted(first)
+            }
+            None => self.right(),
+        }
+    }
+
     /// The one that is there before, if there is one.
     fn first(&self) -> Option<u64> {
         let (h, _) = model::blocks(&self.before.0).find(|block| is_empty(block.1))?;
@@ -149,7 +157,7 @@ allocates! {
     refused_where_large_framed |g| g.refuse_where(!g.p().small, 9);
     refused_in_16_bytes |g| g.refuse_where(g.free() == 16, 8);
     refused_where_bytes_are_spare |g| g.refuse_where((17..32).contains(&g.free()), 8);
-    refused_behind_another |g| g.refuse_where(g.first().is_some(), 8);
+    refused_beside_another |g| g.refuse_where(g.first().is_some(), 8);
     rounded_up_to_a_byte |g| g.again(1);
     rounded_up_to_16_bytes |g| g.again(16);
     rounded_up_where_there_is_room |g| if g.free() == 16 { g.right() } else { g.again(1) };
@@ -176,7 +184,7 @@ allocates! {
     pointer_without_the_imaginary_byte |g| accepted(g.framed(g.h + 15));
     pointer_by_the_header_place_alone |g| accepted(g.framed(g.h));
     pointer_of_the_first |g| match g.first() { Some(first) => accepted(first), None => g.right() };
-    object_of_the_first |g| match g.first() { Some(first) => { g.undo(); accepted(first) } None => g.right() };
+    object_of_the_first |g| g.the_first_again();
 }
 
 #[test]
@@ -328,16 +336,36 @@ stricter! {
     walk_that_asks_for_a_base_in_the_image |h, header, length| is_empty(header) && h + HEADER == length;
 }
 
-/// What a walk tests is right but for what a fault changes.
-#[test]
-fn no_fault_of_walks() {
-    let never: [Behaviour; 2] = [
-        |image, table, call| walking(image, table, call, call.kind().name, |_, _, _| false),
-        |image, table, call| walking(image, table, call, call.kind().name, |h, header, length| h + u64::from(header.extent) > length),
-    ];
-    for fault in never {
-        compare(&Model, &Faulty(fault), 200_000, 1).unwrap_or_else(|failure| panic!("{failure}"));
+/// A call that walks is refused by 7 where one of the blocks that `walked` gives has no kind, and answers as before where another has
+/// none, but for the block that is freed or taken.
+fn spoiled(image: &mut [u8], table: &mut [u64], call: Call<u64>) -> Answer {
+    let before = (image.to_vec(), table.to_vec());
+    let answer = right(image, table, call);
+    let own = match call {
+        Call::Free { pointer } => Some(Pointer::unpack(pointer).address.wrapping_sub(HEADER)),
+        Call::Allocate { size, .. } | Call::AllocateFor { size, .. } if before.0.len() >= 64 => {
+            let fits = |header: Header| header.is_free() && u64::from(header.extent) >= HEADER + u64::from(size);
+            model::blocks(&before.0).find(|block| fits(block.1)).map(|block| block.0)
+        }
+        _ => None,
+    };
+    let walks = matches!(call, Call::Allocate { .. } | Call::AllocateFor { .. } | Call::Free { .. } | Call::Release { .. } | Call::Tally);
+    if !walks || [4, 5, 10, 11, 15].contains(&answer.refusal) {
+        return answer;
     }
+    let walked = walked(&before.0, call);
+    for (h, header) in model::blocks(&before.0).filter(|block| own != Some(block.0)) {
+        let (mut image, mut table) = before.clone();
+        write(&mut image, h, Header { kind: 9, ..header });
+        let expected = if walked.iter().any(|block| block.0 == h) { 7 } else { answer.refusal };
+        assert_eq!(right(&mut image, &mut table, call).refusal, expected, "{call}, kind 9 at {h}");
+    }
+    answer
+}
+
+#[test]
+fn walked_blocks() {
+    compare(&Model, &Faulty(spoiled), 50_000, 1).unwrap_or_else(|failure| panic!("{failure}"));
 }
 
 /// A tally and distances that take a live header of this extent and size for sound.
@@ -392,41 +420,11 @@ fn sound_with_less_than_a_header() {
 
 // ---- calls through its pointer
 
-/// Where a pointer leads to an object of no bytes.
-#[derive(Clone, Copy)]
-struct Empty {
-    h: u64,
-    header: Header,
-    p: Pointer,
-    length: u64,
-}
-
-impl Empty {
-    fn at_base(self) -> bool {
-        self.p.address == self.h + HEADER
-    }
-
-    fn spare(self) -> u32 {
-        self.header.extent - 16
-    }
-
-    fn at_end(self) -> bool {
-        self.h + HEADER == self.length
-    }
-}
-
-fn led_to(image: &[u8], table: &[u64], pointer: u64) -> Option<Empty> {
-    let [from_start, to_end] = model::distances(image, table, pointer).ok()?;
-    let p = Pointer::unpack(pointer);
-    let h = (p.address as i64 - from_start) as u64 - HEADER;
-    (from_start + to_end == 0).then(|| Empty { h, header: Header::read(image, h), p, length: image.len() as u64 })
-}
-
 /// The one pointer that is not good for its first byte, and the object of no bytes that it leads to.
 fn outside(image: &[u8], table: &[u64], call: Call<u64>) -> Option<(Of, Empty)> {
     let operands: Vec<_> = pointers(call)?.into_iter().flatten().filter(|operand| model::load(image, table, operand.1, 1).is_err()).collect();
     match operands[..] {
-        [(of, pointer)] => Some((of, led_to(image, table, pointer)?)),
+        [(of, pointer)] => Some((of, Empty::led_to(image, table, pointer)?)),
         _ => None,
     }
 }
@@ -467,7 +465,7 @@ macro_rules! accesses {
 
 accesses! {
     byte_where_one_is_spare |image, call, empty| a_byte(image, call, empty.at_base() && empty.spare() > 0);
-    byte_of_the_next_header |image, call, empty| a_byte(image, call, empty.at_base() && empty.spare() == 0);
+    byte_behind_its_header |image, call, empty| a_byte(image, call, empty.at_base() && empty.spare() == 0);
     byte_of_its_own_header |image, call, empty| a_byte(image, call, empty.p.address < empty.h + HEADER && empty.p.address >= empty.h);
     nothing_at_the_image_end |_, _, empty| (empty.at_base() && empty.at_end()).then(|| accepted(0));
     nothing_anywhere |_, _, empty| empty.at_base().then(|| accepted(0));
@@ -495,7 +493,7 @@ fn other_rows_than_13() {
 /// 6 before 10, 11 and 13, also of these.
 fn of_no_length(image: &mut [u8], table: &mut [u64], call: Call<u64>, of: Of, answer: Answer) -> Answer {
     let given = right(image, table, call);
-    let empty = |(which, pointer): (Of, u64)| which == of && led_to(image, table, pointer).is_some_and(Empty::at_base);
+    let empty = |(which, pointer): (Of, u64)| which == of && Empty::led_to(image, table, pointer).is_some_and(Empty::at_base);
     match pointers(call) {
         Some(pointers) if given.refusal == 6 && pointers.into_iter().flatten().any(empty) => answer,
         _ => given,
@@ -525,7 +523,7 @@ fn lengths_of_0() {
 fn measured(image: &mut [u8], table: &mut [u64], call: Call<u64>, answers: fn(Empty, [i64; 2]) -> Result<[i64; 2], u32>) -> Answer {
     let answer = right(image, table, call);
     let Call::Distances { pointer } = call else { return answer };
-    match led_to(image, table, pointer) {
+    match Empty::led_to(image, table, pointer) {
         Some(empty) if answer.accepted() => {
             answers(empty, [answer.values[0] as i64, answer.values[1] as i64]).map(|given| given.map(|distance| distance as u64)).into()
         }
@@ -537,7 +535,7 @@ fn measured(image: &mut [u8], table: &mut [u64], call: Call<u64>, answers: fn(Em
 fn distances() {
     let faults: [Behaviour; 9] = [
         |image, table, call| measured(image, table, call, |_, [from, to]| Ok([from, to + 1])),
-        |image, table, call| measured(image, table, call, |empty, [from, to]| Ok([from, to + i64::from(empty.spare())])),
+        |image, table, call| measured(image, table, call, |empty, [from, to]| Ok([from, to + empty.spare() as i64])),
         |image, table, call| measured(image, table, call, |_, [from, to]| Ok([from + 16, to])),
         |image, table, call| measured(image, table, call, |_, _| Ok([0, 0])),
         |image, table, call| measured(image, table, call, |_, [from, _]| Ok([from, from])),
@@ -555,7 +553,7 @@ fn distances() {
 fn moved(image: &mut [u8], table: &mut [u64], call: Call<u64>, answers: fn(Empty, i64, Answer) -> Answer) -> Answer {
     let answer = right(image, table, call);
     let Call::Move { pointer, distance } = call else { return answer };
-    match led_to(image, table, pointer) {
+    match Empty::led_to(image, table, pointer) {
         Some(empty) => answers(empty, distance, answer),
         None => answer,
     }
@@ -624,7 +622,7 @@ fn freeing(image: &mut [u8], table: &mut [u64], call: Call<u64>, fault: fn(&mut 
     let before = (image.to_vec(), table.to_vec());
     let answer = right(image, table, call);
     let Call::Free { pointer } = call else { return answer };
-    match led_to(&before.0, &before.1, pointer) {
+    match Empty::led_to(&before.0, &before.1, pointer) {
         Some(empty) if answer.accepted() => fault(&mut Freed { image, table, before, empty }),
         _ => answer,
     }
@@ -653,16 +651,16 @@ frees! {
     free_that_gives_16_back |f| { f.total(16); accepted(0) };
     free_that_leaves_a_merged_header |f| { if f.image[f.empty.h as usize..][..16] == [0; 16] { f.leave(f.empty.h, HEADER); } accepted(0) };
     free_that_does_not_merge |f| { f.unmerged(); accepted(0) };
-    free_that_leaves_spare_bytes |f| { let spare = f.empty.spare(); f.leave(f.empty.h + HEADER, spare.into()); accepted(0) };
+    free_that_leaves_spare_bytes |f| { let spare = f.empty.spare(); f.leave(f.empty.base(), spare); accepted(0) };
 }
 
-/// At its neighbours' bytes, where the body would start or end.
+/// At its header, past its base, and before its header.
 #[test]
 fn free_beside_it() {
     let faults: [Behaviour; 3] = [
         |image, table, call| freeing_beside(image, table, call, |empty| empty.p.address == empty.h),
         |image, table, call| freeing_beside(image, table, call, |empty| empty.p.address > empty.h + HEADER),
-        |image, table, call| freeing_beside(image, table, call, |empty| empty.p.address < empty.h + HEADER),
+        |image, table, call| freeing_beside(image, table, call, |empty| empty.p.address < empty.h),
     ];
     for fault in faults {
         find(fault);
@@ -672,7 +670,7 @@ fn free_beside_it() {
 fn freeing_beside(image: &mut [u8], table: &mut [u64], call: Call<u64>, frees: fn(Empty) -> bool) -> Answer {
     let answer = right(image, table, call);
     let Call::Free { pointer } = call else { return answer };
-    match led_to(image, table, pointer) {
+    match Empty::led_to(image, table, pointer) {
         Some(empty) if answer.refusal == 15 && frees(empty) => {
             right(image, table, Call::Free { pointer: Pointer { address: empty.h + HEADER, ..empty.p }.pack() })
         }
@@ -758,10 +756,10 @@ fn releases() {
                 let before = table.to_vec();
                 of_cue(image, call).into_iter().filter_map(|(h, _)| entry(s, h).map(|entry| (entry, h))).for_each(|(entry, h)| table[entry] = h);
                 let mended = right(image, table, call);
-                if !mended.accepted() {
-                    table.copy_from_slice(&before);
+                if mended.accepted() {
+                    return mended;
                 }
-                return mended;
+                table.copy_from_slice(&before);
             }
             answer
         },
@@ -824,18 +822,21 @@ fn expected_store_that_wastes_room() {
     );
 }
 
+/// Where there is no room, it gives the pointer of one that is there.
 #[test]
-fn expected_store_that_gives_a_pointer_twice() {
-    let first: Behaviour = |image, table, call| {
-        allocating(image, table, call, |g| match g.first() {
-            Some(first) => {
-                g.undo();
-                accepted(first)
-            }
-            None => g.right(),
+fn expected_store_that_finds_room_where_none_is() {
+    let without_room: Behaviour = |image, table, call| {
+        admitting(image, table, call, 8, |image, _, _| match model::blocks(image).find(|block| is_empty(block.1)) {
+            Some((h, _)) => accepted(Pointer::to(image[6].into(), h, 0).pack()),
+            None => Answer::new(8, []),
         })
     };
-    finds(Mismatch::NotItsOwn, &[first]);
+    finds(Mismatch::NotByRoom, &[without_room]);
+}
+
+#[test]
+fn expected_store_that_gives_a_pointer_twice() {
+    finds(Mismatch::NotItsOwn, &[|image, table, call| allocating(image, table, call, |g| g.the_first_again())]);
 }
 
 #[test]

@@ -160,13 +160,21 @@ fn layouts<S: Store + Copy>(store: S) -> Vec<Layout<S>> {
     vec![free_header, live_header, spare, large, large_at_end, small_at_end]
 }
 
+/// Those with the base at L.
+fn at_the_end<S: Store + Copy>(store: S) -> Vec<Layout<S>> {
+    let ends: Vec<_> = layouts(store).into_iter().filter(|layout| layout.h + 16 == layout.lent.image.len() as u64).collect();
+    assert_eq!(ends.len(), 2);
+    ends
+}
+
 /// No byte through it, at its base or a few bytes off, of itself or beside a good pointer; with the row of each call.
 fn refused_accesses(pointer: u64, good: u64) -> Vec<(Call<u64>, u32)> {
     let mut calls = Vec::new();
     for width in 1..=8 {
         calls.extend([(Call::Load { pointer, width }, 13), (Call::Store { pointer, width, value: 0 }, 13), (Call::Store { pointer, width, value: 255 }, 13)]);
     }
-    for length in [1, 2, 15, 16, 17, u32::MAX] {
+    // the other object has 10 bytes at least
+    for length in [1, 2, 9, 10, u32::MAX] {
         calls.push((Call::Fill { pointer, length, value: 0x5a }, 13));
         for (one, two) in [(pointer, good), (good, pointer), (pointer, pointer)] {
             calls.extend([(Call::Copy { target: one, source: two, length }, 13), (Call::Compare { left: one, right: two, length }, 13)]);
@@ -189,12 +197,11 @@ fn refused_accesses(pointer: u64, good: u64) -> Vec<(Call<u64>, u32)> {
     calls
 }
 
-/// Every call through its pointer, with bytes behind it that are zero and that are not.
+/// Every call through its pointer, with spare bytes, where there are some, that are zero and that are not.
 fn each_call<S: Store + Copy>(store: S) {
     for Layout { mut lent, other, empty, h, extent, small } in layouts(store) {
         let base = h + 16;
         let (start, end) = if small { (base >> 6 << 6, (base >> 6 << 6) + 64) } else { (0, 128) };
-        // the spare bytes
         let fresh = lent.image.clone();
         for byte in [0, 0x5a] {
             lent.image[base as usize..(h + extent) as usize].fill(byte);
@@ -230,9 +237,8 @@ fn each_call<S: Store + Copy>(store: S) {
 
 /// Its base is at L: no answer depends on bytes behind the lent image, and none of them is written.
 fn behind_the_image<S: Store + Copy>(store: S) {
-    for Layout { lent, other, empty, h, .. } in layouts(store).into_iter().skip(4) {
+    for Layout { lent, other, empty, .. } in at_the_end(store) {
         let length = lent.image.len();
-        assert_eq!(h as usize + 16, length);
         let header = Header::live(16, 0, 0, 0).bytes();
         // bytes, and what looks like one more object or free block
         let behind =
@@ -302,7 +308,7 @@ impl Drop for Pages {
 /// Its base is at L, and the page ends there: a call that only reads the byte at L does not come back.
 fn up_to_a_page_end<S: Store + Copy>(store: S) {
     let mut pages = Pages::new();
-    for Layout { lent, other, empty, .. } in layouts(store).into_iter().skip(4) {
+    for Layout { lent, other, empty, .. } in at_the_end(store) {
         let mut call = |call: Call<u64>| {
             let (image, mut table) = (pages.last(lent.image.len()), lent.table.clone());
             image.copy_from_slice(&lent.image);

@@ -425,6 +425,16 @@ fn largest_image<S: Store>(store: S) {
     assert_eq!(lent.table[31 - 15 - 1], 0);
     assert_eq!(lent.call(Call::Tally).values, [0, 0, (1 << 30) - 16, 0]);
     assert_eq!(lent.call(Call::FreeTotal), Answer::new(0, [(1 << 30) - 16]));
+    // an object of no bytes with its base at 2^30
+    assert_eq!(lent.allocate((1 << 30) - 48), 0x001E000000000020);
+    let empty = lent.allocate(0);
+    assert_eq!(empty, 0x001F000040000000);
+    assert_eq!(lent.table[31 - 15 - 1], (1 << 30) - 16);
+    assert_eq!(lent.call(Call::Distances { pointer: empty }), Answer::new(0, [0, 0]));
+    assert_eq!(lent.refusal(Call::Load { pointer: empty, width: 1 }), 13);
+    assert_eq!(lent.refusal(Call::Free { pointer: empty }), 0);
+    assert_eq!(lent.table[31 - 15 - 1], 0);
+    assert_eq!(lent.call(Call::FreeTotal), Answer::new(0, [16]));
 }
 
 /// Above 2^30 nothing but the superblock may be looked at; the pages of this buffer are never touched otherwise.
