@@ -1,5 +1,5 @@
--- The superblock and the block headers of an image: document 01, "The image and its lead-in" and "Blocks"; the cue and the free total: document 02, W6 and
--- W7. Assumes nothing.
+-- The superblock and the block headers of an image: document 01, "The image and its lead-in" and "Blocks"; the cue, the free total and size 0: document 02, W6,
+-- W7 and W9. Assumes nothing.
 use Prim.Native.Nat.{ℕ, _+_, _^_}
 use mathlib.Core.Bool.{Bool, cond, _&&_}
 use mathlib.Core.List.{List, _++_}
