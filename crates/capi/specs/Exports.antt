@@ -1,15 +1,18 @@
 -- What C sees of a call: the returned number, the value, and the image and table as they are left. Assumes nothing.
 use Prim.Native.Nat.{ℕ}
 use mathlib.Core.Path.{_≡_, refl}
-use mathlib.Core.List.{List}
+use mathlib.Core.List.{List, [], _∷_}
 use lib.IntN.{ℤ, pos, negsuc}
-use Rattle.store.specs.State.{Outcome, returned, value, comparisonNumber, comparisonValue, distancesNumber, startDistance, endDistance, usageNumber, liveObjects, liveBytes, freeBytes, overheadBytes}
-use Rattle.store.specs.declared.answer.Refusal.the-variants.{Dangling}
+use Rattle.store.specs.State.{state, Outcome, returned, value, comparisonNumber, comparisonValue, distancesNumber, startDistance, endDistance, usageNumber, liveObjects, liveBytes, freeBytes, overheadBytes}
+use Rattle.store.specs.declared.answer.Refusal.the-variants.{BadLength, Dangling}
 use Rattle.store.specs.declared.answer.Answer.{Answer}
 use Rattle.store.specs.declared.comparing.Comparison.{Comparison}
 use Rattle.store.specs.declared.measuring.Measurement.{Measurement}
 use Rattle.store.specs.declared.measuring.Measurement.the-variants as measurement
 use Rattle.store.specs.declared.counting.Usage.{Usage}
+use Rattle.workload.specs.Traffic.{trafficNumber, stateAfter, bytesWritten, LoggedOutcome, logged}
+use Rattle.workload.specs.declared.answer.Traffic.{Traffic}
+use Rattle.workload.specs.declared.answer.Traffic.the-variants as answer
 
 -- What the export of a call that gives no value returns and leaves.
 pub record Left : Type 0 where
@@ -102,3 +105,30 @@ tallied r objects live free overhead = record { returned = r; objects = objects;
 -- what C sees of tally's answer
 abbrev pub exportedUsage : Usage → Tallied
 exportedUsage u = tallied (usageNumber u) (liveObjects u) (liveBytes u) (freeBytes u) (overheadBytes u)
+
+-- What the export of traffic returns, gives and leaves: both values are 0 where set-up is refused, and those of the load where the log is full.
+pub record LoggedExport : Type 0 where
+  pub returned : ℕ
+  pub generator : ℕ
+  pub written : ℕ
+  pub image : List ℕ
+  pub table : List ℕ
+  pub log : List ℕ
+
+-- made of a returned number, two values, an image, a table and a log
+abbrev pub loggedExport : ℕ → ℕ → ℕ → List ℕ → List ℕ → List ℕ → LoggedExport
+loggedExport r generator written image table log =
+    record { returned = r; generator = generator; written = written; image = image; table = table; log = log }
+
+-- what C sees of a load
+abbrev pub exportedTraffic : LoggedOutcome → LoggedExport
+exportedTraffic t =
+    loggedExport (trafficNumber (t .answer)) (stateAfter (t .answer)) (bytesWritten (t .answer)) (t .after .image) (t .after .table) (t .log)
+
+-- all draws recorded, a full log, and refused, with an image of one byte, no table and a log of two
+pub traffic-seen :
+    let seen : Traffic → LoggedExport = λ a. exportedTraffic (logged a (state (1 ∷ []) []) (2 ∷ 3 ∷ [])) in
+    (seen (answer.Done 7 9) ≡ loggedExport 0 7 9 (1 ∷ []) [] (2 ∷ 3 ∷ []))
+    × (seen (answer.LogFull 7 9) ≡ loggedExport 23 7 9 (1 ∷ []) [] (2 ∷ 3 ∷ []))
+    × (seen (answer.Refused BadLength) ≡ loggedExport 2 0 0 (1 ∷ []) [] (2 ∷ 3 ∷ []))
+traffic-seen = (refl, refl, refl)

@@ -1,11 +1,13 @@
 // The library as C sees it. Each function returns the refusal's number, 0 where the call is accepted; every value
-// given through a pointer is 0 where it is refused.
+// given through a pointer is 0 where it is refused. The one exception is 23, a full log: what was done and given stands.
 ghost use mathlib.Core.Path.{_≡_};
 ghost use Rattle.store.specs.State.{state};
 ghost use Rattle.store.specs.Calls.{setUp, allocate, allocateFor, move, load, store, free, fill, copy, compare, copyText, releaseCue, freeTotal, tally, distances};
-ghost use Rattle.capi.specs.Exports.{left, leftBy, export, exported, answered, exportedAnswer, compared, exportedComparison, measured, exportedDistances, tallied, exportedUsage};
+ghost use Rattle.workload.specs.Traffic.{traffic};
+ghost use Rattle.capi.specs.Exports.{left, leftBy, export, exported, answered, exportedAnswer, compared, exportedComparison, measured, exportedDistances, tallied, exportedUsage, loggedExport, exportedTraffic};
 use store::Measurement;
 use store::Usage;
+use workload::Traffic;
 
 // A fresh store on the image and table.
 #[no_mangle]
@@ -42,9 +44,7 @@ pub extern "C" fn cue_allocate_for(
 ) -> u32
     ensures { λ r. ⌜ export r (now (pointer .exit)) (now (image .exit)) (now (table .exit)) ≡ exported (allocateFor size ty cue (state (now (image .entry)) (now (table .entry)))) ⌝ }
 {
-    let a = store::allocate_for(image, table, size, ty, cue);
-    *pointer = a.value();
-    a.returned()
+    store::allocate_number(image, table, size, ty, cue, pointer)
 }
 
 // The pointer moved by a distance goes to `moved`.
@@ -99,8 +99,7 @@ pub extern "C" fn cue_store(
 pub extern "C" fn cue_free(image: &mut [u8], table: &mut [u64], pointer: u64) -> u32
     ensures { λ r. ⌜ left r (now (image .exit)) (now (table .exit)) ≡ leftBy (free pointer (state (now (image .entry)) (now (table .entry)))) ⌝ }
 {
-    let a = store::free(image, table, pointer);
-    a.returned()
+    store::free_number(image, table, pointer)
 }
 
 // Ends the lives of all objects of the cue; how many they were goes to `count`.
@@ -236,5 +235,38 @@ pub extern "C" fn cue_tally(
             0
         }
         Usage::Refused(r) => r.number(),
+    }
+}
+
+// A repeatable load on a fresh image and table: the generator's state goes to `after`, the bytes of log written to `written`.
+#[no_mangle]
+pub extern "C" fn cue_traffic(
+    image: &mut [u8],
+    table: &mut [u64],
+    exponent: u32,
+    generator: u64,
+    draws: u64,
+    log: &mut [u8],
+    after: &mut u64,
+    written: &mut u64,
+) -> u32
+    ensures { λ r. ⌜ loggedExport r (now (after .exit)) (now (written .exit)) (now (image .exit)) (now (table .exit)) (now (log .exit)) ≡ exportedTraffic (traffic exponent generator draws (state (now (image .entry)) (now (table .entry))) (now (log .entry))) ⌝ }
+{
+    match workload::traffic(image, table, exponent, generator, draws, log) {
+        Traffic::Done(g, n) => {
+            *after = g;
+            *written = n;
+            0
+        }
+        Traffic::LogFull(g, n) => {
+            *after = g;
+            *written = n;
+            23
+        }
+        Traffic::Refused(r) => {
+            *after = 0;
+            *written = 0;
+            r.number()
+        }
     }
 }

@@ -41,6 +41,7 @@ use Rattle.store.specs.declared.counting.Usage.the-variants as usage
 use Rattle.history.specs.Heap.{Object, Heap, holds, ownerOf, inside, textIn, hear, HearsNoOther}
 use Rattle.history.specs.History.{known, admitted, Configuration, next, after, allAdmitted, begun, In, headerOf, FreeRun, EntriesApart, PointersApart, PointersLead, FreesExactly, LoadsExactly, StoresExactly, FillsExactly, BothInside, CopiesExactly, ComparesExactly, TextsExactly, LoadsBytes, ComparesBytes, TextsCounted, EachAllocate, Holds, Demand3}
 use Rattle.history.specs.Release.{ReleasesSingly}
+use Rattle.history.specs.laws.Lists.{Reached}
 use Rattle.history.specs.Empty.{NoEmptyLoads, NoEmptyAccess}
 use Rattle.history.specs.Tidiness.{MeetsNoUnsound, NeverUnsound, Balanced, StaysBalanced, RightTotal, StaysTotalled, Tidy, StaysTidy}
 use Rattle.history.proofs.Gaps.{Block, extent, Layout, blocks, bodies, gaps, overheads, counts, blockAt, Clear}
@@ -376,6 +377,11 @@ module _ {s L : ℕ} (x : Configuration) (i : Invariant s L (x .state) (x .heap)
 pub demand3 : Demand3
 unfolding Demand3
 demand3 s x e calls a = holds-all (after calls (begun s x)) (keeps calls (begun s x) (begins s x e) a)
+
+-- the same, for what an admitted list leads to
+pub reached-holds : (s : ℕ) (x : State) → IsAccepted (setUp s x) → (y : Configuration) → Reached (begun s x) y → Holds s y
+unfolding Demand3
+reached-holds s x e y r = subst (Holds s) (r .leave) (demand3 s x e (r .calls) (r .are-admitted))
 
 pub never-unsound : NeverUnsound
 unfolding NeverUnsound

@@ -7,3 +7,5 @@ pub mod Release
 pub mod Empty
 -- worked example
 pub mod Examples
+-- laws
+pub mod laws

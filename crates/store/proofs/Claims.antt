@@ -22,6 +22,7 @@ use Rattle.block.specs.laws.Soundness.{sound-low, sound-end, sound-live-at}
 use Rattle.block.specs.declared.header.Header.{Header}
 use Rattle.store.specs.State.{State, state, Outcome, IsAccepted, returned, value, comparisonNumber, comparisonValue, distancesNumber, startDistance, endDistance, usageNumber, liveObjects, liveBytes, freeBytes, overheadBytes}
 use Rattle.store.specs.Calls.{setUpChecks, setUp, fresh, cleared, takenExtent, allocateChecks, noted, allotted, allocateFor, freeRelease, free, move, moveAnswer, load, loadAnswer, storeChecks, store, fillChecks, fill, copyChecks, copy, compare, copyTextChecks, copyText, releaseChecks, pointersTo, cuePointers, freeEach, releaseCue, freeTotal, tally, opening, fromStart, toEnd, distances}
+use Rattle.store.specs.laws.Shapes.{shape-itself, shape-then}
 use Rattle.store.specs.laws.Refusals.{not-accepted}
 use Rattle.store.specs.laws.SetUp.{Settable, settable-parts, set-up-declined, set-up-done, length-fresh}
 use Rattle.store.specs.laws.Opening.{Open, opening-kept}
@@ -64,11 +65,6 @@ data Ended (s : ℕ) (x : State) (r : Outcome) : Type 0 where
 
 -- shapes that are kept
 
--- nothing is written
-kept : (s : ℕ) (x : State) → KeepsShape s x x
-unfolding KeepsShape
-kept s x = (refl, refl, refl)
-
 -- bytes are written in the image
 written : (s : ℕ) (x : State) (at : ℕ) (bytes : List ℕ) → at + length bytes ≤ length (x .image) → KeepsShape s x (state (put (x .image) at bytes) (x .table))
 unfolding KeepsShape
@@ -83,11 +79,6 @@ entered s x image h size entry o l e = (
   length-noted s h size entry (x .table),
   noted-beyond s h size entry (x .table) (usedEntries s (length (x .image))) (object-entry-used s (length (x .image)) h size l (o .short)),
 )
-
--- one shape after the other
-joined : (s : ℕ) (x y z : State) → KeepsShape s x y → KeepsShape s y z → KeepsShape s x z
-unfolding KeepsShape
-joined s x y z p q = (q .0 ∙ p .0, q .1 ∙ p .1, (rw (p .0) at (q .2)) ∙ p .2)
 
 -- all is set up
 set-up-shape : (s : ℕ) (x : State) → Settable s x
@@ -109,7 +100,7 @@ ended-keeps s x r (accepted a k) n = absurd (n a)
 
 -- every call kept the shape
 ended-shape : (s : ℕ) (x : State) (r : Outcome) → Ended s x r → KeepsShape s x (r .after)
-ended-shape s x r (refused e f) = subst (KeepsShape s x) (sym e) (kept s x)
+ended-shape s x r (refused e f) = subst (KeepsShape s x) (sym e) (shape-itself s x)
 ended-shape s x r (accepted a k) = k
 
 -- how each call ends
@@ -124,7 +115,7 @@ ended-set-up s x = go (setUpChecks s x) refl
 
 -- a call that only answers
 ended-answer : (s : ℕ) (x : State) (a : Answer) → Ended s x (record { answer = a; after = x })
-ended-answer s x (Accepted v) = accepted refl (kept s x)
+ended-answer s x (Accepted v) = accepted refl (shape-itself s x)
 ended-answer s x (Refused r) = refused refl refl
 
 module _ (x : State) where
@@ -228,11 +219,11 @@ free-exponent word x = go (freeRelease word x) refl
 
 -- and the shape
 freed-shape : (ps : List ℕ) (x : State) → KeepsShape (exponent x) x (freeEach ps x)
-freed-shape [] x = subst (KeepsShape (exponent x) x) (sym (free-each-none x)) (kept (exponent x) x)
+freed-shape [] x = subst (KeepsShape (exponent x) x) (sym (free-each-none x)) (shape-itself (exponent x) x)
 freed-shape (p ∷ ps) x =
     let y : State = free p x .after in
     subst (KeepsShape (exponent x) x) (sym (free-each-one p ps x))
-    (joined (exponent x) x y (freeEach ps y) (ended-shape (exponent x) x (free p x) (ended-free x p))
+    (shape-then (exponent x) x y (freeEach ps y) (ended-shape (exponent x) x (free p x) (ended-free x p))
     (subst (λ (s : ℕ). KeepsShape s y (freeEach ps y)) (free-exponent p x) (freed-shape ps y)))
 
 -- release

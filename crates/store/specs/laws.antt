@@ -7,6 +7,7 @@ pub mod TagReading
 pub mod Access
 pub mod Distances
 pub mod Total
+pub mod Shapes
 -- each call
 pub mod SetUp
 pub mod Allocate

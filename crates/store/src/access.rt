@@ -11,6 +11,7 @@ use crate::locate::access;
 use crate::opening::opening;
 use block::bytes::read_field;
 use block::bytes::write_field;
+use block::bytes::write1;
 
 // The widths that a load or store may have.
 fn good_width(width: u64) -> bool
@@ -79,6 +80,22 @@ pub fn store(image: &mut [u8], table: &[u64], pointer: u64, width: u64, value: u
             write_field(image, at as usize, width, value);
             Answer::Accepted(0)
         }
+    }
+}
+
+// The same for one byte, whose rows 14 and 16 are passed: a path of its own, so that `store` stays in one piece with its export.
+pub fn store_byte(image: &mut [u8], table: &[u64], pointer: u64, byte: u8) -> Answer
+    ensures { λ r. ⌜ outcome r (now (image .exit)) (now (table .entry)) ≡ store pointer 1 byte (state (now (image .entry)) (now (table .entry))) ⌝ }
+{
+    match opening(image, table) {
+        Answer::Refused(r) => Answer::Refused(r),
+        Answer::Accepted(s) => match access(image, table, s as u32, pointer, 1) {
+            Answer::Refused(r) => Answer::Refused(r),
+            Answer::Accepted(at) => {
+                write1(image, at as usize, byte as u64);
+                Answer::Accepted(0)
+            }
+        },
     }
 }
 

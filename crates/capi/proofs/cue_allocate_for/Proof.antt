@@ -1,23 +1,22 @@
--- `capi::cue_allocate_for`: what `store::allocate_for` leaves, its answer as a number and a pointer. Assumes nothing.
-use Rattle.capi.proofs.Outcomes.{gives}
+-- `capi::cue_allocate_for`: what `store::allocate_number` gives and leaves. Assumes nothing.
+use denote.Ref.{now}
+use Rattle.store.specs.State.{state}
+use Rattle.store.specs.Calls.{allocateFor}
+use Rattle.capi.proofs.Outcomes.{parts-given}
 use borrow.Author.Needs.{needs}
 use Rattle.capi.proofs.cue_allocate_for.Statement.{statement}
 use Rattle.capi.proofs.cue_allocate_for.Tie as tie
 
-abbrev at-allocated : tie.After-value → tie.After-allocate-for
-at-allocated c = c .before .before .before .before .before
+abbrev start : tie.After-allocate-number → tie.Start
+start c = c .before .before .before .before .before .before
 
--- what `allocate_for` left
+-- what `allocate_number` gave and left
 returns : tie.Need-returns
-returns c = gives _ _ _ _ _ _ (c .returned .ensures) (c .before .value .ensures) (at-allocated (c .before) .allocate-for .ensures)
+returns c =
+    let n = c .before .before .before .before in
+    let a = start n .args in
+    let e = n .allocate-number .ensures in
+    parts-given _ _ _ _ (allocateFor (a .size) (a .ty) (a .cue) (state (now (a .image)) (now (a .table)))) (e .0) (e .1 .0) (e .1 .1)
 
 pub cue-allocate-for-spec : {M : Type 1} → statement M
-cue-allocate-for-spec =
-    tie.close
-    (tie.spec
-    (λ c κs. search needs)
-    (λ c κs. search needs)
-    (λ c κs. search needs)
-    (λ c. search needs)
-    (λ c. search needs)
-    returns)
+cue-allocate-for-spec = tie.close (tie.spec (λ c κs. search needs) (λ c. search needs) (λ c. search needs) returns)

@@ -59,6 +59,11 @@ pub pack-unpack : (word : ℕ) → word < 2 ^ 64 → pack (unpack word) ≡ word
 unfolding unpack pack
 pack-unpack word h = let b = flag-bit (word / 2 ^ 63) (omega arith) in omega arith
 
+-- parts that fit their bits make a word of 64
+pub pack-small : (p : Pointer) → InRange p → pack p < 2 ^ 64
+unfolding pack
+pack-small p r = omega (arith, bit-small (p .flag), r .tag, r .address)
+
 -- The address says nothing about the tag.
 
 pub good-at : (s : ℕ) (p : Pointer) (a : ℕ) → goodTag s (at p a) ≡ goodTag s p

@@ -11,7 +11,8 @@ use lib.ListN.{length}
 use borrow.Author.Tests.{leb-true, le-leb, lt-leb, ltb-true, lt-ltb, le-ltb, ltb-false}
 use mathlib.Core.Logic.{inl}
 use Rattle.frame.specs.Tags.{pointerTo, entryOf}
-use Rattle.frame.specs.laws.Tags.{tagged}
+use Rattle.frame.specs.laws.Pointers.{pack-small}
+use Rattle.frame.specs.laws.Tags.{tagged, pointer-range}
 use Rattle.frame.specs.Pointers.{pack}
 use Rattle.frame.specs.declared.parts.Pointer.{Pointer}
 use Rattle.block.specs.laws.Booleans.{byBool}
@@ -25,7 +26,7 @@ use Rattle.block.specs.laws.Headers.{length-header, headerAt-put, headerAt-put-
 use Rattle.block.specs.laws.Superblock.{superblock-kept}
 use Rattle.block.specs.laws.Total.{length-with-total, with-total-opens, with-total-header}
 use Rattle.block.specs.declared.walk.Fit.{Fit}
-use Rattle.store.specs.State.{State, outcome, refuse}
+use Rattle.store.specs.State.{State, Outcome, outcome, refuse}
 use Rattle.store.specs.Calls.{opening, entryHolds, fitAnswer, takenExtent, allocateChecks, carved, noted, allotted, allocateFor}
 use Rattle.store.specs.laws.Refusals.{demand-met, and-then-met}
 use Rattle.store.specs.laws.Opening.{Open, opening-parts, entry-in}
@@ -141,6 +142,22 @@ module _ (size : ℕ) (x : State) where
       → outcome (Accepted word) image table ≡ allocateFor size type cue x
   unfolding allocateFor
   allocate-done type cue h s word p image table e k i q t w = rw (e, w, q, i, t, k)
+
+-- an accepted one gives a pointer of 64 bits
+pub allocate-word : (size type cue p : ℕ) (x : State) → allocateFor size type cue x .answer ≡ Accepted p → p < 2 ^ 64
+allocate-word size type cue p x e = go (allocateChecks size x) refl
+  where
+    go : (a : Answer) → allocateChecks size x ≡ a → p < 2 ^ 64
+    go (Refused r) q =
+        let d = ap (λ (o : Outcome). o .answer) (allocate-declined size x type cue r q) in
+        let z : _≡_ {A = ℕ} 0 1 = cc in
+        absurd (omega arith)
+    go (Accepted h) q =
+        let s : ℕ = slotExponent (x .image) in
+        let t = allocate-parts size x h q in
+        let d = ap (λ (o : Outcome). o .answer) (allocate-done size x type cue h s (pack (pointerTo s h size)) _ _ _ q refl refl refl refl refl) in
+        let w : p ≡ pack (pointerTo s h size) = cc in
+        rw w (pack-small (pointerTo s h size) (pointer-range s h size (t .opens .high) (omega (arith, t .inside, t .opens .short))))
 
 -- The answer of its tests, with the object's pointer and entry.
 unfoldable pub siteOf : ℕ → ℕ → Answer → Site

@@ -1,6 +1,6 @@
 -- Set-up: its rows, what an accepted one was given and leaves, and the fresh image. Assumes nothing.
 use Prim.Native.Nat.{ℕ, _^_, _≤_, _<_, _-_}
-use mathlib.Core.Path.{_≡_, refl, sym}
+use mathlib.Core.Path.{_≡_, refl, sym, ap, _∙_}
 use mathlib.Core.Bool.{true, false}
 use native.Mathlib.Omega.{arith}
 use lib.Dec.{leb}
@@ -13,7 +13,7 @@ use Rattle.block.specs.laws.Booleans.{and-left, and-right}
 use Rattle.block.specs.Layout.{goodExponent, goodLength, superblock, freeHeader}
 use Rattle.block.specs.laws.Headers.{length-header}
 use Rattle.block.specs.laws.Superblock.{length-superblock}
-use Rattle.store.specs.State.{State, outcome, IsAccepted}
+use Rattle.store.specs.State.{State, Outcome, outcome, IsAccepted, returned}
 use Rattle.store.specs.Calls.{setUpChecks, fresh, cleared, setUp}
 use Rattle.store.specs.laws.Refusals.{not-accepted, demand-met}
 use Rattle.store.specs.declared.answer.Refusal.{Refusal}
@@ -89,6 +89,19 @@ set-up-accepted s x e = go (setUpChecks s x) refl
         × (setUp s x ≡ outcome (Accepted 0) (fresh s (length (x .image))) (cleared s (length (x .image)) (x .table)))
     go (Accepted v) q = (settable-parts s x v q, set-up-done s x v q)
     go (Refused r) q = absurd (not-accepted r (sym (set-up-declined s x r q)) e)
+
+-- it looks at the lengths alone
+checks-lengths : (s : ℕ) (x y : State) → length (y .image) ≡ length (x .image) → length (y .table) ≡ length (x .table) → setUpChecks s y ≡ setUpChecks s x
+unfolding setUpChecks
+checks-lengths s x y p q = rw (p, q)
+
+pub set-up-lengths : (s : ℕ) (x y : State) → length (y .image) ≡ length (x .image) → length (y .table) ≡ length (x .table)
+    → IsAccepted (setUp s x) → IsAccepted (setUp s y)
+set-up-lengths s x y p q e = go (setUpChecks s x) refl
+  where
+    go : (a : Answer) → setUpChecks s x ≡ a → IsAccepted (setUp s y)
+    go (Accepted v) c = ap (λ (o : Outcome). returned (o .answer)) (set-up-done s y v (checks-lengths s x y p q ∙ c))
+    go (Refused r) c = absurd (not-accepted r (sym (set-up-declined s x r c)) e)
 
 -- A fresh image.
 

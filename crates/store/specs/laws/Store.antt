@@ -1,9 +1,9 @@
 -- Store: its rows, what is known where they are passed, and what it leaves. Assumes nothing.
 use Prim.Native.Nat.{ℕ, _^_, _<_}
-use mathlib.Core.Path.{_≡_, sym, _∙_}
+use mathlib.Core.Path.{_≡_, refl, sym, _∙_}
 use mathlib.Core.Bool.{true, false, Bool}
 use lib.Dec.{ltb}
-use borrow.Author.Tests.{ltb-true}
+use borrow.Author.Tests.{ltb-true, lt-ltb}
 use Rattle.frame.specs.Pointers.{unpack}
 use Rattle.block.specs.Bytes.{encode, put}
 use Rattle.store.specs.State.{State, outcome, demand, refuse}
@@ -37,6 +37,10 @@ module _ (x : State) (s : ℕ) (e : opening x ≡ Accepted s) where
     pub store-access : goodWidth width ≡ true → ltb v (256 ^ width) ≡ true → accessed s (unpack word) width x ≡ storeChecks word width v x
     unfolding storeChecks
     store-access w l = rw (e, w, l)
+
+  -- a byte has a good width and fits it
+  pub store-byte : (word v : ℕ) → v < 256 → accessed s (unpack word) 1 x ≡ storeChecks word 1 v x
+  store-byte word v l = store-access word 1 v refl (lt-ltb v (256 ^ 1) l)
 
 -- the rows of store are passed: the bytes from a on take the value
 pub record Stores (word width v : ℕ) (x : State) (a : ℕ) : Type 0 where

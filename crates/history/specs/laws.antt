@@ -1,0 +1,3 @@
+-- What other crates cite of the definitions.
+pub mod Lists
+pub mod Plain

@@ -1,0 +1,7 @@
+-- definitions
+pub mod Number
+pub mod Program
+-- claims
+pub mod Claims
+-- worked examples
+pub mod Examples

@@ -1,0 +1,10 @@
+-- What the proofs of several functions use.
+mod Choices
+mod Pointers
+mod Writers
+mod Draws
+-- What holds of every load.
+mod Runs
+mod Premise
+-- The claims.
+pub mod Claims
