@@ -2,13 +2,15 @@
 SHELL = bash
 .SHELLFLAGS = -euo pipefail -c
 .DELETE_ON_ERROR:
-.PHONY: run replay log_is_named test lib bench install clean help
+.PHONY: run replay log_is_named traffic test lib bench install clean help
 
 PREFIX = /usr/local
 DESTDIR =
+STATE = 0
+DRAWS = 1000
 
 archive = target/staticlib/libcapi.a
-program = target/bin/replay
+programs = target/bin/replay target/bin/traffic
 # with the folders, whose dates tell of removed files
 sources := crates.txt $(shell find crates)
 
@@ -20,17 +22,20 @@ run:
 	}
 	@target/bin/examples
 
-# proving is told on standard error: standard output has the answers alone
-replay: log_is_named $(program)
-	@$(program) <"$$LOG"
+# proving is told on standard error: standard output has the answers alone, or the log
+replay: log_is_named target/bin/replay
+	@target/bin/replay <"$$LOG"
 
 log_is_named:
 	@[ -n "$${LOG:-}" ] || { echo 'usage: make replay LOG=file' >&2; exit 2; }
 
-$(program): $(sources)
-	@echo 'Proving the store and the program `replay`: a few minutes the first time, seconds afterwards.' >&2
-	@.ci/prove check replay >&2
-	@touch $(program) # it keeps its date where nothing was to be proved
+traffic: target/bin/traffic
+	@target/bin/traffic "$(STATE)" "$(DRAWS)"
+
+$(programs): target/bin/%: $(sources)
+	@echo 'Proving the store and the program `$*`: a few minutes the first time, seconds afterwards.' >&2
+	@.ci/prove check $* >&2
+	@touch $@ # it keeps its date where nothing was to be proved
 
 test:
 	@.ci/run
@@ -41,7 +46,7 @@ $(archive): $(sources)
 	@echo 'Proving the exports: a few minutes the first time, seconds afterwards.'
 	@.ci/prove staticlib capi
 
-bench: $(archive) $(program)
+bench: $(archive) target/bin/replay
 	@cd bench && cargo run --offline --release --quiet
 
 install: $(archive)
@@ -62,6 +67,7 @@ clean:
 help:
 	@echo 'make run      prove the store, then run its main job, the program `examples`'
 	@echo 'make replay   make the calls of the log LOG=file again, and print their answers'
+	@echo 'make traffic  write the log of a repeatable load, from STATE=$(STATE), of DRAWS=$(DRAWS)'
 	@echo 'make test     all tests: .ci/run, which ends in `N passed, 0 failed`'
 	@echo 'make lib      prove the exports and write $(archive), for C and Rust'
 	@echo 'make bench    measure the library and `replay` against models in Rust'

@@ -3,12 +3,14 @@
  * docs/FORMAT.md has the layout of image, table and pointers, and each call in full.
  *
  * Each function returns CUE_ACCEPTED (0) or the number of a refusal (enum cue_refusal). A refused call has changed no
- * byte of image or table, and every value given through a pointer is 0. Every call ends properly on all images, tables,
- * pointers and numbers.
+ * byte of image, table or log, and every value given through a pointer is 0, with one exception: cue_traffic's CUE_LOG_FULL
+ * (23), after which all that was done stands, and both values are given. Every call ends properly on all images, tables,
+ * pointers, logs and numbers.
  *
- * Arguments. Lengths count bytes of the image and 64-bit entries of the table. Image, table and values must be valid
- * for the call (not null, also where a length is 0, and aligned as their types ask) and must not overlap. No pointer is
- * kept: image and table can be saved, restored at another address and lent again, and tagged pointers keep their meaning.
+ * Arguments. Lengths count bytes of the image and of the log, and 64-bit entries of the table. Image, table, log and values
+ * must be valid for the call (not null, also where a length is 0, and aligned as their types ask) and must not overlap. No
+ * pointer is kept: image and table can be saved, restored at another address and lent again, and tagged pointers keep their
+ * meaning.
  *
  * Limits.
  * - The archive is for x86-64 Linux: size_t has 64 bits. It calls memmove and memset and no other outside function, and
@@ -17,13 +19,15 @@
  *   images do not disturb each other.
  * - Time: allocate, free, release and tally walk over the blocks from the image's start and grow with their number. Setup,
  *   free, release, fill and copy also grow with the bytes that they write, compare and text copy with those that they read.
- *   Load, store, move, distances and free total take constant time.
+ *   Load, store, move, distances and free total take constant time. Traffic sets up and then grows with its draws, of which
+ *   each is an allocate, a free or a store.
  * - Stack, in bytes at most: the return address and all below it, without memmove and memset.
  *     cue_setup         48    cue_load     176    cue_copy        208
  *     cue_allocate     112    cue_store    176    cue_compare     224
- *     cue_allocate_for  88    cue_free     208    cue_copy_text   208
+ *     cue_allocate_for  88    cue_free     216    cue_copy_text   208
  *     cue_move           8    cue_release  112    cue_tally        64
  *     cue_distances    160    cue_fill     160    cue_free_total    8
+ *     cue_traffic      928
  *
  * On CUE_UNSOUND something else has written into the image. Allocate, free and release nothing more there. Objects that
  * their pointers still reach can be loaded; save image and table for diagnosis, then set the store up afresh. The same
@@ -39,9 +43,9 @@ extern "C" {
 #endif
 
 #define CUE_VERSION_MAJOR 1
-#define CUE_VERSION_MINOR 6
+#define CUE_VERSION_MINOR 7
 #define CUE_VERSION_PATCH 0
-#define CUE_VERSION "1.6.0"
+#define CUE_VERSION "1.7.0"
 
 /* 17 to 19 are a call log's (docs/FORMAT.md): the program replay prints them, and no function returns them. */
 enum cue_refusal {
@@ -64,7 +68,8 @@ enum cue_refusal {
     CUE_TOO_LARGE = 16,      /* store: value too large for the width */
     CUE_UNTERMINATED = 20,   /* text copy: no zero byte from the source's address to the body's end */
     CUE_ENTRY_LOST = 21,     /* release: an object's entry does not hold its header: the table is damaged, or another image's */
-    CUE_WRONG_TOTAL = 22     /* the free total would fall below 0, or rise above image_len - 16: the image is damaged, or older than 1.4.0 */
+    CUE_WRONG_TOTAL = 22,    /* the free total would fall below 0, or rise above image_len - 16: the image is damaged, or older than 1.4.0 */
+    CUE_LOG_FULL = 23        /* traffic: the log has no space for the next record; what was recorded stands, and both values are given */
 };
 
 /* A returned number as text. */
@@ -91,6 +96,7 @@ static inline const char *cue_reason(uint32_t number)
     case CUE_UNTERMINATED: return "no zero byte up to the body's end";
     case CUE_ENTRY_LOST: return "table entry does not hold its header";
     case CUE_WRONG_TOTAL: return "free total below 0 or above L - 16";
+    case CUE_LOG_FULL: return "log has no space for the next record";
     default: return "no refusal has this number";
     }
 }
@@ -187,6 +193,17 @@ uint32_t cue_tally(const uint8_t *image, size_t image_len, const uint64_t *table
  * cue_setup, through pointers of live objects, they are cue_tally's; on a damaged one any 32-bit number.
  * Refusals, in order: 4, 5. */
 uint32_t cue_free_total(const uint8_t *image, size_t image_len, const uint64_t *table, size_t table_len, uint64_t *total);
+
+/* A repeatable load, under which controllers are accepted: sets the store up, whatever image and table held, and makes one
+ * call for each draw: an allocate of 1 to 97 bytes, a free, or a store of one byte, with at most 64 objects live. Which it is
+ * follows from a 64-bit generator, begun at state, and from the objects that live: docs/FORMAT.md has the rule. Each call's
+ * record is written into the log, which the program replay runs again: 10 bytes for an allocate, 12 for a free, 22 for a
+ * store. An allocate that finds no space is recorded too, and counts. state_after is the generator's state after the last
+ * recorded draw, or state where there is none; written is the number of log bytes written. The bytes behind them stay.
+ * Refusals, in order: 1, 2, 3, then 23 (the log has no space for the next record, whose call is not made). 23 is the one
+ * exception to unchanged bytes and values of 0: the set-up, the records before, what their calls have done to image and
+ * table, and both values stand. */
+uint32_t cue_traffic(uint8_t *image, size_t image_len, uint64_t *table, size_t table_len, uint32_t slot_exponent, uint64_t state, uint64_t draws, uint8_t *log, size_t log_len, uint64_t *state_after, uint64_t *written);
 
 #ifdef __cplusplus
 }

@@ -4,6 +4,7 @@
 use cueledger::ffi;
 use cueledger_tests::model::{self, Answer, CompareAnswer, DistancesAnswer, TallyAnswer};
 use cueledger_tests::single_pass;
+use cueledger_tests::traffic::{Asked, Traffic};
 
 /// An image and its table.
 #[derive(Clone)]
@@ -40,7 +41,11 @@ pub trait Calls {
     fn copy_text(lent: &mut Lent, target: u64, source: u64) -> Answer;
     fn tally(lent: &Lent) -> TallyAnswer;
     fn free_total(lent: &Lent) -> Answer;
+    fn traffic(lent: &mut Lent, asked: Asked, log: &mut [u8]) -> TrafficAnswer;
 }
+
+/// The state after and the bytes written, or the refusal's number.
+pub type TrafficAnswer = Result<[u64; 2], u32>;
 
 /// Two closures of one text, in which the type named first is the library and then the model.
 #[macro_export]
@@ -67,7 +72,7 @@ pub struct Library;
 macro_rules! export {
     ($name:ident, $lent:ident, $image:ident, $table:ident $(, $argument:expr)*; $($value:ident)*) => {{
         $(let mut $value = 0;)*
-        // SAFETY: image and table are slices of their own, valid for the call; so are the values.
+        // SAFETY: image, table and log are slices of their own, valid for the call; so are the values.
         let refusal = unsafe {
             ffi::$name($lent.image.$image(), $lent.image.len(), $lent.table.$table(), $lent.table.len() $(, $argument)* $(, &mut $value)*)
         };
@@ -130,6 +135,10 @@ impl Calls for Library {
 
     fn free_total(lent: &Lent) -> Answer {
         export!(cue_free_total, lent, as_ptr, as_ptr; total).map(first)
+    }
+
+    fn traffic(lent: &mut Lent, Asked { slot_exponent, state, draws }: Asked, log: &mut [u8]) -> TrafficAnswer {
+        export!(cue_traffic, lent, as_mut_ptr, as_mut_ptr, slot_exponent, state, draws, log.as_mut_ptr(), log.len(); state_after written)
     }
 }
 
@@ -198,5 +207,15 @@ impl Calls for Model {
 
     fn free_total(lent: &Lent) -> Answer {
         model::free_total(&lent.image, &lent.table)
+    }
+
+    fn traffic(lent: &mut Lent, asked: Asked, log: &mut [u8]) -> TrafficAnswer {
+        let answer = cueledger_tests::store::Model.traffic(&mut lent.image, &mut lent.table, asked, log);
+        let [state_after, written, ..] = answer.values;
+        if answer.accepted() {
+            Ok([state_after, written])
+        } else {
+            Err(answer.refusal)
+        }
     }
 }

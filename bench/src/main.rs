@@ -14,6 +14,7 @@ mod memory;
 mod refused;
 mod releases;
 mod texts;
+mod traffic;
 mod tree;
 
 use measure::{Bench, LEAST_ROUNDS};
@@ -42,6 +43,7 @@ fn main() {
     freeing::measure(&mut bench);
     heap::measure(&mut bench);
     tree::measure(&mut bench);
+    traffic::measure(&mut bench);
     logs::measure(&mut bench);
     memory::measure();
     bench.summary();

@@ -1,7 +1,8 @@
 //! The exports of `libcapi.a`, as `include/cueledger.h` has them.
 //!
-//! Each returns a [`Refusal`](crate::Refusal)'s number, 0 where the call is accepted; a refused call gives 0 for every value.
-//! Image, table and values must be valid for the call and must not overlap. No pointer is kept.
+//! Each returns a [`Refusal`](crate::Refusal)'s number, 0 where the call is accepted; a refused call gives 0 for every value. Only
+//! `cue_traffic` also returns 23, and then both values. Image, table, log and values must be valid for the call and must not overlap. No
+//! pointer is kept.
 
 #![allow(missing_docs)]
 
@@ -30,4 +31,17 @@ extern "C" {
         overhead_bytes: *mut u64,
     ) -> u32;
     pub fn cue_free_total(image: *const u8, image_len: usize, table: *const u64, table_len: usize, total: *mut u64) -> u32;
+    pub fn cue_traffic(
+        image: *mut u8,
+        image_len: usize,
+        table: *mut u64,
+        table_len: usize,
+        slot_exponent: u32,
+        state: u64,
+        draws: u64,
+        log: *mut u8,
+        log_len: usize,
+        state_after: *mut u64,
+        written: *mut u64,
+    ) -> u32;
 }

@@ -41,5 +41,5 @@ mod width;
 pub use blocks::{Block, Blocks, Kind, UnsoundHeader};
 pub use pointer::Pointer;
 pub use refusal::Refusal;
-pub use store::{Distances, Store, Tally};
+pub use store::{Distances, Store, Tally, Traffic};
 pub use width::Width;

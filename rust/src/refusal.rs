@@ -84,7 +84,8 @@ impl Refusal {
         Refusal::WrongTotal,
     ];
 
-    /// The number that the exports return: 1 to 16 or 20 to 22. 17 to 19 are a call log's.
+    /// The number that the exports return: 1 to 16 or 20 to 22. 17 to 19 are a call log's, and 23 is no refusal here but
+    /// [`Traffic::full`](crate::Traffic::full): what was recorded stands, and a refused call has changed nothing.
     ///
     /// ```
     /// # use cueledger::Refusal;
@@ -101,6 +102,7 @@ impl Refusal {
     /// assert_eq!(Refusal::from_number(7), Some(Refusal::Unsound));
     /// assert_eq!(Refusal::from_number(0), None); // accepted
     /// assert_eq!(Refusal::from_number(17), None); // a malformed record of a call log
+    /// assert_eq!(Refusal::from_number(23), None); // a log that traffic has filled
     /// ```
     pub const fn from_number(number: u32) -> Option<Refusal> {
         let place = match number {

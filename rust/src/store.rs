@@ -37,6 +37,20 @@ pub struct Distances {
     pub to_end: i64,
 }
 
+/// What [`Store::traffic`] has recorded.
+#[derive(Clone, Copy, Debug, PartialEq, Eq)]
+pub struct Traffic {
+    /// The generator's state after the last recorded draw; the given one where there is none.
+    pub state: u64,
+    /// The bytes of log written.
+    pub written: usize,
+    /// Whether the log had no space for the next record, so that not all draws were made (C: `CUE_LOG_FULL`, 23).
+    pub full: bool,
+}
+
+// What traffic answers where the log has no space for the next record.
+const LOG_FULL: u32 = 23;
+
 // A number that is neither 0 nor a refusal's means that the archive is not the one this crate was written for.
 fn answer<T>(number: u32, value: T) -> Result<T, Refusal> {
     if number == 0 {
@@ -117,6 +131,38 @@ impl<'a> Store<'a> {
             Err(refusal @ (Refusal::BadSuperblock | Refusal::ShortTable)) => Err(refusal),
             _ => Ok(store),
         }
+    }
+
+    /// A repeatable load, under which controllers are accepted: [sets the store up](Store::set_up), whatever image and table held, and
+    /// makes one call for each draw: an allocate of 1 to 97 bytes, a free, or a store of one byte, with at most 64 objects live. Equal
+    /// arguments give the same calls; `docs/FORMAT.md` has the rule.
+    ///
+    /// Each call's record is written into `log`, for the program `replay`; the bytes behind the last one stay. Where there is no space for the
+    /// next record, its call is not made, and what was recorded stands: that is [`full`](Traffic::full), and no refusal.
+    ///
+    /// Refused as [`set_up`](Store::set_up), with nothing written.
+    ///
+    /// ```
+    /// use cueledger::{Refusal, Store, Traffic};
+    ///
+    /// let (mut image, mut table, mut log) = ([0u8; 8192], [0u64; Store::table_entries(8192, 8)], [0u8; 65_536]);
+    /// let all = Store::traffic(&mut image, &mut table, 8, 0, 1_000, &mut log)?;
+    /// assert!(!all.full);
+    /// assert_eq!(log[..4], [10, 0, 16, 0]); // the first record is an allocate's
+    /// println!("{:?}", Store::open(&mut image, &mut table)?.tally()?);
+    ///
+    /// let cut = Store::traffic(&mut image, &mut table, 8, 0, 1_000, &mut log[..21])?;
+    /// assert_eq!(cut, Traffic { state: 0x9e37_79b9_7f4a_7c15, written: 10, full: true }); // 11 bytes are left
+    /// # Ok::<(), Refusal>(())
+    /// ```
+    #[inline]
+    pub fn traffic(image: &mut [u8], table: &mut [u64], slot_exponent: u32, state: u64, draws: u64, log: &mut [u8]) -> Result<Traffic, Refusal> {
+        let (mut after, mut written) = (0, 0);
+        let (bytes, n, entries, m) = (image.as_mut_ptr(), image.len(), table.as_mut_ptr(), table.len());
+        // SAFETY: as in `set_up`, the log with the two slices; the two values are locals of their own.
+        let number = unsafe { ffi::cue_traffic(bytes, n, entries, m, slot_exponent, state, draws, log.as_mut_ptr(), log.len(), &mut after, &mut written) };
+        let full = number == LOG_FULL;
+        answer(if full { 0 } else { number }, Traffic { state: after, written: written as usize, full })
     }
 
     /// The image's bytes, to save them.

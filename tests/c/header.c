@@ -37,10 +37,29 @@ static void expect_distances(uint64_t pointer, uint32_t wanted, int64_t from, in
     }
 }
 
+/* both values after a full log too, and 0 where it is refused */
+static void expect_traffic(uint32_t s, uint64_t draws, size_t log_len, uint32_t wanted, uint64_t state, uint64_t bytes)
+{
+    uint8_t log[32] = {0};
+    uint64_t state_after = 1, written = 1;
+
+    expect("traffic", cue_traffic(image, 1024, table, CUE_TABLE_ENTRIES(1024, 6), s, 0, draws, log, log_len, &state_after, &written), wanted);
+    if (state_after != state || written != bytes) {
+        printf("traffic: state %#lx and %lu bytes, ", (unsigned long)state_after, (unsigned long)written);
+        printf("not %#lx and %lu\n", (unsigned long)state, (unsigned long)bytes);
+        failures++;
+    }
+    /* an allocate's record comes first */
+    if (log[0] != (bytes ? 10 : 0) || log[2] != (bytes ? 16 : 0)) {
+        printf("traffic: the log starts with %d and %d\n", log[0], log[2]);
+        failures++;
+    }
+}
+
 /* 17 to 19 are a call log's */
 static int returned(uint32_t number)
 {
-    return number <= CUE_TOO_LARGE || (number >= CUE_UNTERMINATED && number <= CUE_WRONG_TOTAL);
+    return number <= CUE_TOO_LARGE || (number >= CUE_UNTERMINATED && number <= CUE_LOG_FULL);
 }
 
 int main(void)
@@ -68,8 +87,16 @@ int main(void)
     expect("fill 0", cue_fill(image, 1024, table, CUE_TABLE_ENTRIES(1024, 6), pointer, 0, 1), CUE_EMPTY);
     expect("fill 1", cue_fill(image, 1024, table, CUE_TABLE_ENTRIES(1024, 6), pointer, 1, 1), CUE_OUT_OF_BOUNDS);
 
+    /* an allocate of 10 bytes of log, then a store of 22 */
+    expect_traffic(5, 2, 32, CUE_BAD_EXPONENT, 0, 0);
+    expect_traffic(6, 0, 0, CUE_ACCEPTED, 0, 0);
+    expect_traffic(6, 1, 9, CUE_LOG_FULL, 0, 0);
+    expect_traffic(6, 1, 10, CUE_ACCEPTED, UINT64_C(0x9E3779B97F4A7C15), 10);
+    expect_traffic(6, 2, 31, CUE_LOG_FULL, UINT64_C(0x9E3779B97F4A7C15), 10);
+    expect_traffic(6, 2, 32, CUE_ACCEPTED, UINT64_C(0x3C6EF372FE94F82A), 32);
+
     /* a reason of its own for each number, and one for all that no call returns */
-    for (number = CUE_ACCEPTED; number <= CUE_WRONG_TOTAL + 1; number++)
+    for (number = CUE_ACCEPTED; number <= CUE_LOG_FULL + 1; number++)
         for (other = CUE_ACCEPTED; other < number; other++)
             if ((strcmp(cue_reason(number), cue_reason(other)) == 0) != (!returned(number) && !returned(other))) {
                 printf("%u and %u: \"%s\" and \"%s\"\n", (unsigned)other, (unsigned)number, cue_reason(other), cue_reason(number));

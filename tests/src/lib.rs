@@ -1,11 +1,11 @@
-//! The object store's library against a model of documents 01 and 02, call by call, and the program `replay` against one
-//! of document 02's call log.
+//! The object store's library against a model of documents 01 and 02, call by call, and the programs `replay` and `traffic`
+//! against one of document 02's call log and one of its repeatable load.
 //!
 //! `model` is the documents; `store` the trait that model and library share; `case` a list of calls and damages, and
 //! how it is run on two stores at once; `generate` makes random lists; `counts` and `seen` say what occurred in them;
 //! `shrink` shortens one that fails; `driver` puts them together. `distances` says what a pointer's distances have to do with other
 //! calls' answers, `empties` which pointers lead to objects of no bytes, `totals` has the limits of the free total, `single_pass` is
-//! another model of release, `log` the call log.
+//! another model of release, `log` the call log, `traffic` the repeatable load.
 
 pub mod case;
 pub mod counts;
@@ -22,6 +22,7 @@ pub mod shrink;
 pub mod single_pass;
 pub mod store;
 pub mod totals;
+pub mod traffic;
 
 /// What a test tells, not by println, which the test harness keeps back.
 pub fn print(text: &str) {

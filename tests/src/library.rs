@@ -1,6 +1,7 @@
-//! The library as a `Store`, through the Rust wrapper and through the exports themselves.
+//! The library as a `Store` and as `Traffic`, through the Rust wrapper and through the exports themselves.
 
 use crate::store::{Answer, Call, Store, VALUES};
+use crate::traffic::{Asked, Traffic, FULL};
 use cueledger::{ffi, Pointer, Refusal, Width};
 
 /// Through the crate `cueledger`.
@@ -36,6 +37,15 @@ fn answered(image: &mut [u8], table: &mut [u64], call: Call<Pointer>) -> Result<
         Call::Tally => return store.tally().map(|t| [t.objects, t.live_bytes, t.free_bytes, t.overhead_bytes]),
     };
     Ok([value, 0, 0, 0])
+}
+
+impl Traffic for Library {
+    fn traffic(&self, image: &mut [u8], table: &mut [u64], Asked { slot_exponent, state, draws }: Asked, log: &mut [u8]) -> Answer {
+        match cueledger::Store::traffic(image, table, slot_exponent, state, draws, log) {
+            Ok(cueledger::Traffic { state, written, full }) => Answer::new(if full { FULL } else { 0 }, [state, written as u64]),
+            Err(refusal) => Answer::new(refusal.number(), []),
+        }
+    }
 }
 
 /// Through the exports. Values are not zero beforehand, so that a refusal must give 0 for each of them.
@@ -100,5 +110,15 @@ impl Store for Exports {
                 }
             }
         }
+    }
+}
+
+impl Traffic for Exports {
+    fn traffic(&self, image: &mut [u8], table: &mut [u64], Asked { slot_exponent, state, draws }: Asked, log: &mut [u8]) -> Answer {
+        let (bytes, n, entries, m) = (image.as_mut_ptr(), image.len(), table.as_mut_ptr(), table.len());
+        let (mut after, mut written) = (STALE, STALE);
+        // SAFETY: the three slices are valid and borrowed mutably for the call; the values are locals.
+        let refusal = unsafe { ffi::cue_traffic(bytes, n, entries, m, slot_exponent, state, draws, log.as_mut_ptr(), log.len(), &mut after, &mut written) };
+        Answer::new(refusal, [after, written])
     }
 }

@@ -4,6 +4,7 @@ use cueledger_tests::driver::{compare, RUNNING};
 use cueledger_tests::library::{Exports, Library};
 use cueledger_tests::random::fresh_seed;
 use cueledger_tests::store::Model;
+use cueledger_tests::traffic;
 use std::process::exit;
 use std::sync::atomic::Ordering;
 use std::time::Instant;
@@ -72,7 +73,6 @@ fn main() {
         }
         Ok(counts) => {
             println!("{counts}\n{}", counts.seen);
-            println!("{:.1} s", begun.elapsed().as_secs_f64());
             let (missing, unseen) = (counts.missing(), counts.seen.missing());
             if calls >= 100_000 && !missing.is_empty() || calls >= 1_000_000 && !unseen.is_empty() {
                 println!("never occurred: {missing:?} {unseen:?}");
@@ -80,4 +80,19 @@ fn main() {
             }
         }
     }
+    // and a run of the repeatable load for every hundred calls
+    match traffic::case::compare(&Model, &Exports, &Exports, calls.div_ceil(100), seed) {
+        Err(failure) => {
+            println!("{failure}");
+            exit(1);
+        }
+        Ok(seen) => {
+            println!("repeatable load: {seen}");
+            if calls >= 1_000_000 && !seen.missing().is_empty() {
+                println!("never occurred: {:?}", seen.missing());
+                exit(1);
+            }
+        }
+    }
+    println!("{:.1} s", begun.elapsed().as_secs_f64());
 }

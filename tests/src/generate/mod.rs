@@ -3,7 +3,8 @@
 //! Here are the case, its buffers and its book of objects; `calls` makes one call, `texts` those of texts, `cues` those of
 //! cues with damages for them, `totals` free totals, `distances` those of pointers with damages for them, `empties` objects of no
 //! bytes with damages for them, `pointers` the pointers, `forge` headers inside bodies, `misuse` wrong slices and set-ups, `damage`
-//! what is written behind the store's back; `log` makes a list of calls alone, `blocks` an image of many blocks.
+//! what is written behind the store's back; `log` makes a list of calls alone, `blocks` an image of many blocks, `traffic` runs of the
+//! repeatable load.
 
 pub mod blocks;
 mod calls;
@@ -17,6 +18,7 @@ mod misuse;
 mod pointers;
 mod texts;
 mod totals;
+pub mod traffic;
 
 use crate::case::{Action, Arg, Buffers, Step, View};
 use crate::model;
