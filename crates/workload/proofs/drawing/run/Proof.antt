@@ -58,6 +58,9 @@ loop-holds c = (refl, refl, refl, refl, omega arith, omega arith, record { ends 
 choose-requires : tie.Need-choose-requires Inv-loop μ-loop
 choose-requires c κs = omega arith
 
+sub-if2 : tie.Need-sub-if2 Inv-loop μ-loop
+sub-if2 c = omega arith
+
 make-requires : tie.Need-make-requires Inv-loop μ-loop
 make-requires c κs =
     let t = at-length (at-space c) in
@@ -108,7 +111,7 @@ run-spec =
     (λ c. search needs)
     choose-requires
     (λ c κs. search needs)
-    (λ c. omega arith)
+    sub-if2
     (λ c. search needs)
     make-requires
     put-record-requires
