@@ -10,7 +10,6 @@ use borrow.Author.Tests.{lt-ltb, le-leb}
 use Rattle.io.specs.Digits.{glyph, digits}
 use Rattle.traffic.specs.Number.{isDigit, allDigits, valueFrom, numberFrom, numberOf}
 use Rattle.traffic.specs.Claims.{NumbersReadBack}
-use Rattle.traffic.specs.declared.number.Number.the-variants.{Is}
 
 -- a digit behind others
 all-digits-behind : (bs : List ℕ) (b : ℕ) → allDigits (bs ++ (b ∷ [])) ≡ allDigits bs && isDigit b

@@ -81,7 +81,7 @@ room ps _ (storing i byte l b) = tt
 -- the pointers are the first of an array
 module _ (v : ℕ) (held : List ℕ) (count : ℕ) (fits : count ≤ length held) where
   -- there are as many
-  pub held-count : length (take count held) ≡ count
+  held-count : length (take count held) ≡ count
   held-count = length-take-le count held fits
 
   -- the pointer that the draw picks

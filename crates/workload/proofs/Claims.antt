@@ -19,17 +19,16 @@ use Rattle.store.specs.laws.Shapes.{shape-itself, shape-lengths}
 use Rattle.store.specs.declared.answer.Answer.{Answer}
 use Rattle.store.specs.declared.answer.Answer.the-variants.{Accepted, Refused}
 use Rattle.store.proofs.Claims.{refusals-keep, shapes-kept}
-use Rattle.history.specs.History.{Configuration, begun, allAdmitted}
+use Rattle.history.specs.History.{begun, allAdmitted}
 use Rattle.log.specs.Records.{Records, records}
-use Rattle.log.specs.Run.{answers, leftBy, Run, runOf}
+use Rattle.log.specs.Run.{answers, leftBy, runOf}
 use Rattle.log.specs.Written.{logOf}
-use Rattle.log.specs.laws.Written.{log-none}
 use Rattle.log.specs.declared.record.Call.{Call}
 use Rattle.log.proofs.Claims.{logs-read-back}
-use Rattle.workload.specs.Traffic.{trafficNumber, stateAfter, bytesWritten, Progress, Ended, drawsFrom, started, answerOf, LoggedOutcome, logged, loggedBy, afterSetUp, traffic}
-use Rattle.workload.specs.Claims.{callsMade, logWritten, allAsked, stepped, Recorded, Counted, EqualFresh, RunsAgain, AllRepeatable, Untouched, RefusedSetUp, Shaped, ShapesKept}
-use Rattle.workload.proofs.Premise.{AllMade, load-made, load-shaped}
-use Rattle.workload.proofs.Runs.{Logged, draws-logged, draws-left, Enough, draws-enough, draws-stepped}
+use Rattle.workload.specs.Traffic.{trafficNumber, stateAfter, bytesWritten, Progress, Ended, drawsFrom, started, answerOf, LoggedOutcome, loggedBy, afterSetUp, traffic}
+use Rattle.workload.specs.Claims.{callsMade, logWritten, allAsked, Recorded, Counted, EqualFresh, RunsAgain, AllRepeatable, Untouched, RefusedSetUp, Shaped, ShapesKept}
+use Rattle.workload.proofs.Premise.{load-made, load-shaped}
+use Rattle.workload.proofs.Runs.{draws-logged, draws-left, Enough, draws-enough, draws-stepped}
 
 -- how the answer tells what a load's end is
 

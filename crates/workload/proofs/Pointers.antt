@@ -2,7 +2,7 @@
 -- In order: taking one out; one more, by an answer; the arms of `make`. Assumes nothing.
 use Prim.Native.Nat.{ℕ, suc, _+_, _-_, _≤_, _<_}
 use mathlib.Core.Path.{_≡_, refl, sym, ap, _∙_}
-use mathlib.Core.List.{List, [], _∷_, _++_}
+use mathlib.Core.List.{List, _++_}
 use native.Mathlib.Omega.{arith}
 use native.Mathlib.Numerals.{add-one}
 use lib.ListN.{length, take, drop, getD, set, length-drop}
@@ -97,20 +97,24 @@ module _ (places count : ℕ) (c : Choice) (r : HasRoom places count c) where
   unfolding HasRoom
   room-to-free i p e = rw e at r
 
--- the pointers and the store after the choice of an arm are those after the one that was passed
+-- the store after the choice k of an arm is that after the choice c that was passed
+pub leaves : (x : State) (c k : Choice) (y : State) → c ≡ k → y ≡ made (callOf k) x .after → y ≡ made (callOf c) x .after
+leaves x c k y e p = p ∙ ap (λ (d : Choice). made (callOf d) x .after) (sym e)
+
+-- and so are the pointers
 module _ (x : State) (ps : List ℕ) (c : Choice) where
+  -- one more
   pub joins : (size : ℕ) (left : List ℕ) → c ≡ Allocate size → left ≡ joined (made (callOf (Allocate size)) x .answer) ps
       → left ≡ pointersAfter c (made (callOf c) x .answer) ps
   unfolding pointersAfter
   joins size left e p = rw e p
 
+  -- one less
   pub frees : (i p : ℕ) (left : List ℕ) → c ≡ Free i p → left ≡ removeAt i ps → left ≡ pointersAfter c (made (callOf c) x .answer) ps
   unfolding pointersAfter
   frees i p left e q = rw e q
 
+  -- the same
   pub keeps : (p byte : ℕ) → c ≡ Store p byte → ps ≡ pointersAfter c (made (callOf c) x .answer) ps
   unfolding pointersAfter
   keeps p byte e = rw e refl
-
-  pub leaves : (k : Choice) (y : State) → c ≡ k → y ≡ made (callOf k) x .after → y ≡ made (callOf c) x .after
-  leaves k y e p = p ∙ ap (λ (d : Choice). made (callOf d) x .after) (sym e)

@@ -1,12 +1,12 @@
 -- Every load's calls meet demand 3's premise; free and store are accepted, and allocate is declined only with 8.
 -- The induction is on the draws left. It carries an admitted list that leads to the load's image and table with a heap, so that demand 3 holds of them, and that
 -- the pointers held are the heap's answers. In order: one draw; all draws; the shape that they keep. Assumes nothing.
-use Prim.Native.Nat.{ℕ, zero, suc, _+_, _^_, _≤_, _<_}
+use Prim.Native.Nat.{ℕ, zero, suc, _^_, _≤_, _<_}
 use mathlib.Core.Path.{_≡_, refl, sym, ap, _∙_, subst}
 use mathlib.Core.Bool.{true}
-use mathlib.Core.List.{List, [], _∷_, _++_}
+use mathlib.Core.List.{List, [], _∷_}
 use native.Mathlib.Omega.{arith}
-use lib.ListN.{length, take, drop, getD, length-append, length-take, length-drop}
+use lib.ListN.{length, getD, length-append, length-take, length-drop}
 use lib.Dec.{ltb}
 use borrow.Author.Tests.{lt-ltb}
 use Rattle.block.specs.Layout.{slotExponent}
@@ -33,11 +33,10 @@ use Rattle.log.specs.laws.Run as laws
 use Rattle.log.specs.laws.Written.{allocate-recordable, free-recordable, store-recordable, all-recordable-none, all-recordable-first}
 use Rattle.log.specs.declared.record.Call.{Call}
 use Rattle.workload.specs.Generator.{advanced, drawn}
-use Rattle.workload.specs.Choice.{choiceOf, callOf, removeAt, joined, pointersAfter}
+use Rattle.workload.specs.Choice.{callOf, removeAt, joined, pointersAfter}
 use Rattle.workload.specs.Traffic.{Progress, nextChoice, nextCall, hasSpace, recorded, drawsFrom, callsFrom, started}
 use Rattle.workload.specs.Claims.{AnswersWell, AllWell, allAsked}
 use Rattle.workload.specs.declared.choosing.Choice.{Choice}
-use Rattle.workload.specs.declared.choosing.Choice.the-variants.{Allocate, Free, Store}
 use Rattle.workload.proofs.Choices.{Chosen, allocation, freeing, storing, chosen}
 use Rattle.workload.proofs.Draws.{draws-none, draws-next, draws-full}
 use Rattle.workload.proofs.Runs.{calls-none, calls-next, calls-full}
@@ -45,7 +44,7 @@ use Rattle.workload.proofs.Runs.{calls-none, calls-next, calls-full}
 -- One draw.
 
 -- image and table with the heap beside them
-abbrev pub at : State → Heap → Configuration
+abbrev at : State → Heap → Configuration
 at x heap = record { state = x; heap = heap }
 
 -- what the call of a choice answers

@@ -14,8 +14,7 @@ use Rattle.log.specs.Written.{recordOf, logOf}
 use Rattle.log.specs.laws.Run.{left-none, left-first}
 use Rattle.log.specs.laws.Written.{log-none, log-first}
 use Rattle.log.specs.declared.record.Call.{Call}
-use Rattle.workload.specs.Generator.{advanced}
-use Rattle.workload.specs.Traffic.{Progress, nextCall, hasSpace, recorded, Ended, drawsFrom, callsFrom}
+use Rattle.workload.specs.Traffic.{Progress, nextCall, hasSpace, recorded, drawsFrom, callsFrom}
 use Rattle.workload.specs.Claims.{stepped}
 use Rattle.workload.proofs.Draws.{draws-none, draws-next, draws-full}
 

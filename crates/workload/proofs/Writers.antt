@@ -31,7 +31,8 @@ pub length-store : {c : Choice} {p byte : ℕ} → c ≡ choice.Store p byte →
 length-store {c} {p} {byte} e = length-chosen c (choice.Store p byte) 22 e (ap length (store-record p 1 byte) ∙ simp (length-append, length-encode))
 
 -- what is put is the record of a choice
-pub put-chosen : (log : List ℕ) (at : ℕ) (log′ : List ℕ) {c k : Choice} → log′ ≡ put log at (recordOf (callOf k)) → c ≡ k → log′ ≡ put log at (recordOf (callOf c))
+pub put-chosen : (log : List ℕ) (at : ℕ) (log′ : List ℕ) {c k : Choice} → log′ ≡ put log at (recordOf (callOf k)) → c ≡ k
+    → log′ ≡ put log at (recordOf (callOf c))
 put-chosen log at log′ p e = p ∙ ap (λ (x : Choice). put log at (recordOf (callOf x))) (sym e)
 
 -- length and kind
@@ -40,7 +41,8 @@ head len kind = encode 2 len ++ encode 2 kind
 
 module _ (log : List ℕ) (at : ℕ) where
   -- a field behind what was put, k bytes long
-  field-put : (front : List ℕ) (k w v n : ℕ) → length front ≡ k → at + k ≡ n → n + w ≤ length log → put (put log at front) n (encode w v) ≡ put log at (front ++ encode w v)
+  field-put : (front : List ℕ) (k w v n : ℕ) → length front ≡ k → at + k ≡ n → n + w ≤ length log
+      → put (put log at front) n (encode w v) ≡ put log at (front ++ encode w v)
   field-put front k w v n e f l = put-append log at front (encode w v) n (omega arith) (simp length-encode l)
 
   -- the two parts of the head

@@ -2,14 +2,14 @@
 use Prim.Native.Nat.{ℕ, zero, suc, _+_, _*_, _-_, _^_}
 use mathlib.Core.Path.{_≡_, refl}
 use mathlib.Core.List.{List, [], _∷_, _++_}
-use lib.ListN.{take, drop, replicate}
+use lib.ListN.{take, replicate}
 use Rattle.frame.specs.Frame.{frameNumber, frameNumberIn}
 use Rattle.frame.specs.Pointers.{unpack, pack, goodTag, reach, landed, moved}
 use Rattle.frame.specs.Tags.{wrapper, tagNumber, pointerTo, tagMatches, usedEntries, entryAt}
 use Rattle.block.specs.Bytes.{encode, decode, field, put}
 use Rattle.block.specs.Layout.{superblock, withTotal, superblockGood, header, headerAt, wellFormed, sound}
 use Rattle.block.specs.Walk.{walkIn, walkFrom, walk, fitOf, firstFit, metOf, walkTo}
-use Rattle.store.specs.State.{State, state}
+use Rattle.store.specs.State.{state}
 use Rattle.store.specs.Calls.{setUpChecks, fresh, setUp, opening, entryHolds, fitAnswer, takenExtent, allocateChecks, carved, noted, allocateFor, headerPlace, verified, leadsBack, located, inBody, accessed, storeChecks, store, mergeEnd, mergeStart, released, freeChecks, releasedAt, totalFits, totalled, freeRelease, merged, freed, free}
 use Rattle.store.specs.declared.answer.Answer.the-variants as answer
 use Rattle.store.specs.declared.answer.Refusal.the-variants.{BadExponent, BadLength, TooFewEntries, NoSpace}

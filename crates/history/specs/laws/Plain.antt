@@ -37,7 +37,7 @@ AllPlain (o ∷ os) = Plain o × AllPlain os
 
 -- Allocate's answers.
 
-pub answers-none : answers [] ≡ []
+answers-none : answers [] ≡ []
 unfolding answers
 answers-none = refl
 

@@ -1,6 +1,6 @@
 -- `workload::held::take_out`. The invariant: the pointers from i + 1 up to j have moved down by one, and nothing else has. The measure: how many are
 -- left to move. Assumes nothing.
-use Prim.Native.Nat.{_+_, _-_, _≤_, _<_}
+use Prim.Native.Nat.{_-_, _≤_, _<_}
 use mathlib.Core.Path.{_≡_, refl, sym, ap, _∙_}
 use native.Mathlib.Omega.{arith}
 use lib.ListN.{length, take, length-set}

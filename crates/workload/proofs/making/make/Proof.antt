@@ -4,7 +4,6 @@ use mathlib.Core.Path.{ap}
 use native.Mathlib.Omega.{arith}
 use denote.Ref.{now}
 use borrow.Author.Needs.{needs}
-use lib.ListN.{length, take}
 use Rattle.store.specs.State.{State, state, Outcome}
 use Rattle.workload.proofs.Pointers.{room-to-join, room-to-free, joins, frees, keeps, leaves}
 use Rattle.workload.proofs.making.make.Statement.{statement}
@@ -43,7 +42,8 @@ returns c =
     let a = j .before .before .before .before .before in
     let s = allocating a in
     let e = a .c .given .1 in
-    ((j .join .ensures .0 .0, joins (given s) _ (s .args .c) _ _ e (j .join .ensures .0 .1)), leaves (given s) (take (s .args .count) (s .args .held .now)) (s .args .c) _ _ e (j .join .ensures .1))
+    let ((few, pointers), left) = j .join .ensures in
+    ((few, joins (given s) _ (s .args .c) _ _ e pointers), leaves (given s) (s .args .c) _ _ e left)
 
 -- a free
 returns-2 : tie.Need-returns-2
@@ -51,10 +51,9 @@ returns-2 c =
     let t = c .before .before .before in
     let f = at-free t in
     let s = freeing f in
-    let e = f .c2 .given .1 in (
-      (omega (arith, there f), frees (given s) _ (s .args .c) _ _ _ e (c .before .before .take-out .ensures)),
-      leaves (given s) (take (s .args .count) (s .args .held .now)) (s .args .c) _ _ e (t .before .before .before .before .before .free-number .ensures .1),
-    )
+    let e = f .c2 .given .1 in
+    let left = t .before .before .before .before .before .free-number .ensures .1 in
+    ((omega (arith, there f), frees (given s) _ (s .args .c) _ _ _ e (c .before .before .take-out .ensures)), leaves (given s) (s .args .c) _ _ e left)
 
 -- a store
 returns-3 : tie.Need-returns-3
@@ -62,7 +61,8 @@ returns-3 c =
     let a = c .before .before .before .before .before .before in
     let s = storing a in
     let e = a .c3 .given .1 in
-    ((omega arith, keeps (given s) _ (s .args .c) _ _ e), leaves (given s) (take (s .args .count) (s .args .held .now)) (s .args .c) _ _ e (ap (λ (o : Outcome). o .after) (c .before .before .store-byte .ensures)))
+    let left = ap (λ (o : Outcome). o .after) (c .before .before .store-byte .ensures) in
+    ((omega arith, keeps (given s) _ (s .args .c) _ _ e), leaves (given s) (s .args .c) _ _ e left)
 
 pub make-spec : {M : Type 1} → statement M
 make-spec =
