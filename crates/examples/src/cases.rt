@@ -343,3 +343,14 @@ pub fn damaged(run: Run) -> Run {
     let run = run.make(Call::Allocate(10), BYTES, 7, 0);
     run.tally(7, 0, 0, 0, 0)
 }
+
+// Loads from the state 0: all draws recorded, a log one byte too short, a log of two records, no draw; refusals 23 and 1.
+pub fn loads(run: Run) -> Run {
+    heading(b"Cases: traffic from the state 0, on 1,024 bytes");
+    let run = run.traffic(6, 8, 128, 0, 0xf1bb_cdcb_fa53_e0a8, 128)
+        .tally(0, 4, 208, 736, 64);
+    let run = run.traffic(6, 8, 127, 23, 0x5384_5412_7b09_6493, 106);
+    let run = run.traffic(6, 18446744073709551615, 32, 23, 0x3c6e_f372_fe94_f82a, 32);
+    let run = run.traffic(6, 0, 0, 0, 0, 0);
+    run.traffic(5, 8, 128, 1, 0, 0)
+}

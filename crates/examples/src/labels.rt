@@ -1,5 +1,5 @@
 // The first column of each call's line: 32 places, in the order of the calls.
-pub const LABELS: [u8; 5696] = *b"set up                          \
+pub const LABELS: [u8; 5888] = *b"set up                          \
 10 bytes                        \
 20 bytes                        \
 32 bytes                        \
@@ -176,4 +176,10 @@ free total                      \
 allocate 32                     \
 load through entry 0            \
 allocate 10                     \
-tally                           ";
+tally                           \
+8 draws, 128 bytes of log       \
+tally                           \
+8 draws, 127 bytes of log       \
+2^64-1 draws, 32 bytes of log   \
+no draw, no log                 \
+s = 5                           ";

@@ -30,7 +30,7 @@ fn main() {
     let run = cases::frees(cases::not_open(run));
     let run = cases::measured_empty(cases::empties(cases::fresh(run)));
     let run = cases::totals(cases::cues(run));
-    let run = cases::damaged(cases::spare_totals(run));
+    let run = cases::loads(cases::damaged(cases::spare_totals(run)));
     text(b"\n");
     decimal(run.made);
     text(b" calls, ");

@@ -5,6 +5,7 @@ use store::Answer;
 use store::Comparison;
 use store::Measurement;
 use store::Usage;
+use workload::Traffic;
 
 // Text.
 pub fn text(t: &[u8]) {
@@ -42,7 +43,7 @@ pub fn heading(t: &[u8]) {
 // The label of the call with this number, 0 the first.
 pub fn label(call: u64) {
     text(b"  ");
-    if call < 178 {
+    if call < 184 {
         let at = 32 * call as usize;
         let end = at + 32;
         text(&LABELS[at..end]);
@@ -50,7 +51,7 @@ pub fn label(call: u64) {
 }
 
 // Why a call was declined, by its number; 17 to 19 are a call log's.
-const REASONS: [u8; 828] = *b"no reason known                     \
+const REASONS: [u8; 864] = *b"no reason known                     \
 slot exponent outside 6 to 15       \
 image length outside 64 to 2^30     \
 table too short to set up           \
@@ -72,7 +73,8 @@ no reason known                     \
 no reason known                     \
 no zero byte up to the body's end   \
 table entry does not hold its header\
-free total below 0 or above L - 16  ";
+free total below 0 or above L - 16  \
+log has no space for the next record";
 
 // Text without the blanks at its end.
 fn trimmed(t: &[u8]) {
@@ -91,7 +93,7 @@ fn refused(number: u32) {
     text(b"refused ");
     decimal(number as u64);
     text(b": ");
-    if number < 23 {
+    if number < 24 {
         let at = 36 * number as usize;
         let end = at + 36;
         trimmed(&REASONS[at..end]);
@@ -122,6 +124,27 @@ pub fn ends(m: Measurement) {
             text(b" to the end");
         }
         Measurement::Refused(r) => refused(r.number()),
+    }
+}
+
+// The state and the bytes of log that a load gives.
+fn given(state: u64, written: u64) {
+    text(b"state ");
+    hex(state);
+    text(b", bytes of log ");
+    decimal(written);
+}
+
+// The answer of traffic.
+pub fn load(t: Traffic) {
+    match t {
+        Traffic::Done(state, written) => given(state, written),
+        Traffic::LogFull(state, written) => {
+            refused(23);
+            text(b"; ");
+            given(state, written);
+        }
+        Traffic::Refused(r) => refused(r.number()),
     }
 }
 

@@ -2,6 +2,7 @@
 use crate::print::answer;
 use crate::print::ends;
 use crate::print::label;
+use crate::print::load;
 use crate::print::order;
 use crate::print::text;
 use crate::print::usage;
@@ -10,8 +11,9 @@ use store::Answer;
 use store::Measurement;
 use store::Refusal;
 use store::Usage;
+use workload::Traffic;
 
-// The calls but compare, distances and tally, each with its arguments.
+// The calls but compare, distances, tally and traffic, each with its arguments.
 pub enum Call {
     // Slot exponent.
     SetUp(u32),
@@ -97,6 +99,24 @@ fn has(u: Usage, number: u32, objects: u64, live: u64, free: u64, overhead: u64)
     }
 }
 
+// Makes a load from the state 0, with a log of that many bytes; with 128 where it asks for more.
+fn drawn(image: &mut [u8], table: &mut [u64], s: u32, draws: u64, space: usize) -> Traffic {
+    let mut log = [0u8; 128];
+    if log.len() < space {
+        return workload::traffic(image, table, s, 0, draws, &mut log);
+    }
+    workload::traffic(image, table, s, 0, draws, &mut log[..space])
+}
+
+// Whether traffic returned this number, this state and so many bytes.
+fn recorded(t: Traffic, number: u32, state: u64, written: u64) -> bool {
+    match t {
+        Traffic::Done(g, n) => number == 0 && g == state && n == written,
+        Traffic::LogFull(g, n) => number == 23 && g == state && n == written,
+        Traffic::Refused(r) => r.number() == number,
+    }
+}
+
 // Image and table, of which the first `bytes` and `entries` are lent; the last answer; how many calls were made, and how many answered as
 // expected.
 pub struct Run {
@@ -166,6 +186,26 @@ impl Run {
         label(self.made);
         ends(m);
         self.count(measured(m, number, from_start, to_end))
+    }
+
+    // Traffic, on the whole image and table: the returned number, the state and the bytes of log.
+    pub fn traffic(
+        mut self,
+        s: u32,
+        draws: u64,
+        space: usize,
+        number: u32,
+        state: u64,
+        written: u64,
+    ) -> Run {
+        let mut image = self.image;
+        let mut table = self.table;
+        let t = drawn(&mut image, &mut table, s, draws, space);
+        self.image = image;
+        self.table = table;
+        label(self.made);
+        load(t);
+        self.count(recorded(t, number, state, written))
     }
 
     // Tally: the returned number and the counts.
