@@ -29,8 +29,10 @@ replay: log_is_named target/bin/replay
 log_is_named:
 	@[ -n "$${LOG:-}" ] || { echo 'usage: make replay LOG=file' >&2; exit 2; }
 
+traffic: export STATE := $(STATE)
+traffic: export DRAWS := $(DRAWS)
 traffic: target/bin/traffic
-	@target/bin/traffic "$(STATE)" "$(DRAWS)"
+	@target/bin/traffic "$$STATE" "$$DRAWS"
 
 $(programs): target/bin/%: $(sources)
 	@echo 'Proving the store and the program `$*`: a few minutes the first time, seconds afterwards.' >&2

@@ -1,7 +1,7 @@
 -- Laws of the abstract heap, by header places.
 -- In order: the object at a place; owners; one object more, changed, less; the objects that pass a test; how many there are. Not here: image and table.
 -- Assumes nothing.
-use Prim.Native.Nat.{ℕ, zero, suc, _-_, _<_}
+use Prim.Native.Nat.{ℕ, zero, suc, _<_}
 use mathlib.Core.Path.{_≡_, refl, sym, ap, _∙_}
 use mathlib.Core.Bool.{Bool, true, false, cond}
 use mathlib.Core.List.{[], _∷_, _++_, List·Memᴰ·head, List·Memᴰ·tail, List·Memᴰ·not-nil, List·Memᴰ·cases-cons}
@@ -12,9 +12,9 @@ use lib.ListN.{length, getD}
 use lib.Dec.{eqb}
 use borrow.Author.Tests.{eq-eqb, ne-eqb, eqb-true, eqb-false}
 use Rattle.block.specs.laws.Booleans.{byBool}
-use Rattle.frame.specs.Pointers.{unpack}
 use Rattle.history.specs.Heap.{Object, Heap, holds, ownerOf, change, without, passing}
 use Rattle.history.specs.History.{In, Pairwise, headerOf, known}
+use Rattle.history.specs.laws.Plain.{answer-place}
 
 -- the first object with its header at k
 unfoldable pub find : Heap → ℕ → Option Object
@@ -207,10 +207,6 @@ change-nobody f (x ∷ xs) p e =
     (λ u. rw u (ap (λ (r : Heap). x ∷ r) (change-nobody f xs p (rw u at e))))
 
 -- One object less.
-
--- one answer, one header place
-pub answer-place : (o o′ : Object) → o .answer ≡ o′ .answer → headerOf o ≡ headerOf o′
-answer-place o o′ e = ap (λ (a : ℕ). unpack a .address - 16) e
 
 pub find-without : (heap : Heap) (o : Object) (k : ℕ) → Distinct heap → find heap (headerOf o) ≡ some o
     → find (without heap (o .answer)) k ≡ cond (eqb k (headerOf o)) none (find heap k)

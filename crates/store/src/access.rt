@@ -83,7 +83,7 @@ pub fn store(image: &mut [u8], table: &[u64], pointer: u64, width: u64, value: u
     }
 }
 
-// The same for one byte, whose rows 14 and 16 are passed: a path of its own, so that `store` stays in one piece with its export.
+// The same for one byte, where rows 14 and 16 cannot come: a path of its own, so that `store` stays in one piece with its export.
 pub fn store_byte(image: &mut [u8], table: &[u64], pointer: u64, byte: u8) -> Answer
     ensures { λ r. ⌜ outcome r (now (image .exit)) (now (table .entry)) ≡ store pointer 1 byte (state (now (image .entry)) (now (table .entry))) ⌝ }
 {

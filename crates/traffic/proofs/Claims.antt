@@ -17,6 +17,7 @@ unfolding allDigits
 all-digits-behind [] b = and-true (isDigit b)
 all-digits-behind (a ∷ bs) b = ap (λ (t : Bool). isDigit a && t) (all-digits-behind bs b) ∙ sym (and-assoc (isDigit a) (allDigits bs) (isDigit b))
 
+-- the value with it
 value-behind : (n : ℕ) (bs : List ℕ) (b : ℕ) → valueFrom n (bs ++ (b ∷ [])) ≡ 10 * valueFrom n bs + (b - 48)
 unfolding valueFrom
 value-behind n [] b = refl
@@ -26,6 +27,7 @@ value-behind n (a ∷ bs) b = value-behind (10 * n + (a - 48)) bs b
 last-digit : (n : ℕ) → glyph (n % 10) ≡ 48 + n % 10
 last-digit n = rw (lt-ltb (n % 10) 10 (omega arith)) refl
 
+-- all are digits
 digits-are : (k n : ℕ) → allDigits (digits 10 k n) ≡ true
 unfolding allDigits
 digits-are zero n = refl
@@ -33,6 +35,7 @@ digits-are (suc k) n =
     all-digits-behind (digits 10 k (n / 10)) (glyph (n % 10))
     ∙ rw (digits-are k (n / 10), last-digit n, le-leb 48 (48 + n % 10) (omega arith), le-leb (48 + n % 10) 57 (omega arith)) refl
 
+-- and have the number's value
 digits-value : (k n : ℕ) → n < 10 ^ k → valueFrom 0 (digits 10 k n) ≡ n
 unfolding valueFrom
 digits-value zero n l = omega arith

@@ -1,10 +1,14 @@
--- Words that are numbers, and words that are none, by computation. Assumes nothing.
-use Prim.Native.Nat.{ℕ, _-_, _^_}
+-- Words that are numbers, and words that are none; the program's store. By computation. Assumes nothing.
+use Prim.Native.Nat.{_-_, _^_}
 use Prim.Native.String.{String}
 use mathlib.Core.Path.{_≡_, refl}
+use mathlib.Core.Bool.{true, false}
 use mathlib.Core.List.{List, [], _∷_}
+use lib.ListN.{length}
 use Rattle.log.specs.Text.{ascii}
 use Rattle.traffic.specs.Number.{allDigits, valueFrom, numberFrom, numberOf}
+use Rattle.traffic.specs.Program.{blank, isFull}
+use Rattle.workload.specs.declared.answer.Traffic.the-variants.{Done, LogFull}
 use Rattle.traffic.specs.declared.number.Number.{Number}
 use Rattle.traffic.specs.declared.number.Number.the-variants.{Is, Malformed}
 
@@ -13,9 +17,11 @@ pub record Case : Type 0 where
   pub word : String
   pub number : Number
 
+-- made of both
 abbrev case : String → Number → Case
 case w n = record { word = w; number = n }
 
+-- words and their numbers
 abbrev pub cases : List Case
 cases =
     case "0" (Is 0)
@@ -55,3 +61,7 @@ expected (c ∷ cs) = c .number ∷ expected cs
 pub cases-hold : read cases ≡ expected cases
 unfolding allDigits valueFrom numberFrom numberOf
 cases-hold = refl
+
+-- the lengths of image and table, and what is a full log
+pub program : (length (blank .image) ≡ 8192) × (length (blank .table) ≡ 768) × (isFull (Done 7 9) ≡ false) × (isFull (LogFull 7 9) ≡ true)
+program = (refl, refl, refl, refl)

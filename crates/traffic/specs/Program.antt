@@ -12,9 +12,9 @@ use Rattle.workload.specs.declared.answer.Traffic.the-variants.{Done, LogFull, 
 abbrev pub blank : State
 blank = state (replicate 8192 0) (replicate 768 0)
 
--- a load on it at the slot exponent 8
-abbrev pub load : ℕ → ℕ → List ℕ → LoggedOutcome
-load g draws log = traffic 8 g draws blank log
+-- a workload on it at the slot exponent 8
+abbrev pub programRun : ℕ → ℕ → List ℕ → LoggedOutcome
+programRun g draws log = traffic 8 g draws blank log
 
 -- whether its log has no space for the next record
 abbrev pub isFull : Traffic → Bool

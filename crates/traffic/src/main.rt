@@ -1,4 +1,4 @@
-// Writes the log of a repeatable load to standard output: `traffic [STATE [DRAWS]]`.
+// Writes the log of a repeatable workload to standard output: `traffic [STATE [DRAWS]]`.
 mod number;
 mod recording;
 
@@ -14,7 +14,7 @@ enum Request {
     Malformed,
 }
 
-// Argument i as a number; `default` where it is missing. One of over 64 bytes is read as an empty one, which is no number either.
+// Argument i as a number; `default` where it is missing. One of over 64 bytes is refused, as an empty one is.
 fn argument(i: usize, default: u64) -> Number {
     if os::arg_count() <= i {
         return Number::Is(default);

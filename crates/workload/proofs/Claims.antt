@@ -9,7 +9,7 @@ use native.Mathlib.Omega.{arith}
 use lib.ListN.{length, take, drop}
 use lib.Dec.{eqb}
 use borrow.Author.Tests.{eqb-true, eqb-false}
-use Rattle.block.specs.laws.Booleans.{byBool}
+use Rattle.block.specs.laws.Booleans.{byBool, true-false}
 use Rattle.store.specs.State.{State, IsAccepted, returned}
 use Rattle.store.specs.Calls.{setUp}
 use Rattle.store.specs.Claims.{KeepsShape}
@@ -26,11 +26,11 @@ use Rattle.log.specs.Written.{logOf}
 use Rattle.log.specs.declared.record.Call.{Call}
 use Rattle.log.proofs.Claims.{logs-read-back}
 use Rattle.workload.specs.Traffic.{trafficNumber, stateAfter, bytesWritten, Progress, Ended, drawsFrom, started, answerOf, LoggedOutcome, loggedBy, afterSetUp, traffic}
-use Rattle.workload.specs.Claims.{callsMade, logWritten, allAsked, Recorded, Counted, EqualFresh, RunsAgain, AllRepeatable, Untouched, RefusedSetUp, Shaped, ShapesKept}
+use Rattle.workload.specs.Claims.{callsMade, logWritten, allAsked, Recorded, Counted, EqualFresh, RunsAgain, AllRepeatable, Untouched, RefusedSetUp, Shaped, StayShaped}
 use Rattle.workload.proofs.Premise.{load-made, load-shaped}
-use Rattle.workload.proofs.Runs.{draws-logged, draws-left, Enough, draws-enough, draws-stepped}
+use Rattle.workload.proofs.Runs.{draws-logged, draws-left, Enough, draws-enough, draws-stepped, draws-roomy}
 
--- how the answer tells what a load's end is
+-- how the answer tells what a workload's end is
 
 bytes-are : (full : Bool) (r : Progress) → bytesWritten (answerOf (record { full = full; at = r })) ≡ r .written
 bytes-are true r = refl
@@ -52,6 +52,10 @@ done-enough false r n calls e z = e
 full-enough : (full : Bool) (r : Progress) (n calls : ℕ) → Enough full n calls → trafficNumber (answerOf (record { full = full; at = r })) ≡ 23 → calls < n
 full-enough true r n calls e z = e
 full-enough false r n calls e z = absurd (omega arith)
+
+not-full : (full : Bool) (r : Progress) → full ≡ false → trafficNumber (answerOf (record { full = full; at = r })) ≡ 0
+not-full true r e = absurd (true-false refl e)
+not-full false r e = refl
 
 module _ (s g draws : ℕ) (x : State) (log : List ℕ) where
   -- where the draws begin and end
@@ -82,13 +86,14 @@ module _ (s g draws : ℕ) (x : State) (log : List ℕ) where
           read-back = ap records whole ∙ logs-read-back .whole (callsMade s g draws x log) (load-made s x e g draws log .are-recordable);
         }
 
-    counted-is : Counted g draws (callsMade s g draws x log) (loggedBy ends)
+    counted-is : Counted g draws log (callsMade s g draws x log) (loggedBy ends)
     counted-is =
         let k = draws-enough draws begins in
         record {
           number = number-is (ends .full) (ends .at);
           done = done-enough (ends .full) (ends .at) draws _ k;
           full = full-enough (ends .full) (ends .at) draws _ k;
+          roomy = λ l. not-full (ends .full) (ends .at) (draws-roomy draws begins (omega arith));
           state = state-is (ends .full) (ends .at) ∙ draws-stepped draws begins;
         }
 
@@ -111,7 +116,7 @@ module _ (s g draws : ℕ) (x : State) (log : List ℕ) where
               ∙ (λ i. record { answered = answers cs (f i); fault = none; after = left-is i });
         }
 
--- every load is repeatable
+-- every workload is repeatable
 pub all-repeatable : AllRepeatable
 unfolding AllRepeatable
 all-repeatable s g draws x log e =
@@ -119,7 +124,7 @@ all-repeatable s g draws x log e =
     let m = load-made s x e g draws log in
     record {
       recorded = subst (Recorded (callsMade s g draws x log) log) t (recorded-is s g draws x log e);
-      counted = subst (Counted g draws (callsMade s g draws x log)) t (counted-is s g draws x log e);
+      counted = subst (Counted g draws log (callsMade s g draws x log)) t (counted-is s g draws x log e);
       again = λ y f. subst (RunsAgain s x y (callsMade s g draws x log)) t (runs-again s g draws x log e y f);
       well = m .well;
       held = record { live = m .live; few = m .few };
@@ -136,7 +141,7 @@ pub refused-set-up : RefusedSetUp
 unfolding RefusedSetUp traffic
 refused-set-up s g draws x log n = refused-after s g draws x log n (setUp s x .answer) refl
 
--- shapes: of an accepted load
+-- shapes: of an accepted workload
 accepted-shaped : (s g draws : ℕ) (x : State) (log : List ℕ) → IsAccepted (setUp s x) → Shaped s x log (traffic s g draws x log)
 accepted-shaped s g draws x log e =
     let k = draws-logged draws (started g (setUp s x .after) log) (omega arith) in
@@ -157,9 +162,9 @@ untouched-shaped s x log t u =
       inside = subst (λ (m : ℕ). m ≤ length log) (sym (u .none-written)) (omega arith);
     }
 
-pub load-shapes-kept : ShapesKept
-unfolding ShapesKept RefusedSetUp
-load-shapes-kept s g draws x log =
+pub stay-shaped : StayShaped
+unfolding StayShaped RefusedSetUp
+stay-shaped s g draws x log =
     let r : ℕ = returned (setUp s x .answer) in
     byBool (eqb r 0)
     (λ t. accepted-shaped s g draws x log (eqb-true r 0 t))
@@ -168,5 +173,5 @@ load-shapes-kept s g draws x log =
 -- the bytes written lie in the log
 pub load-inside : (s g draws : ℕ) (x : State) (log : List ℕ)
     → (bytesWritten (traffic s g draws x log .answer) ≤ length log) × (length (traffic s g draws x log .log) ≡ length log)
-unfolding ShapesKept
-load-inside s g draws x log = let k = load-shapes-kept s g draws x log in (k .inside, k .log-length)
+unfolding StayShaped
+load-inside s g draws x log = let k = stay-shaped s g draws x log in (k .inside, k .log-length)

@@ -40,7 +40,7 @@ module _ (n : ℕ) (r : Progress) where
 
 -- The loop.
 
--- a load by its parts
+-- a workload by its parts
 abbrev progress : ℕ → List ℕ → State → List ℕ → ℕ → Progress
 progress g ps x log written = record { generator = g; pointers = ps; store = x; log = log; written = written }
 

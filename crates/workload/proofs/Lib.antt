@@ -3,7 +3,7 @@ mod Choices
 mod Pointers
 mod Writers
 mod Draws
--- What holds of every load.
+-- What holds of every workload.
 mod Runs
 mod Premise
 -- The claims.

@@ -1,5 +1,5 @@
--- Every load's calls meet demand 3's premise; free and store are accepted, and allocate is declined only with 8.
--- The induction is on the draws left. It carries an admitted list that leads to the load's image and table with a heap, so that demand 3 holds of them, and that
+-- Every workload's calls meet demand 3's premise; free and store are accepted, and allocate is declined only with 8.
+-- The induction is on the draws left. It carries an admitted list that leads to the workload's image and table with a heap, so that demand 3 holds of them, and that
 -- the pointers held are the heap's answers. In order: one draw; all draws; the shape that they keep. Assumes nothing.
 use Prim.Native.Nat.{ℕ, zero, suc, _^_, _≤_, _<_}
 use mathlib.Core.Path.{_≡_, refl, sym, ap, _∙_, subst}
@@ -48,20 +48,20 @@ abbrev at : State → Heap → Configuration
 at x heap = record { state = x; heap = heap }
 
 -- what the call of a choice answers
-abbrev answerOf : Choice → State → Answer
-answerOf c x = made (callOf c) x .answer
+abbrev answered : Choice → State → Answer
+answered c x = made (callOf c) x .answer
 
 -- the heap after it
 abbrev heapAfter : Choice → State → Heap → Heap
-heapAfter c x heap = hear heap (asked (callOf c)) (answerOf c x)
+heapAfter c x heap = hear heap (asked (callOf c)) (answered c x)
 
 -- What holds of a choice's call: a record can hold it, demand 3 admits it, it answers well, and the pointers after it are held.
 record Made (x : State) (heap : Heap) (ps : List ℕ) (c : Choice) : Type 0 where
   is-recordable : recordable (callOf c) ≡ true
   is-admitted : admitted heap (asked (callOf c)) ≡ true
-  well : AnswersWell (callOf c) (returned (answerOf c x))
-  held : Held (heapAfter c x heap) (pointersAfter c (answerOf c x) ps)
-  few : length ps ≤ 64 → length (pointersAfter c (answerOf c x) ps) ≤ 64
+  well : AnswersWell (callOf c) (returned (answered c x))
+  held : Held (heapAfter c x heap) (pointersAfter c (answered c x) ps)
+  few : length ps ≤ 64 → length (pointersAfter c (answered c x) ps) ≤ 64
 
 -- one more pointer, where there is room
 joined-few : (a : Answer) (ps : List ℕ) → length ps < 64 → length (joined a ps) ≤ 64
@@ -166,7 +166,7 @@ module _ (s : ℕ) (x : State) (e : IsAccepted (setUp s x)) where
       (draws-made n (recorded r) (heapAfter (nextChoice r) (r .store) heap) (reached-next (asked (nextCall r)) q (m .is-admitted)) (m .held) (m .few l))))
       (λ t. rw (calls-full n r t, draws-full n r t) (none-made (at (r .store) heap) (r .pointers) h l))
 
-  -- a load begins with no pointers and the empty heap
+  -- a workload begins with no pointers and the empty heap
   pub load-made : (g draws : ℕ) (log : List ℕ)
       → AllMade (callsFrom draws (started g (setUp s x .after) log)) (begun s x) (drawsFrom draws (started g (setUp s x .after) log) .at .pointers)
   load-made g draws log = draws-made draws (started g (setUp s x .after) log) [] (reached-itself (begun s x)) held-none (omega arith)

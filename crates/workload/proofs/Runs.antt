@@ -1,12 +1,13 @@
--- What the draws of a load leave.
--- In order: their calls, one by one; the log; image and table; how many calls there are. Not here: the abstract heap. Assumes nothing.
-use Prim.Native.Nat.{ℕ, zero, suc, _+_, _≤_, _<_}
+-- What the draws of a workload leave.
+-- In order: their calls, one by one; the log; image and table; how many calls there are, and when none is left out. Not here: the abstract heap. Assumes nothing.
+use Prim.Native.Nat.{ℕ, zero, suc, _+_, _*_, _≤_, _<_}
 use mathlib.Core.Path.{_≡_, refl, sym, ap, _∙_}
 use mathlib.Core.Bool.{Bool, true, false}
 use mathlib.Core.List.{List, [], _∷_, _++_, append-assoc, append-nil}
 use native.Mathlib.Omega.{arith}
 use lib.ListN.{length, take, drop}
-use borrow.Author.Tests.{leb-true}
+use borrow.Author.Tests.{leb-true, le-leb}
+use Rattle.block.specs.Bytes.{put}
 use Rattle.block.specs.laws.Booleans.{byBool}
 use Rattle.block.specs.laws.Writes.{length-put, take-put-end, drop-put-above}
 use Rattle.log.specs.Run.{leftBy}
@@ -14,9 +15,10 @@ use Rattle.log.specs.Written.{recordOf, logOf}
 use Rattle.log.specs.laws.Run.{left-none, left-first}
 use Rattle.log.specs.laws.Written.{log-none, log-first}
 use Rattle.log.specs.declared.record.Call.{Call}
-use Rattle.workload.specs.Traffic.{Progress, nextCall, hasSpace, recorded, drawsFrom, callsFrom}
+use Rattle.workload.specs.Traffic.{Progress, nextChoice, nextCall, hasSpace, recorded, drawsFrom, callsFrom}
 use Rattle.workload.specs.Claims.{stepped}
 use Rattle.workload.proofs.Draws.{draws-none, draws-next, draws-full}
+use Rattle.workload.proofs.Writers.{length-most}
 
 -- no draw, no call
 pub calls-none : (r : Progress) → callsFrom 0 r ≡ []
@@ -127,3 +129,14 @@ draws-stepped (suc n) r =
     byBool (hasSpace r)
     (λ t. rw (calls-next n r t, draws-next n r t) (draws-stepped n (recorded r)))
     (λ f. rw (calls-full n r f, draws-full n r f) refl)
+
+-- a log with space for so many of the longest records is not full
+pub draws-roomy : (n : ℕ) (r : Progress) → r .written + 22 * n ≤ length (r .log) → drawsFrom n r .full ≡ false
+unfolding recorded
+draws-roomy zero r l = rw (draws-none r) refl
+draws-roomy (suc n) r l =
+    let bs : List ℕ = recordOf (nextCall r) in
+    let most : length bs ≤ 22 = length-most (nextChoice r) in
+    let fits : r .written + length bs ≤ length (r .log) = omega arith in
+    let long : length (put (r .log) (r .written) bs) ≡ length (r .log) = length-put (r .log) (r .written) bs fits in
+    rw (draws-next n r (le-leb _ _ fits)) (draws-roomy n (recorded r) (omega arith))

@@ -1,6 +1,6 @@
 -- The record of a choice: how long it is, and that it is put in parts: length and kind, then field by field. Assumes nothing.
 use Prim.Native.Nat.{ℕ, _+_, _≤_}
-use mathlib.Core.Path.{_≡_, sym, ap, _∙_}
+use mathlib.Core.Path.{_≡_, refl, sym, ap, _∙_}
 use mathlib.Core.List.{List, _++_, append-assoc}
 use native.Mathlib.Omega.{arith}
 use lib.ListN.{length, length-append}
@@ -36,7 +36,7 @@ pub put-chosen : (log : List ℕ) (at : ℕ) (log′ : List ℕ) {c k : Choice} 
 put-chosen log at log′ p e = p ∙ ap (λ (x : Choice). put log at (recordOf (callOf x))) (sym e)
 
 -- length and kind
-abbrev pub head : ℕ → ℕ → List ℕ
+abbrev head : ℕ → ℕ → List ℕ
 head len kind = encode 2 len ++ encode 2 kind
 
 module _ (log : List ℕ) (at : ℕ) where
@@ -78,3 +78,9 @@ module _ (log : List ℕ) (at : ℕ) where
       (field-put (front ++ encode 8 p) 12 2 width (at + 12) (simp (length-append, length-encode)) (omega arith) (omega arith))
       ∙ field-put ((front ++ encode 8 p) ++ encode 2 width) 14 8 v (at + 14) (simp (length-append, length-encode)) (omega arith) (omega arith)
       ∙ ap (put log at) (whole ∙ sym (store-record p width v))
+
+-- no record is longer than a store's
+pub length-most : (c : Choice) → length (recordOf (callOf c)) ≤ 22
+length-most (choice.Allocate size) = omega (arith, length-allocate {c = choice.Allocate size} refl)
+length-most (choice.Free i p) = omega (arith, length-free {c = choice.Free i p} refl)
+length-most (choice.Store p byte) = omega (arith, length-store {c = choice.Store p byte} refl)

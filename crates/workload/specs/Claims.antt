@@ -1,5 +1,5 @@
--- What holds of every load: document 02, W10. Assumes nothing.
-use Prim.Native.Nat.{ℕ, zero, suc, _≤_, _<_}
+-- What holds of every workload: document 02, W10. Assumes nothing.
+use Prim.Native.Nat.{ℕ, zero, suc, _*_, _≤_, _<_}
 use mathlib.Core.Path.{_≡_}
 use mathlib.Core.Logic.{_⊎_}
 use mathlib.Core.Bool.{true}
@@ -20,7 +20,7 @@ use Rattle.log.specs.declared.record.Call.the-variants.{Allocate, Free, Move, L
 use Rattle.workload.specs.Generator.{advanced}
 use Rattle.workload.specs.Traffic.{trafficNumber, stateAfter, bytesWritten, drawsFrom, started, LoggedOutcome, traffic, callsFrom}
 
--- the calls that a load makes after an accepted set-up
+-- the calls that a workload makes after an accepted set-up
 abbrev pub callsMade : ℕ → ℕ → ℕ → State → List ℕ → List Call
 callsMade s g draws x log = callsFrom draws (started g (setUp s x .after) log)
 
@@ -48,14 +48,15 @@ pub record Recorded (calls : List Call) (log : List ℕ) (t : LoggedOutcome) : T
   pub later : drop (bytesWritten (t .answer)) (t .log) ≡ drop (bytesWritten (t .answer)) log
   pub read-back : records (logWritten t) ≡ record { calls = calls; fault = none }
 
--- The answer: 0 with a call for each draw, or 23 with fewer; the state is as many steps on as there are calls.
-pub record Counted (g draws : ℕ) (calls : List Call) (t : LoggedOutcome) : Type 0 where
+-- The answer: 0 with a call for each draw, or 23 with fewer; 0 where the log has 22 bytes for each; the state is as many steps on as there are calls.
+pub record Counted (g draws : ℕ) (log : List ℕ) (calls : List Call) (t : LoggedOutcome) : Type 0 where
   pub number : (trafficNumber (t .answer) ≡ 0) ⊎ (trafficNumber (t .answer) ≡ 23)
   pub done : trafficNumber (t .answer) ≡ 0 → length calls ≡ draws
   pub full : trafficNumber (t .answer) ≡ 23 → length calls < draws
+  pub roomy : 22 * draws ≤ length log → trafficNumber (t .answer) ≡ 0
   pub state : stateAfter (t .answer) ≡ stepped (length calls) g
 
--- an equal fresh image: set-up leaves y as it leaves x
+-- an equal fresh image and table, entries beyond the used ones included: set-up leaves y as it leaves x
 abbrev pub EqualFresh : ℕ → State → State → Type 0
 EqualFresh s x y = setUp s y .after ≡ setUp s x .after
 
@@ -65,7 +66,7 @@ pub record RunsAgain (s : ℕ) (x y : State) (calls : List Call) (t : LoggedOutc
   pub admitted : allAdmitted (allAsked (records (logWritten t) .calls)) (begun s y) ≡ true
   pub same : runOver (logWritten t) (setUp s y .after) ≡ record { answered = answers calls (setUp s x .after); fault = none; after = t .after }
 
--- what a call of a load may answer: allocate 0 or 8, free and store 0; there is no other
+-- what a call of a workload may answer: allocate 0 or 8, free and store 0; there is no other
 abbrev pub AnswersWell : Call → ℕ → Type 0
 AnswersWell (Allocate size type) r = (r ≡ 0) ⊎ (r ≡ 8)
 AnswersWell (Free p) r = r ≡ 0
@@ -80,31 +81,31 @@ unfoldable pub AllWell : List Answered → Type 0
 AllWell [] = Unit
 AllWell (a ∷ rest) = AnswersWell (a .call) (returned (a .answer)) × AllWell rest
 
--- The pointers held are those of the live objects, in the order of their allocation, and at most 64.
+-- The pointers held are those of the live objects, in the order of their allocation, and at most 64; at every draw, since a workload of fewer draws ends there.
 pub record HeldLive (s : ℕ) (x : State) (calls : List Call) (pointers : List ℕ) : Type 0 where
   pub live : history.answers (after (allAsked calls) (begun s x) .heap) ≡ pointers
   pub few : length pointers ≤ 64
 
--- What holds of a load whose set-up is accepted.
+-- What holds of a workload whose set-up is accepted.
 pub record Repeatable (s g draws : ℕ) (x : State) (log : List ℕ) : Type 0 where
   pub recorded : Recorded (callsMade s g draws x log) log (traffic s g draws x log)
-  pub counted : Counted g draws (callsMade s g draws x log) (traffic s g draws x log)
+  pub counted : Counted g draws log (callsMade s g draws x log) (traffic s g draws x log)
   pub again : (y : State) → EqualFresh s x y → RunsAgain s x y (callsMade s g draws x log) (traffic s g draws x log)
   pub well : AllWell (answers (callsMade s g draws x log) (setUp s x .after))
   pub held : HeldLive s x (callsMade s g draws x log) (pointersHeld s g draws x log)
 
--- Every such load is repeatable.
+-- Every such workload is repeatable.
 unfoldable pub AllRepeatable : Type 0
 AllRepeatable = (s g draws : ℕ) (x : State) (log : List ℕ) → IsAccepted (setUp s x) → Repeatable s g draws x log
 
--- A load leaves image, table and log as they were, and both values are 0.
+-- A workload leaves image, table and log as they were, and both values are 0.
 pub record Untouched (x : State) (log : List ℕ) (t : LoggedOutcome) : Type 0 where
   pub store-kept : t .after ≡ x
   pub log-kept : t .log ≡ log
   pub no-state : stateAfter (t .answer) ≡ 0
   pub none-written : bytesWritten (t .answer) ≡ 0
 
--- Where set-up is refused, so is the load, with the same number.
+-- Where set-up is refused, so is the workload, with the same number.
 unfoldable pub RefusedSetUp : Type 0
 RefusedSetUp =
     (s g draws : ℕ) (x : State) (log : List ℕ) → (IsAccepted (setUp s x) → ⊥)
@@ -116,6 +117,6 @@ pub record Shaped (s : ℕ) (x : State) (log : List ℕ) (t : LoggedOutcome) : T
   pub log-length : length (t .log) ≡ length log
   pub inside : bytesWritten (t .answer) ≤ length log
 
--- So for every load, refused or not.
-unfoldable pub ShapesKept : Type 0
-ShapesKept = (s g draws : ℕ) (x : State) (log : List ℕ) → Shaped s x log (traffic s g draws x log)
+-- So for every workload, refused or not.
+unfoldable pub StayShaped : Type 0
+StayShaped = (s g draws : ℕ) (x : State) (log : List ℕ) → Shaped s x log (traffic s g draws x log)

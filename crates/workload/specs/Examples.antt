@@ -4,7 +4,7 @@ use mathlib.Core.Path.{_≡_, refl}
 use mathlib.Core.List.{List, [], _∷_, _++_}
 use lib.ListN.{take, replicate}
 use Rattle.frame.specs.Frame.{frameNumber, frameNumberIn}
-use Rattle.frame.specs.Pointers.{unpack, pack, goodTag, reach, landed, moved}
+use Rattle.frame.specs.Pointers.{unpack, pack, goodTag, reach}
 use Rattle.frame.specs.Tags.{wrapper, tagNumber, pointerTo, tagMatches, usedEntries, entryAt}
 use Rattle.block.specs.Bytes.{encode, decode, field, put}
 use Rattle.block.specs.Layout.{superblock, withTotal, superblockGood, header, headerAt, wellFormed, sound}
@@ -63,7 +63,7 @@ abbrev numbers : ℕ → ℕ → List ℕ
 numbers zero k = []
 numbers (suc n) k = k ∷ numbers n (suc k)
 
--- with no pointers every draw allocates, 1 to 97 bytes; with one; with 63, and with 64, where none does
+-- with no pointers every draw allocates, 1 to 97 bytes; with one; with 63, and with 64, where none does; with all 64 bits of v
 pub choices :
     (choiceOf (256 * 96 + 0) [] ≡ Allocate 97)
     × (choiceOf (256 * 97 + 1) [] ≡ Allocate 1)
@@ -80,8 +80,10 @@ pub choices :
     × (choiceOf (256 * 130 + 2) (numbers 64 100) ≡ Free 2 102)
     × (choiceOf (256 * 130 + 255) (numbers 64 100) ≡ Store 102 255)
     × (choiceOf (256 * 191 + 254) (numbers 64 100) ≡ Free 63 163)
+    × (choiceOf 0x582F15BAB60040B7 (numbers 63 100) ≡ Store 154 183)
+    × (choiceOf (2 ^ 64 - 2) (numbers 63 100) ≡ Free 3 103)
 unfolding allocates choiceOf
-choices = (refl, refl, refl, refl, refl, refl, refl, refl, refl, refl, refl, refl, refl, refl, refl)
+choices = (refl, refl, refl, refl, refl, refl, refl, refl, refl, refl, refl, refl, refl, refl, refl, refl, refl)
 
 -- an accepted pointer goes behind the others, and a declined allocation adds none; the freed one goes out, and later ones move down; a store changes nothing
 pub pointers-after :
@@ -145,7 +147,7 @@ pub loads :
     × (load 0 2 ≡ logged (Done 8 0) (state image table) (5 ∷ 5 ∷ []))
     × (load 6 9 ≡ logged (LogFull 8 0) (state image table) (replicate 9 5))
     × (load (2 ^ 64 - 1) 0 ≡ logged (LogFull 8 0) (state image table) [])
-unfolding frameNumber frameNumberIn unpack pack goodTag reach landed moved wrapper tagNumber pointerTo tagMatches usedEntries entryAt encode decode field put superblock withTotal superblockGood header headerAt wellFormed sound walkIn walkFrom walk fitOf firstFit metOf walkTo setUpChecks fresh setUp opening entryHolds fitAnswer takenExtent allocateChecks carved noted allocateFor headerPlace verified leadsBack located inBody accessed storeChecks store mergeEnd mergeStart released freeChecks releasedAt totalFits totalled freeRelease merged freed free fieldBytes encodeAll fieldsOf recordOf logOf advanced xorRight xorLeft drawn allocates choiceOf removeAt pointersAfter recorded drawsFrom traffic
+unfolding frameNumber frameNumberIn unpack pack goodTag reach wrapper tagNumber pointerTo tagMatches usedEntries entryAt encode decode field put superblock withTotal superblockGood header headerAt wellFormed sound walkIn walkFrom walk fitOf firstFit metOf walkTo setUpChecks fresh setUp opening entryHolds fitAnswer takenExtent allocateChecks carved noted allocateFor headerPlace verified leadsBack located inBody accessed storeChecks store mergeEnd mergeStart released freeChecks releasedAt totalFits totalled freeRelease merged freed free fieldBytes encodeAll fieldsOf recordOf logOf advanced xorRight xorLeft drawn allocates choiceOf removeAt pointersAfter recorded drawsFrom traffic
 loads = (refl, refl, refl, refl, refl, refl, refl, refl)
 
 -- an image and table of those lengths, full of other numbers, at a slot exponent

@@ -1,4 +1,4 @@
--- The repeatable load: document 02, W10. Assumes nothing.
+-- The repeatable workload: document 02, W10. Assumes nothing.
 use Prim.Native.Nat.{ℕ, zero, suc, _+_}
 use mathlib.Core.Bool.{Bool, true, false, cond}
 use mathlib.Core.List.{List, [], _∷_}
@@ -40,7 +40,7 @@ bytesWritten (Refused r) = 0
 
 -- The draws.
 
--- How far a load is: the generator's state, the live pointers in the order of their allocation, image and table, the log and how much of it is written.
+-- How far a workload is: the generator's state, the live pointers in the order of their allocation, image and table, the log and how much of it is written.
 pub record Progress : Type 0 where
   pub generator : ℕ
   pub pointers : List ℕ
@@ -72,7 +72,7 @@ recorded r =
       written = r .written + length (recordOf (nextCall r));
     }
 
--- How a load ends: with a full log, or with all draws recorded.
+-- How a workload ends: with a full log, or with all draws recorded.
 pub record Ended : Type 0 where
   pub full : Bool
   pub at : Progress
@@ -102,7 +102,7 @@ pub record LoggedOutcome : Type 0 where
 abbrev pub logged : Traffic → State → List ℕ → LoggedOutcome
 logged a x log = record { answer = a; after = x; log = log }
 
--- the answer, by how the load ends: 23 for a full log, the state and the bytes either way
+-- the answer, by how it ends: 23 for a full log, the state and the bytes either way
 abbrev pub answerOf : Ended → Traffic
 answerOf e = cond (e .full) (LogFull (e .at .generator) (e .at .written)) (Done (e .at .generator) (e .at .written))
 
@@ -115,7 +115,7 @@ abbrev pub afterSetUp : Outcome → ℕ → ℕ → List ℕ → Answer → Logg
 afterSetUp o g draws log (setting.Refused r) = logged (Refused r) (o .after) log
 afterSetUp o g draws log (setting.Accepted v) = loggedBy (drawsFrom draws (started g (o .after) log))
 
--- A load of so many draws from the state g: 1, 2, 3, then 23 before each record.
+-- A workload of so many draws from the state g: 1, 2, 3, then 23 before each record.
 unfoldable pub traffic : ℕ → ℕ → ℕ → State → List ℕ → LoggedOutcome
 traffic s g draws x log = let o : Outcome = setUp s x in afterSetUp o g draws log (o .answer)
 

@@ -11,7 +11,7 @@ use crate::recording::put_record;
 use crate::recording::record_length;
 use store::Answer;
 
-// Draws on an image and table that were set up: each call is recorded and made, until all draws are, or the log has no space for the next.
+// Draws on an image and table that were set up: each call is made and recorded, until all draws are, or the log has no space for the next.
 fn run(image: &mut [u8], table: &mut [u64], generator: u64, draws: u64, log: &mut [u8]) -> Traffic
     ensures { λ r. ⌜ logged r (state (now (image .exit)) (now (table .exit))) (now (log .exit)) ≡ loggedBy (drawsFrom draws (started generator (state (now (image .entry)) (now (table .entry))) (now (log .entry)))) ⌝ }
 {
@@ -38,7 +38,7 @@ fn run(image: &mut [u8], table: &mut [u64], generator: u64, draws: u64, log: &mu
     }
 }
 
-// A load of so many draws on a fresh image and table, recorded in the log.
+// A workload of so many draws on a fresh image and table, recorded in the log.
 pub fn traffic(
     image: &mut [u8],
     table: &mut [u64],

@@ -1,4 +1,4 @@
-// A repeatable load for acceptance: a generator, the calls that its draws make, and their log.
+// A repeatable workload for acceptance: a generator, the calls that its draws make, and their log.
 mod answer;
 mod choosing;
 mod drawing;

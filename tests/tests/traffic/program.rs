@@ -97,6 +97,7 @@ fn numbers() -> Vec<Input> {
         Input::right(&["9223372036854775808", "300"], 1 << 63, 300),
         Input::right(&["007", "0010"], 7, 10),
         Input::right(&["00000000000000000000000007", "00"], 7, 0),
+        Input::right(&[&format!("{:064}", 7), "1"], 7, 1),
     ]
 }
 
@@ -132,7 +133,9 @@ fn bad() -> Vec<Input> {
     let alone = words.clone().map(|word| Input::bad(&[word]));
     let second = words.clone().map(|word| Input::bad(&["1", word]));
     let first = words.clone().map(|word| Input::bad(&[word, "1"]));
-    let many = [&["1", "2", "3"][..], &["1", "2", ""], &["1", "2", "3", "4"]].map(Input::bad);
+    // 64 bytes are the most that are read
+    let long = format!("{:065}", 7);
+    let many = [&["1", "2", "3"][..], &["1", "2", ""], &["1", "2", "3", "4"], &[&long], &["1", &long]].map(Input::bad);
     alone.chain(second).chain(first).chain(many).collect()
 }
 

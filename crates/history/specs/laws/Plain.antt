@@ -106,9 +106,13 @@ write-alike (some o) p n bytes heap = alike-cond (inside o p n) (change-alike p 
 
 -- One object less.
 
+-- one answer, one header place
+pub answer-place : (o o′ : Object) → o .answer ≡ o′ .answer → headerOf o ≡ headerOf o′
+answer-place o o′ e = ap (λ (a : ℕ). unpack a .address - 16) e
+
 -- no two objects have the same answer, since they have different header places
 answers-apart : (heap : Heap) → Pairwise heap (λ o o′. headerOf o ≡ headerOf o′ → ⊥) → Pairwise heap (λ o o′. o .answer ≡ o′ .answer → ⊥)
-answers-apart heap a i j d l u e = a i j d l u (ap (λ (p : ℕ). unpack p .address - 16) e)
+answers-apart heap a i j d l u e = a i j d l u (answer-place (getD heap i d) (getD heap j d) e)
 
 -- taking an object out by its answer takes its place out, and no other
 answers-without : (heap : Heap) (i : ℕ) → i < length heap → Pairwise heap (λ o o′. o .answer ≡ o′ .answer → ⊥)

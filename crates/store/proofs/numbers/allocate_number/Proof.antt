@@ -10,7 +10,9 @@ returns : tie.Need-returns
 returns c =
     let v = c .before in
     let e = v .before .before .before .before .before .allocate-for .ensures in
-    (c .returned .ensures ∙ ap (λ (o : Outcome). returned (o .answer)) e, (v .value .ensures ∙ ap (λ (o : Outcome). value (o .answer)) e, ap (λ (o : Outcome). o .after) e))
+    let number = c .returned .ensures ∙ ap (λ (o : Outcome). returned (o .answer)) e in
+    let given = v .value .ensures ∙ ap (λ (o : Outcome). value (o .answer)) e in
+    (number, (given, ap (λ (o : Outcome). o .after) e))
 
 pub allocate-number-spec : {M : Type 1} → statement M
 allocate-number-spec =
