@@ -224,6 +224,21 @@ impl<'a, A: Store, B: Store> Run<'a, A, B> {
         self.answers.resolve(arg)
     }
 
+    /// The tested store's image and table, what is not lent included.
+    pub fn buffers(&self) -> (&[u8], &[u64]) {
+        (&self.tested.image, &self.tested.table)
+    }
+
+    /// How much of them is lent.
+    pub fn lent(&self) -> (usize, usize) {
+        (self.lent_image, self.lent_table)
+    }
+
+    /// The live objects of a begun history by address: allocate's answer and the cue.
+    pub fn heap(&self) -> &BTreeMap<u64, (u64, u32)> {
+        &self.heap
+    }
+
     /// Takes one step on both sides; `Ok` has the answer where the step is a call.
     pub fn step(&mut self, step: &Step, counts: &mut Counts) -> Result<Option<Answer>, Mismatch> {
         match step.action {

@@ -37,7 +37,8 @@ pub fn compare(expected: &impl Store, tested: &impl Store, calls: u64, seed: u64
     Ok(counts)
 }
 
-fn one(expected: &impl Store, tested: &impl Store, seed: u64, counts: &mut Counts) -> Result<(), Box<Failure>> {
+/// Runs the case of a seed, to its end or to a step that fails; the error has the steps so far. `look` sees it behind each step.
+pub fn play<A: Store, B: Store>(expected: &A, tested: &B, seed: u64, counts: &mut Counts, mut look: impl FnMut(&Run<'_, A, B>)) -> Result<(), Case> {
     RUNNING.store(seed, Ordering::Relaxed);
     let mut generator = Generator::new(seed);
     let mut case = Case { buffers: generator.buffers(), steps: Vec::new() };
@@ -53,18 +54,19 @@ fn one(expected: &impl Store, tested: &impl Store, seed: u64, counts: &mut Count
             Action::Call(call) => Some(call.map(|arg| run.resolve(arg))),
             _ => None,
         };
-        match run.step(&step, counts) {
-            Ok(answer) => {
-                if let (Some(call), Some(answer)) = (numbers, answer) {
-                    generator.observe(&step, call, answer);
-                }
-            }
-            Err(_) => {
-                let case = shrink(case, expected, tested);
-                let text = case.describe(expected, tested);
-                return Err(Box::new(Failure { seed, calls_before: counts.calls, case, text }));
-            }
+        let Ok(answer) = run.step(&step, counts) else { return Err(case) };
+        if let (Some(call), Some(answer)) = (numbers, answer) {
+            generator.observe(&step, call, answer);
         }
+        look(&run);
     }
     Ok(())
+}
+
+fn one(expected: &impl Store, tested: &impl Store, seed: u64, counts: &mut Counts) -> Result<(), Box<Failure>> {
+    play(expected, tested, seed, counts, |_| ()).map_err(|case| {
+        let case = shrink(case, expected, tested);
+        let text = case.describe(expected, tested);
+        Box::new(Failure { seed, calls_before: counts.calls, case, text })
+    })
 }

@@ -11,7 +11,7 @@ use native.Mathlib.Omega.{arith}
 use lib.ListN.{length, getD}
 use lib.Dec.{eqb}
 use borrow.Author.Tests.{eq-eqb, ne-eqb, eqb-true, eqb-false}
-use Rattle.block.specs.laws.Booleans.{byBool}
+use Rattle.block.specs.laws.Booleans.{byBool, true-false, refuted}
 use Rattle.history.specs.Heap.{Object, Heap, holds, ownerOf, change, without, passing}
 use Rattle.history.specs.History.{In, Pairwise, headerOf, known}
 use Rattle.history.specs.laws.Plain.{answer-place}
@@ -276,6 +276,18 @@ distinct-passing test (x ∷ xs) d =
     byBool (test x)
     (λ u. rw u (find-passing test xs (headerOf x) (d .1) ∙ rw (d .0), distinct-passing test xs (d .1)))
     (λ u. rw u (distinct-passing test xs (d .1)))
+
+-- of those that pass a wider test, the same pass
+pub passing-within : (test wider : Object → Bool) (heap : Heap) → ((o : Object) → test o ≡ true → wider o ≡ true)
+    → passing test (passing wider heap) ≡ passing test heap
+unfolding passing
+passing-within test wider [] e = refl
+passing-within test wider (x ∷ xs) e =
+    byBool (wider x)
+    (λ w. byBool (test x)
+    (λ t. rw (w, t) (ap (λ (r : Heap). x ∷ r) (passing-within test wider xs e)))
+    (λ t. rw (w, t) (passing-within test wider xs e)))
+    (λ w. rw (w, refuted (test x) (λ t. true-false (e x t) w)) (passing-within test wider xs e))
 
 -- Two lists of the same objects are of one length.
 

@@ -1,5 +1,6 @@
 -- What holds of image, table and abstract heap between any two calls of a list.
--- In order: the invariant; a live object in the image; what pointers lead to; another list of the objects; set-up. Not here: that each call keeps it (`Steps`). Assumes nothing.
+-- In order: the invariant; a live object in the image; what decides the image; what pointers lead to; another list of the objects; set-up. Not here: that each
+-- call keeps it (`Steps`). Assumes nothing.
 use Prim.Native.Nat.{ℕ, _+_, _-_, _^_, _≤_}
 use mathlib.Core.Path.{_≡_, refl, sym, ap, _∙_, subst}
 use mathlib.Core.Bool.{Bool, true, false, cond}
@@ -28,7 +29,8 @@ use Rattle.store.specs.declared.answer.Refusal.the-variants.{OutOfBounds}
 use Rattle.store.specs.declared.measuring.Measurement.the-variants.{Distances}
 use Rattle.history.specs.Heap.{Object, Heap, start, holds, ownerOf, inside}
 use Rattle.history.specs.History.{headerOf}
-use Rattle.history.proofs.Gaps.{Block, extent, Layout, last, gaps, lookup, blockAt, Placed, Remade}
+use Rattle.history.proofs.Gaps.{Block, extent, Layout, last, render, size, gaps, lookup, blockAt, Placed, Remade}
+use Rattle.history.proofs.Looks.{same-layout}
 use Rattle.history.proofs.Image.{LiveAt, live-at, apart, placed-fresh, gaps-in}
 use Rattle.history.proofs.Heap.{find, Distinct, Owned, owned}
 use Rattle.history.proofs.Table.{nobody, Tabled, Ranged, other-heap}
@@ -201,7 +203,7 @@ module _ {s L : ℕ} {image : List ℕ} {heap : Heap} (i : Laid s L image heap) 
       }
 
   -- for another heap
-  pub relaid : {image′ : List ℕ} {next : Layout} (new : Heap) → Formatted s L image′ next
+  unfoldable pub relaid : {image′ : List ℕ} {next : Layout} (new : Heap) → Formatted s L image′ next
       → ((k : ℕ) → blockContent (blockAt next k) ≡ objectContent (find new k)) → ((k : ℕ) (o : Object) → find new k ≡ some o → Fine s k o) → Distinct new
       → Laid s L image′ new
   relaid {next = next} new m a f d =
@@ -220,6 +222,18 @@ module _ {s L : ℕ} {image : List ℕ} {heap : Heap} (i : Laid s L image heap) 
 pub agree-cond : (b : Bool) (x x′ : Option Block) (y y′ : Option Object) → blockContent x ≡ objectContent y → blockContent x′ ≡ objectContent y′ → blockContent (cond b x x′) ≡ objectContent (cond b y y′)
 agree-cond true x x′ y y′ e f = e
 agree-cond false x x′ y y′ e f = f
+
+-- What decides the image.
+
+-- two formatted images of one length, with the same block at every place, are one
+pub same-image : {s L : ℕ} {image image′ : List ℕ} {l l′ : Layout} → Formatted s L image l → Formatted s L image′ l′
+    → ((k : ℕ) → blockAt l k ≡ blockAt l′ k) → image ≡ image′
+same-image {s} {L} {image} {image′} {l} {l′} f f′ looks =
+    let long : size l ≡ size l′ = omega (arith, f .placed .whole, f .long, f′ .placed .whole, f′ .long) in
+    let same : l ≡ l′ = same-layout 16 l l′ long looks in
+    let front : take 16 image ≡ take 16 image′ = f .front ∙ ap (λ (m : Layout). superblock s L (gaps m)) same ∙ sym (f′ .front) in
+    let rest : drop 16 image ≡ drop 16 image′ = f .placed .bytes ∙ ap render same ∙ sym (f′ .placed .bytes) in
+    sym (take-append-drop 16 image) ∙ (λ n. front n ++ rest n) ∙ take-append-drop 16 image′
 
 -- What pointers lead to.
 

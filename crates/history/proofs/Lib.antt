@@ -19,4 +19,5 @@ mod Table
 mod Invariant
 mod Steps
 mod Releases
+mod Orders
 pub mod Theorem

@@ -1,11 +1,11 @@
--- Layouts alone: the first gap, and which block stands where. Assumes nothing.
+-- Layouts alone: the first gap, which block stands where, and that this and the size decide the layout. Assumes nothing.
 use Prim.Native.Nat.{ℕ, zero, suc, _+_, _≤_, _<_}
 use mathlib.Core.Path.{_≡_, refl, sym, ap, _∙_}
 use mathlib.Core.Bool.{cond}
 use mathlib.Core.Option.{Option, none, some}
 use native.Mathlib.Omega.{arith}
 use lib.Dec.{eqb}
-use borrow.Author.Tests.{eq-eqb, ne-eqb, eqb-true}
+use borrow.Author.Tests.{eq-eqb, ne-eqb, eqb-true, eqb-false}
 use Rattle.block.specs.laws.Booleans.{byBool}
 use Rattle.history.proofs.Gaps.{Block, extent, Layout, last, item, size, gaps, GapOk, Ok, lookup}
 
@@ -140,3 +140,32 @@ pub look-swap : (h g : ℕ) (b c : Block) (l : Layout) → extent c ≡ extent b
     → (k : ℕ) → lookup h (item g c l) k ≡ cond (eqb k (h + g)) (some c) (lookup h (item g b l) k)
 unfolding lookup
 look-swap h g b c l e k = rw e (byBool (eqb k (h + g)) (λ p. rw p) (λ p. rw p))
+
+-- Which block stands where, and the size, decide the layout.
+
+-- behind the same gap and block, the rests of layouts that look the same look the same
+rest-looks : (h g : ℕ) (b : Block) (l m : Layout) → ((k : ℕ) → lookup h (item g b l) k ≡ lookup h (item g b m) k)
+    → (k : ℕ) → lookup (h + g + extent b) l k ≡ lookup (h + g + extent b) m k
+rest-looks h g b l m e k =
+    byBool (eqb k (h + g))
+    (λ p. let q : k ≡ h + g = eqb-true k (h + g) p in
+    look-before (h + g + extent b) l k (omega arith) ∙ sym (look-before (h + g + extent b) m k (omega arith)))
+    (λ p. let n : k ≡ h + g → ⊥ = eqb-false k (h + g) p in sym (look-rest h g b l k n) ∙ e k ∙ look-rest h g b m k n)
+
+-- the first gaps are equal, since each layout sees the other's first block and none before its own
+pub same-layout : (h : ℕ) (l m : Layout) → size l ≡ size m → ((k : ℕ) → lookup h l k ≡ lookup h m k) → l ≡ m
+unfolding lookup
+same-layout h (last g) (last f) z e = ap last z
+same-layout h (last g) (item f c m) z e = absurd (clash c (e (h + f) ∙ look-first h f c m))
+same-layout h (item g b l) (last f) z e = absurd (clash b (sym (e (h + g)) ∙ look-first h g b l))
+same-layout h (item g b l) (item f c m) z e =
+    let there : lookup h (item f c m) (h + g) ≡ some b = sym (e (h + g)) ∙ look-first h g b l in
+    let here : lookup h (item g b l) (h + f) ≡ some c = e (h + f) ∙ look-first h f c m in
+    let p : g ≡ f = omega (arith, look-inside h (item f c m) (h + g) b there, look-inside h (item g b l) (h + f) c here) in
+    let both : _≡_ {A = Option Block} (some b) (some c) = sym there ∙ ap (λ (n : ℕ). lookup h (item f c m) (h + n)) p ∙ look-first h f c m in
+    let q : b ≡ c = cc in
+    let x : extent b ≡ extent c = ap extent q in
+    let r : l ≡ m =
+    same-layout (h + g + extent b) l m (omega arith) (rest-looks h g b l m (λ k. e k ∙ (λ i. lookup h (item (sym p i) (sym q i) m) k)))
+    in
+    λ i. item (p i) (q i) (r i)

@@ -15,7 +15,7 @@ use Rattle.frame.specs.Pointers.{pack}
 use Rattle.frame.specs.Tags.{pointerTo}
 use Rattle.block.specs.Layout.{extentAt, sizeAt}
 use Rattle.block.specs.declared.header.Header.{Header}
-use Rattle.store.specs.State.{State, Outcome, IsAccepted, value}
+use Rattle.store.specs.State.{State, Outcome, IsAccepted, returned, value}
 use Rattle.store.specs.Calls.{entryHolds, free, allHeld, extentsOf, pointersTo, freeEach, releaseCue}
 use Rattle.store.specs.Step.{releases}
 use Rattle.store.specs.Claims.{EachFreed, none-left, one-freed}
@@ -29,16 +29,16 @@ use Rattle.history.proofs.Gaps.{extent, Layout, last, item, size, gaps,
 use Rattle.history.proofs.Looks.{look-first, look-rest, look-inside}
 use Rattle.history.proofs.Image.{live-at}
 use Rattle.history.proofs.Gathering.{placesIn, gather-layout}
-use Rattle.history.proofs.Heap.{find, Distinct, none-some, some-same, find-place, find-in, in-find, Pairs, pairwise, find-without, found-passing, distinct-passing, same-count}
+use Rattle.history.proofs.Heap.{find, Distinct, none-some, some-same, find-here, find-there, find-place, find-in, in-find, Pairs, pairwise, found-passing, distinct-passing, same-count}
 use Rattle.history.proofs.Invariant.{Invariant, known, object-of, no-object, exponent-is, total-is, opens, relisted}
-use Rattle.history.proofs.Steps.{free-live}
+use Rattle.history.proofs.Steps.{Emptied, free-live}
 
 -- in the order of their addresses
-abbrev Sorted : Heap → Type 0
+abbrev pub Sorted : Heap → Type 0
 Sorted os = Pairs (λ o o′. headerOf o < headerOf o′) os
 
 -- no two of them have one header place
-sorted-distinct : (os : Heap) → Sorted os → Distinct os
+pub sorted-distinct : (os : Heap) → Sorted os → Distinct os
 sorted-distinct [] c = tt
 sorted-distinct (o ∷ os) c = (go (find os (headerOf o)) refl, sorted-distinct os (c .1))
   where
@@ -46,8 +46,39 @@ sorted-distinct (o ∷ os) c = (go (find os (headerOf o)) refl, sorted-distinct 
     go none e = refl
     go (some o′) e = absurd (omega (arith, c .0 o′ (find-in os (headerOf o) o′ e), find-place os (headerOf o) o′ e))
 
+-- only one such list has the same objects
+pub sorted-same : (os ps : Heap) → Sorted os → Sorted ps → ((k : ℕ) → find os k ≡ find ps k) → os ≡ ps
+unfolding find
+sorted-same [] [] c d e = refl
+sorted-same [] (p ∷ ps) c d e = absurd (none-some {o = p} refl (e (headerOf p) ∙ find-here p ps (headerOf p) refl))
+sorted-same (o ∷ os) [] c d e = absurd (none-some {o = o} refl (sym (e (headerOf o)) ∙ find-here o os (headerOf o) refl))
+sorted-same (o ∷ os) (p ∷ ps) c d e =
+    let first : o ≡ p =
+    ⊎-elim
+    (λ (q : o ≡ p). q)
+    (λ (m : In o ps).
+    ⊎-elim
+    (λ (q : p ≡ o). sym q)
+    (λ (w : In p os). absurd (omega (arith, c .0 p w, d .0 o m)))
+    (List·Memᴰ·cases-cons (find-in (o ∷ os) (headerOf p) p (e (headerOf p) ∙ find-here p ps (headerOf p) refl))))
+    (List·Memᴰ·cases-cons (find-in (p ∷ ps) (headerOf o) o (sym (e (headerOf o)) ∙ find-here o os (headerOf o) refl)))
+    in
+    let place : headerOf o ≡ headerOf p = ap (λ (q : Object). headerOf q) first in
+    let rest : os ≡ ps =
+    sorted-same os ps (c .1) (d .1)
+    (λ k.
+    byBool (eqb k (headerOf o))
+    (λ t.
+    let at-o : k ≡ headerOf o = eqb-true k (headerOf o) t in
+    ap (find os) at-o ∙ sorted-distinct (o ∷ os) c .0 ∙ sym (ap (find ps) (at-o ∙ place) ∙ sorted-distinct (p ∷ ps) d .0))
+    (λ t.
+    let n : k ≡ headerOf o → ⊥ = eqb-false k (headerOf o) t in
+    sym (find-there o os k n) ∙ e k ∙ find-there p ps k (λ q. n (q ∙ sym place))))
+    in
+    λ n. first n ∷ rest n
+
 -- The cue's objects from h on, in the order of their addresses, and what release needs of their places.
-record Gathered (s cue : ℕ) (x : State) (heap : Heap) (h : ℕ) (l : Layout) (places : List ℕ) : Type 0 where
+pub record Gathered (s cue : ℕ) (x : State) (heap : Heap) (h : ℕ) (l : Layout) (places : List ℕ) : Type 0 where
   pub objects : Heap
   pub sorted : Sorted objects
   pub low : (o : Object) → In o objects → h ≤ headerOf o
@@ -147,10 +178,27 @@ module _ {s L : ℕ} {x : State} {heap : Heap} (i : Invariant s L x heap) where
       }))
 
 -- Freeing them.
-free-all : {s L : ℕ} {x : State} {heap : Heap} (i : Invariant s L x heap) (os : Heap) → Sorted os → ((o : Object) → In o os → find heap (headerOf o) ≡ some o)
-    → Freed s L x heap os
+
+-- the objects live
+abbrev pub Live : Heap → Heap → Type 0
+Live heap os = (o : Object) → In o os → find heap (headerOf o) ≡ some o
+
+-- none of them stands where o does
+abbrev pub Apart : Object → Heap → Type 0
+Apart o os = (p : Object) → In p os → headerOf o ≡ headerOf p → ⊥
+
+-- so no object of a list does where its first one does
+pub first-apart : (o : Object) (os : Heap) → Distinct (o ∷ os) → Apart o os
+first-apart o os d p m e = none-some (d .0) (ap (find os) e ∙ in-find os p (d .1) m)
+
+-- others live on when an object is freed
+pub live-on : {s L : ℕ} {x : State} {heap : Heap} {i : Invariant s L x heap} {o : Object} {r : Outcome} → Emptied i (headerOf o) o r
+    → (os : Heap) → Apart o os → Live heap os → Live (without heap (o .answer)) os
+live-on {o = o} f os n live p m = f .finds (headerOf p) ∙ rw (ne-eqb (headerOf p) (headerOf o) (λ e. n p m (sym e))) (live p m)
+
+free-all : {s L : ℕ} {x : State} {heap : Heap} (i : Invariant s L x heap) (os : Heap) → Distinct os → Live heap os → Freed s L x heap os
 unfolding answers
-free-all {s} {L} {x} {heap} i [] c live =
+free-all {s} {L} {x} {heap} i [] d live =
     record {
       each = none-left x;
       new = heap;
@@ -158,31 +206,27 @@ free-all {s} {L} {x} {heap} i [] c live =
       gone = λ o m. absurd (List·Memᴰ·not-nil m);
       stays = λ k n. refl;
     }
-free-all {s} {L} {x} {heap} i (o ∷ os) c live =
-    let here : find heap (headerOf o) ≡ some o = live o (List·Memᴰ·head refl) in
-    let (accepted, j) = free-live i (headerOf o) o here in
-    let mid : Heap = without heap (o .answer) in
-    let empty : find mid (headerOf o) ≡ none = find-without heap o (headerOf o) (i .laid .distinct) here ∙ rw (eq-eqb (headerOf o) (headerOf o) refl) in
-    let other : (k : ℕ) → (headerOf o ≡ k → ⊥) → find mid k ≡ find heap k =
-    λ k n. find-without heap o k (i .laid .distinct) here ∙ rw (ne-eqb k (headerOf o) (λ e. n (sym e)))
-    in
-    let r : Freed s L (free (o .answer) x .after) mid os =
-    free-all j os (c .1) (λ p m. other (headerOf p) (λ e. omega (arith, c .0 p m)) ∙ live p (List·Memᴰ·tail m))
+free-all {s} {L} {x} {heap} i (o ∷ os) d live =
+    let h : ℕ = headerOf o in
+    let apart : Apart o os = first-apart o os d in
+    let f : Emptied i h o (free (o .answer) x) = free-live i h o (live o (List·Memᴰ·head refl)) in
+    let r : Freed s L (free (o .answer) x .after) (without heap (o .answer)) os =
+    free-all (f .left) os (d .1) (live-on f os apart (λ p m. live p (List·Memᴰ·tail m)))
     in
     record {
-      each = one-freed (o .answer) (answers os) x accepted (r .each);
+      each = one-freed (o .answer) (answers os) x (ap returned (f .answers)) (r .each);
       new = r .new;
       left = subst (λ (y : State). Invariant s L y (r .new)) (sym (free-each-one (o .answer) (answers os) x)) (r .left);
       gone =
           in-cons {P = λ p. find (r .new) (headerOf p) ≡ none} o os
-          (r .stays (headerOf o) (λ p m e. omega (arith, c .0 p m)) ∙ empty) (r .gone);
-      stays = λ k n. r .stays k (λ p m. n p (List·Memᴰ·tail m)) ∙ other k (n o (List·Memᴰ·head refl));
+          (r .stays h (λ p m e. apart p m (sym e)) ∙ f .finds h ∙ rw (eq-eqb h h refl)) (r .gone);
+      stays = λ k n. r .stays k (λ p m. n p (List·Memᴰ·tail m)) ∙ f .finds k ∙ rw (ne-eqb k h (λ e. n o (List·Memᴰ·head refl) (sym e)));
     }
 
 -- The release.
 module _ {s L : ℕ} {x : State} {heap : Heap} (i : Invariant s L x heap) (cue : ℕ) where
   -- the cue's objects
-  mine : Gathered s cue x heap 16 (i .laid .layout) (placesIn cue 16 (i .laid .layout))
+  pub mine : Gathered s cue x heap 16 (i .laid .layout) (placesIn cue 16 (i .laid .layout))
   mine = gathered i cue 16 (i .laid .layout) (λ k u. refl)
 
   -- which they are
@@ -195,7 +239,7 @@ module _ {s L : ℕ} {x : State} {heap : Heap} (i : Invariant s L x heap) (cue :
   )
 
   -- it frees them
-  released : releaseCue cue x ≡ record { answer = Accepted (length (mine .objects)); after = freeEach (answers (mine .objects)) x }
+  pub released : releaseCue cue x ≡ record { answer = Accepted (length (mine .objects)); after = freeEach (answers (mine .objects)) x }
   released =
       release-is s cue x (placesIn cue 16 (i .laid .layout)) (opens i) (exponent-is (i .laid))
       (gather-layout cue (x .image) (i .laid .layout) (i .laid .placed)) (mine .held)
@@ -210,7 +254,7 @@ module _ {s L : ℕ} {x : State} {heap : Heap} (i : Invariant s L x heap) (cue :
   is-other o = not (eqb (o .cue) cue)
 
   -- they are the objects that pass the first
-  mine-found : (k : ℕ) → find (mine .objects) k ≡ find (ofCue heap cue) k
+  pub mine-found : (k : ℕ) → find (mine .objects) k ≡ find (ofCue heap cue) k
   mine-found k = go (find (mine .objects) k) refl (find heap k) refl
     where
       there : (o : Object) → find heap k ≡ some o → o .cue ≡ cue → find (mine .objects) k ≡ some o
@@ -237,7 +281,7 @@ module _ {s L : ℕ} {x : State} {heap : Heap} (i : Invariant s L x heap) (cue :
 
   -- freeing them singly
   singly : Freed s L x heap (mine .objects)
-  singly = free-all i (mine .objects) (mine .sorted) (λ o m. mine .live o m .0)
+  singly = free-all i (mine .objects) (sorted-distinct (mine .objects) (mine .sorted)) (λ o m. mine .live o m .0)
 
   -- leaves the objects that pass the second
   others-left : (k : ℕ) → find (singly .new) k ≡ find (withoutCue heap cue) k
@@ -260,10 +304,13 @@ module _ {s L : ℕ} {x : State} {heap : Heap} (i : Invariant s L x heap) (cue :
           ∙ e ∙ sym (found-passing is-other heap k (some o) (i .laid .distinct) e ∙ rw c))
 
   -- and the invariant
+  pub release-left : Invariant s L (releaseCue cue x .after) (withoutCue heap cue)
+  release-left =
+      rw released (relisted (singly .left) (withoutCue heap cue) (distinct-passing is-other heap (i .laid .distinct)) others-left)
+
   pub release-step : Invariant s L (releaseCue cue x .after) (hear heap (releases cue) (releaseCue cue x .answer))
   unfolding hear
-  release-step =
-      rw released (relisted (singly .left) (withoutCue heap cue) (distinct-passing is-other heap (i .laid .distinct)) others-left)
+  release-step = release-left
 
 -- the claim
 pub freed-singly : {s L : ℕ} (x : Configuration) → Invariant s L (x .state) (x .heap) → (cue : ℕ) → FreedSingly x cue

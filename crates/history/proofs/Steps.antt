@@ -94,6 +94,14 @@ pub data Allocated (s L : ℕ) (x : State) (heap : Heap) (i : Invariant s L x he
 abbrev pub Nobody : Heap → ℕ → Type 0
 Nobody heap p = (o : Object) → In o heap → o .answer ≡ p → ⊥
 
+-- what the free of the live object at h answers, and leaves
+pub record Emptied {s L : ℕ} {x : State} {heap : Heap} (i : Invariant s L x heap) (h : ℕ) (o : Object) (r : Outcome) : Type 0 where
+  pub answers : r .answer ≡ Accepted 0
+  pub left : Invariant s L (r .after) (without heap (o .answer))
+  pub finds : (k : ℕ) → find (without heap (o .answer)) k ≡ cond (eqb k h) none (find heap k)
+  pub looks : (k : ℕ) → blockAt (left .laid .layout) k ≡ cond (eqb k h) none (blockAt (i .laid .layout) k)
+  pub cleared : r .after .table ≡ noted s h (o .size) 0 (x .table)
+
 -- how free ends: an object is taken out, or the refusal, not by 22, of a number that is nobody's
 pub data Freeing (s L : ℕ) (x : State) (heap : Heap) (p : ℕ) : Type 0 where
   taken :
@@ -200,7 +208,7 @@ module _ {s L : ℕ} {x : State} {heap : Heap} (i : Invariant s L x heap) where
         let q : headerOf o ≡ h = find-place heap h o e in
         find-without heap o k (i .laid .distinct) (ap (find heap) q ∙ e) ∙ ap (λ (z : ℕ). cond (eqb k z) none (find heap k)) q
 
-    gone-laid : Laid s L (givenBack (x .image) h (f .from) (f .to)) (without heap (o .answer))
+    unfoldable gone-laid : Laid s L (givenBack (x .image) h (f .from) (f .to)) (without heap (o .answer))
     gone-laid =
         relaid (i .laid) (without heap (o .answer)) (retotalled (i .laid) _ (f .remade) (omega (arith, f .given, total-is (i .laid))))
         (λ k.
@@ -212,13 +220,21 @@ module _ {s L : ℕ} {x : State} {heap : Heap} (i : Invariant s L x heap) where
         (λ t. i .laid .fine k y (sym (rw t at (gone-law k)) ∙ g)))
         (distinct-without heap (o .answer) (i .laid .distinct))
 
-    gone-invariant : Invariant s L (state (givenBack (x .image) h (f .from) (f .to)) (noted s h (sizeAt (x .image) h) 0 (x .table))) (without heap (o .answer))
-    gone-invariant =
+    gone-table : noted s h (sizeAt (x .image) h) 0 (x .table) ≡ noted s h (o .size) 0 (x .table)
+    gone-table = ap (λ (n : ℕ). noted s h n 0 (x .table)) (known (i .laid) h o e .size)
+
+    gone-emptied : Emptied i h o (outcome (Accepted 0) (givenBack (x .image) h (f .from) (f .to)) (noted s h (sizeAt (x .image) h) 0 (x .table)))
+    unfolding gone-laid relaid
+    gone-emptied =
         record {
-          laid = gone-laid;
-          tabled =
-              rw (known (i .laid) h o e .size)
-              (gone s L heap (x .table) (i .tabled) (ranged (i .laid)) (without heap (o .answer)) h o e gone-law);
+          answers = refl;
+          left = record {
+            laid = gone-laid;
+            tabled = rw gone-table (gone s L heap (x .table) (i .tabled) (ranged (i .laid)) (without heap (o .answer)) h o e gone-law);
+          };
+          finds = gone-law;
+          looks = f .looks;
+          cleared = gone-table;
         }
 
   -- row 22 lets its free pass
@@ -228,15 +244,15 @@ module _ {s L : ℕ} {x : State} {heap : Heap} (i : Invariant s L x heap) where
       (omega (arith, f .given, total-is (i .laid), gaps-in _ (f .next) (f .remade .placed), f .remade .same-length))
 
   -- a live object is freed by allocate's answer
-  pub free-live : (h : ℕ) (o : Object) → find heap h ≡ some o
-      → (returned (free (o .answer) x .answer) ≡ 0) × Invariant s L (free (o .answer) x .after) (without heap (o .answer))
+  pub free-live : (h : ℕ) (o : Object) → find heap h ≡ some o → Emptied i h o (free (o .answer) x)
   free-live h o e =
       let n = known (i .laid) h o e in
       let f = freed (x .image) (i .laid .layout) h (n .block) (i .laid .placed) (n .there) in
-      let q = free-merges s x (opens i) (o .answer) h (answer-leads i h o e) (eq-eqb _ _ (n .begins)) (f .from) (f .to) (exponent-is (i .laid)) (f .merges) (free-fits h (n .block) f) in (
-        ap (λ (z : Outcome). returned (z .answer)) q,
-        subst (λ (z : State). Invariant s L z (without heap (o .answer))) (sym (ap (λ (z : Outcome). z .after) q)) (gone-invariant h (n .block) o e f),
-      )
+      subst (Emptied i h o)
+      (sym
+      (free-merges s x (opens i) (o .answer) h (answer-leads i h o e) (eq-eqb _ _ (n .begins)) (f .from) (f .to) (exponent-is (i .laid)) (f .merges)
+      (free-fits h (n .block) f)))
+      (gone-emptied h (n .block) o e f)
 
   pub freeing : (p : ℕ) → p < 2 ^ 64 → Freeing s L x heap p
   freeing p fits = read (located s (unpack p) x) refl
@@ -249,9 +265,9 @@ module _ {s L : ℕ} {x : State} {heap : Heap} (i : Invariant s L x heap) where
           i .laid .fine h o g .answered ∙ ap (λ (n : ℕ). pack (pointerTo s h n)) (sym (known (i .laid) h o g .size))
           ∙ own-again s h (sizeAt (x .image) h) p fits (r .header .matches) (eqb-true _ _ t)
           in
-          let (q, j) = free-live h o g in
-          taken o (find-in heap h o g) a (subst (λ (z : ℕ). returned (free z x .answer) ≡ 0) a q)
-          (subst (λ (z : ℕ). Invariant s L (free z x .after) (without heap z)) a j)
+          let f : Emptied i h o (free (o .answer) x) = free-live h o g in
+          taken o (find-in heap h o g) a (subst (λ (z : ℕ). returned (free z x .answer) ≡ 0) a (ap returned (f .answers)))
+          (subst (λ (z : ℕ). Invariant s L (free z x .after) (without heap z)) a (f .left))
 
       base : (h : ℕ) → located s (unpack p) x ≡ Accepted h → eqb (unpack p .address) (h + 16) ≡ true → (r : Option Block) → blockAt (i .laid .layout) h ≡ r
           → Freeing s L x heap p

@@ -43,6 +43,7 @@ use Rattle.history.specs.History.{known, admitted, Configuration, next, 
 use Rattle.history.specs.Release.{ReleasesSingly}
 use Rattle.history.specs.laws.Lists.{Reached}
 use Rattle.history.specs.Empty.{NoEmptyLoads, NoEmptyAccess}
+use Rattle.history.specs.Commuting.{OrdersAgree, EitherOrder}
 use Rattle.history.specs.Tidiness.{MeetsNoUnsound, NeverUnsound, Balanced, StaysBalanced, RightTotal, StaysTotalled, Tidy, StaysTidy}
 use Rattle.history.proofs.Gaps.{Block, extent, Layout, blocks, bodies, gaps, overheads, counts, blockAt, Clear}
 use Rattle.history.proofs.Image.{counted-as, no-neighbours, free-zero, tail-zero}
@@ -52,6 +53,7 @@ use Rattle.history.proofs.Invariant.{Invariant, object-of, ranged, expo
 use Rattle.history.proofs.Invariant as invariant
 use Rattle.history.proofs.Steps.{Allocated, no-room, given, allocated, allocate-step, Freeing, taken, declined, freeing, free-step, move-step, load-step, read-through, store-step, fill-step, copy-step, copies-text, copies-no-text, copy-text-step}
 use Rattle.history.proofs.Releases.{release-counts, release-step, freed-singly}
+use Rattle.history.proofs.Orders.{frees-commute, releases-commute}
 
 -- The list.
 
@@ -364,6 +366,11 @@ module _ {s L : ℕ} (x : Configuration) (i : Invariant s L (x .state) (x .heap)
     pub no-access : NoAccess p (x .state)
     no-access = empty-access s p (x .state) (headerOf o) (opens i) led (about o m .size ∙ z)
 
+  -- two frees, or two releases, in either order
+  pub orders-agree : OrdersAgree x
+  orders-agree =
+      record { frees = two-places (x .heap) _ (i .laid .distinct) (frees-commute i); releases = λ c d fits fits′ n. releases-commute i c d n }
+
   pub tidy : Tidy (x .state .image)
   tidy =
       record {
@@ -410,6 +417,10 @@ no-empty-access s x e calls a = no-access (after calls (begun s x)) (keeps calls
 pub releases-singly : ReleasesSingly
 unfolding ReleasesSingly
 releases-singly s x e calls a cue fits = freed-singly (after calls (begun s x)) (keeps calls (begun s x) (begins s x e) a) cue
+
+pub either-order : EitherOrder
+unfolding EitherOrder
+either-order s x e calls a = orders-agree (after calls (begun s x)) (keeps calls (begun s x) (begins s x e) a)
 
 -- the abstract heap hears of an answer only after allocate and move
 pub hears-no-other : HearsNoOther

@@ -1,8 +1,9 @@
--- A list of calls that demand 3 admits, and what it leaves, by computation: the claim is about lists such as this one. Assumes nothing.
+-- Lists of calls that demand 3 admits, and what they leave, by computation: the claims are about lists such as these. Assumes nothing.
+use Prim.Native.Nat.{ℕ}
 use mathlib.Core.Path.{_≡_, refl}
 use mathlib.Core.Bool.{true}
 use mathlib.Core.List.{List, [], _∷_}
-use lib.ListN.{replicate}
+use lib.ListN.{replicate, getD}
 use lib.IntN.{pos, negsuc}
 use Rattle.frame.specs.Frame.{frameNumber, frameNumberIn}
 use Rattle.frame.specs.Pointers.{unpack, pack, goodTag, reach, landed, moved}
@@ -17,8 +18,9 @@ use Rattle.store.specs.declared.answer.Answer.the-variants.{Accepted}
 use Rattle.store.specs.declared.measuring.Measurement.the-variants.{Distances}
 use Rattle.store.specs.declared.counting.Usage.the-variants as usage
 use Rattle.store.specs.Step.{Call, allocates, frees, moves, loads, stores, fills, copies, copiesText, allocatesFor, releases}
-use Rattle.history.specs.Heap.{member, ownerOf, inside, change, without, passing, write, copied, copiedText, textCopied, hear}
+use Rattle.history.specs.Heap.{Object, newObject, member, ownerOf, inside, change, without, passing, write, copied, copiedText, textCopied, hear}
 use Rattle.history.specs.History.{Configuration, begun, after, allAdmitted, known}
+use Rattle.history.specs.Commuting.{Commute, freeOf}
 
 -- an image of 128 bytes and a table, full of other bytes, set up at the slot exponent 6
 abbrev fresh6 : Configuration
@@ -73,3 +75,34 @@ pub admitted-calls : (allAdmitted calls fresh6 ≡ true)
     × (distances 0x8010000000000020 (after calls fresh6 .state) ≡ Distances (pos 0) (pos 0))
 unfolding frameNumber frameNumberIn unpack pack goodTag reach landed moved wrapper tagNumber pointerTo tagMatches usedEntries entryAt encode decode field put superblock withTotal superblockGood header headerAt wellFormed sound walkIn walkFrom walk fitOf firstFit metOf walkTo setUpChecks fresh setUp opening entryHolds fitAnswer takenExtent allocateChecks carved noted allocateFor headerPlace verified leadsBack located fromStart toEnd inBody accessed distancesChecks distancesAt distances movedAnswer moveAnswer move loadAnswer load storeChecks store fillChecks fill copyChecks copy textFrom textOf textAnswer textAt copyTextChecks copyText mergeEnd mergeStart released freeChecks releasedAt totalFits totalled freeRelease merged freed free walkCue gatheredAnswer placesOf allHeld extentsOf releaseChecks pointersTo cuePointers freeEach releaseCue member ownerOf inside change without passing write copied copiedText textCopied hear after allAdmitted known countOf countBlocks tallyOpened tallyCounted tally freeTotal
 admitted-calls = (refl, refl, refl, refl, refl, refl)
+
+-- Three neighbours, written from end to end: one of no cue, one of cue 9 that is large-framed, one more of no cue.
+abbrev pub neighbours : List Call
+neighbours =
+    allocates 10 1
+    ∷ allocatesFor 20 2 9
+    ∷ allocates 4 3
+    ∷ fills 0x8010000000000020 10 5
+    ∷ fills 0x000700000000003A 20 6
+    ∷ fills 0x800E00000000005E 4 7
+    ∷ []
+
+-- one of them, in the order of allocation
+abbrev neighbour : ℕ → Object
+neighbour i = getD (after neighbours fresh6 .heap) i (newObject 0 0 0)
+
+-- The first two are freed in either order, and so are the last two; cue 0, which has two of them, and cue 9 are released in either order, and so are
+-- cue 9 and a cue without objects.
+pub either-order : (allAdmitted neighbours fresh6 ≡ true)
+    × Commute (freeOf (neighbour 0)) (freeOf (neighbour 1)) (after neighbours fresh6 .state)
+    × Commute (freeOf (neighbour 1)) (freeOf (neighbour 2)) (after neighbours fresh6 .state)
+    × Commute (releaseCue 0) (releaseCue 9) (after neighbours fresh6 .state)
+    × Commute (releaseCue 9) (releaseCue 1) (after neighbours fresh6 .state)
+unfolding frameNumber frameNumberIn unpack pack goodTag reach landed moved wrapper tagNumber pointerTo tagMatches usedEntries entryAt encode decode field put superblock withTotal superblockGood header headerAt wellFormed sound walkIn walkFrom walk fitOf firstFit metOf walkTo setUpChecks fresh setUp opening entryHolds fitAnswer takenExtent allocateChecks carved noted allocateFor headerPlace verified leadsBack located fromStart toEnd inBody accessed distancesChecks distancesAt distances movedAnswer moveAnswer move loadAnswer load storeChecks store fillChecks fill copyChecks copy textFrom textOf textAnswer textAt copyTextChecks copyText mergeEnd mergeStart released freeChecks releasedAt totalFits totalled freeRelease merged freed free walkCue gatheredAnswer placesOf allHeld extentsOf releaseChecks pointersTo cuePointers freeEach releaseCue member ownerOf inside change without passing write copied copiedText textCopied hear after allAdmitted known countOf countBlocks tallyOpened tallyCounted tally freeTotal
+either-order = (
+  refl,
+  record { a-accepted = refl; b-accepted = refl; a-answer = refl; b-answer = refl; same = refl },
+  record { a-accepted = refl; b-accepted = refl; a-answer = refl; b-answer = refl; same = refl },
+  record { a-accepted = refl; b-accepted = refl; a-answer = refl; b-answer = refl; same = refl },
+  record { a-accepted = refl; b-accepted = refl; a-answer = refl; b-answer = refl; same = refl },
+)

@@ -5,6 +5,7 @@ pub mod History
 pub mod Tidiness
 pub mod Release
 pub mod Empty
+pub mod Commuting
 -- worked example
 pub mod Examples
 -- laws

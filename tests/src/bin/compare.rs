@@ -1,5 +1,6 @@
 //! The long run: `compare [--calls N] [--seed S]`, with a fresh seed where none is given. Exit status 1 where library and model differ or a row is missing.
 
+use cueledger_tests::commuting::either_order;
 use cueledger_tests::driver::{compare, RUNNING};
 use cueledger_tests::library::{Exports, Library};
 use cueledger_tests::random::fresh_seed;
@@ -93,6 +94,14 @@ fn main() {
                 exit(1);
             }
         }
+    }
+    // and a history for every thousand calls, on which two frees or releases are tried in either order
+    match either_order(&Exports, &Exports, calls.div_ceil(1_000) as usize, seed) {
+        Err(what) => {
+            println!("{what}");
+            exit(1);
+        }
+        Ok(tried) => println!("either order: {tried}"),
     }
     println!("{:.1} s", begun.elapsed().as_secs_f64());
 }

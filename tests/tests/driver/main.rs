@@ -1,5 +1,6 @@
 //! The driver itself: it passes the model, and finds and shortens each of these faults.
 
+mod commuting;
 mod compares;
 mod cues;
 mod distances;

@@ -1,13 +1,13 @@
 -- Table entries: rows 9 and 21, noting an object's header place, and clearing it.
--- In order: of an object by its header place and size; by its pointer with its entry; by a pointer that leads to it. Assumes nothing.
+-- In order: of an object by its header place and size; of two objects; by its pointer with its entry; by a pointer that leads to it. Assumes nothing.
 use Prim.Native.Nat.{ℕ, _+_, _/_, _^_, _≤_, _<_}
 use mathlib.Core.Path.{_≡_, refl, sym, ap, _∙_}
 use mathlib.Core.Bool.{Bool, true, false, cond}
 use mathlib.Core.List.{List}
 use lib.ListN.{length, drop, getD, set, length-set}
-use lib.Seq.{getD-set-same, getD-set-other, drop-set-lt}
+use lib.Seq.{getD-set-same, getD-set-other, drop-set-lt, set-comm}
 use lib.Dec.{eqb}
-use borrow.Author.Tests.{le-leb, lt-leb, eq-eqb, eqb-true}
+use borrow.Author.Tests.{le-leb, lt-leb, eq-eqb, eqb-true, eqb-false}
 use Rattle.frame.specs.Pointers.{reach, at}
 use Rattle.frame.specs.Tags.{wrapper, pointerTo, tagMatches, entryAt, entryOf}
 use Rattle.frame.specs.laws.Pointers.{reach-large}
@@ -16,6 +16,7 @@ use Rattle.frame.specs.laws.Tags.{tagged, by-frame, pointer-small, pointer-larg
 use Rattle.frame.specs.declared.parts.Pointer.{Pointer}
 use Rattle.frame.specs.declared.tag.Tagged.{Tagged}
 use Rattle.frame.specs.declared.tag.Tagged.the-variants.{Small, Large}
+use Rattle.block.specs.laws.Booleans.{byBool}
 use Rattle.store.specs.Calls.{entryHolds, noted}
 
 module _ (s h size : ℕ) where
@@ -70,6 +71,28 @@ module _ (s h size : ℕ) where
   noted-entry entry table u l =
       ap (λ (t : List ℕ). getD t (entryOf s h size) 0) (noted-large entry table (entryOf s h size) l refl)
       ∙ getD-set-same table (entryOf s h size) entry 0 u
+
+-- Of two objects.
+
+-- two entries, or one twice, are set to one value in either order
+set-either : (table : List ℕ) (i j entry : ℕ) → set (set table i entry) j entry ≡ set (set table j entry) i entry
+set-either table i j entry = byBool (eqb i j) (λ p. rw (eqb-true i j p) refl) (λ p. set-comm table i j entry entry (eqb-false i j p))
+
+-- so the entries of two objects are cleared in either order (entry 0), whatever their frames
+pub noted-either : (s h size k n entry : ℕ) (table : List ℕ)
+    → noted s k n entry (noted s h size entry table) ≡ noted s h size entry (noted s k n entry table)
+noted-either s h size k n entry table =
+    by-frame s h size
+    (λ l. ap (noted s k n entry) (noted-small s h size entry table l) ∙ sym (noted-small s h size entry (noted s k n entry table) l))
+    (λ l.
+    by-frame s k n
+    (λ m. noted-small s k n entry (noted s h size entry table) m ∙ ap (noted s h size entry) (sym (noted-small s k n entry table m)))
+    (λ m.
+    let set-h : (t : List ℕ) → noted s h size entry t ≡ set t (entryOf s h size) entry = λ t. noted-large s h size entry t (entryOf s h size) l refl in
+    let set-k : (t : List ℕ) → noted s k n entry t ≡ set t (entryOf s k n) entry = λ t. noted-large s k n entry t (entryOf s k n) m refl in
+    set-k (noted s h size entry table) ∙ ap (λ (t : List ℕ). set t (entryOf s k n) entry) (set-h table)
+    ∙ set-either table (entryOf s h size) (entryOf s k n) entry
+    ∙ ap (λ (t : List ℕ). set t (entryOf s h size) entry) (sym (set-k table)) ∙ sym (set-h (noted s k n entry table))))
 
 -- noting one object's entry leaves those of the objects behind it
 pub holds-kept : (s h size entry k n v : ℕ) (table : List ℕ) → h + 16 + size ≤ k → k + 16 + n ≤ 2 ^ 30
