@@ -43,9 +43,9 @@ extern "C" {
 #endif
 
 #define CUE_VERSION_MAJOR 1
-#define CUE_VERSION_MINOR 7
+#define CUE_VERSION_MINOR 8
 #define CUE_VERSION_PATCH 0
-#define CUE_VERSION "1.7.0"
+#define CUE_VERSION "1.8.0"
 
 /* 17 to 19 are a call log's (docs/FORMAT.md): the program replay prints them, and no function returns them. */
 enum cue_refusal {
@@ -154,13 +154,15 @@ uint32_t cue_load(const uint8_t *image, size_t image_len, const uint64_t *table,
 uint32_t cue_store(uint8_t *image, size_t image_len, const uint64_t *table, size_t table_len, uint64_t pointer, uint64_t width, uint64_t value);
 
 /* Frees the object whose base the pointer is, merges with free neighbours, zeroes the rest and the table entry. The free
- * total grows by the object's extent.
+ * total grows by the object's extent. On an image that only these calls have written since cue_setup, through pointers of
+ * live objects, two objects may be freed in either order: image and table are then the same.
  * Refusals, in order: 4, 5, 10, 11, 15, 7 (also where the walk from 16 misses the header, or the next one is unsound),
  * 22 (the free total would exceed image_len - 16). */
 uint32_t cue_free(uint8_t *image, size_t image_len, uint64_t *table, size_t table_len, uint64_t pointer);
 
 /* Frees all objects of a cue and gives how many, 0 where it has none; image and table are as if each had been freed by
- * cue_free, in address order.
+ * cue_free, in address order. Two cues may be released in either order where two objects may be freed so: image, table and
+ * both numbers are the same.
  * Refusals, in order: 4, 5, 7 (wherever in the image), 21, 22 (the free total would exceed image_len - 16, with all of
  * the objects' extents; also where the cue has none). */
 uint32_t cue_release(uint8_t *image, size_t image_len, uint64_t *table, size_t table_len, uint32_t cue, uint64_t *count);

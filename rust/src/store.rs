@@ -347,7 +347,8 @@ impl<'a> Store<'a> {
     }
 
     /// Frees the object whose start `pointer` is, merges its block with free neighbours and zeroes what it held. The
-    /// [free total](Store::free_total) grows by the object's extent.
+    /// [free total](Store::free_total) grows by the object's extent. Where only these calls have written, through pointers of live
+    /// objects, two objects may be freed in either order: image and table are then the same.
     ///
     /// Refused with, in this order: [`BadTag`](Refusal::BadTag), [`Dangling`](Refusal::Dangling), [`NotBase`](Refusal::NotBase),
     /// [`Unsound`](Refusal::Unsound), [`WrongTotal`](Refusal::WrongTotal). The last never occurs where only these calls have written,
@@ -373,7 +374,8 @@ impl<'a> Store<'a> {
     /// Frees all objects of a cue and gives how many: none where no object carries it.
     ///
     /// Image and table are then as if each had been [freed](Store::free), in the order of their addresses. Cue 0 is that of the
-    /// objects of [`allocate`](Store::allocate).
+    /// objects of [`allocate`](Store::allocate). Where only these calls have written, through pointers of live objects, two cues may be
+    /// released in either order: image, table and both numbers are the same.
     ///
     /// Refused with, in this order: [`Unsound`](Refusal::Unsound), wherever in the image; [`EntryLost`](Refusal::EntryLost);
     /// [`WrongTotal`](Refusal::WrongTotal), asked of all the objects' extents together, and also where there are none. None of them

@@ -19,10 +19,10 @@ use Rattle.history.specs.Release.{answers}
 use Rattle.history.specs.Commuting.{Commute, freeOf}
 use Rattle.history.proofs.Gaps.{Block, blockAt}
 use Rattle.history.proofs.Looks.{two-tests}
-use Rattle.history.proofs.Heap.{find, Distinct, some-same, passing-within}
+use Rattle.history.proofs.Heap.{find, some-same, passing-within}
 use Rattle.history.proofs.Invariant.{Invariant, formatted, same-image}
 use Rattle.history.proofs.Steps.{Emptied, free-live}
-use Rattle.history.proofs.Releases.{sorted-distinct, sorted-same, Live, Apart, first-apart, live-on, mine, released, mine-found, release-counts, release-left}
+use Rattle.history.proofs.Releases.{sorted-same, Live, Apart, first-lives, live-on, rest-live, mine, released, mine-found, mine-live, release-counts, release-left}
 
 -- Two live objects: the same blocks are left, so the image is; the same entries are cleared, so the table is.
 pub frees-commute : {s L : ℕ} {x : State} {heap : Heap} (i : Invariant s L x heap) (o o′ : Object) → find heap (headerOf o) ≡ some o
@@ -55,34 +55,30 @@ frees-commute {s} {L} {x} {heap} i o o′ e e′ n =
     }
 
 -- An object and a list of others.
-one-past : {s L : ℕ} {x : State} {heap : Heap} (i : Invariant s L x heap) (o : Object) (os : Heap) → find heap (headerOf o) ≡ some o → Distinct os
-    → Live heap os → Apart o os → freeEach (answers os) (free (o .answer) x .after) ≡ free (o .answer) (freeEach (answers os) x) .after
+one-past : {s L : ℕ} {x : State} {heap : Heap} (i : Invariant s L x heap) (o : Object) (os : Heap) → find heap (headerOf o) ≡ some o → Live heap os
+    → Apart o os → freeEach (answers os) (free (o .answer) x .after) ≡ free (o .answer) (freeEach (answers os) x) .after
 unfolding answers
-one-past {x = x} i o [] e d live n = free-each-none _ ∙ ap (λ (y : State). free (o .answer) y .after) (sym (free-each-none x))
-one-past {x = x} i o (p ∷ os) e d live n =
-    let here = live p (List·Memᴰ·head refl) in
+one-past {x = x} i o [] e l n = free-each-none _ ∙ ap (λ (y : State). free (o .answer) y .after) (sym (free-each-none x))
+one-past {x = x} i o (p ∷ os) e l n =
     let apart : headerOf o ≡ headerOf p → ⊥ = n p (List·Memᴰ·head refl) in
-    let f : Emptied i (headerOf p) p (free (p .answer) x) = free-live i (headerOf p) p here in
+    let f : Emptied i (headerOf p) p (free (p .answer) x) = free-live i (headerOf p) p (first-lives l) in
     free-each-one (p .answer) (answers os) (free (o .answer) x .after)
-    ∙ ap (freeEach (answers os)) (frees-commute i o p e here apart .same)
-    ∙ one-past (f .left) o os (f .finds (headerOf o) ∙ rw (ne-eqb (headerOf o) (headerOf p) apart) e) (d .1)
-    (live-on f os (first-apart p os d) (λ q m. live q (List·Memᴰ·tail m))) (λ q m. n q (List·Memᴰ·tail m))
+    ∙ ap (freeEach (answers os)) (frees-commute i o p e (first-lives l) apart .same)
+    ∙ one-past (f .left) o os (f .finds (headerOf o) ∙ rw (ne-eqb (headerOf o) (headerOf p) apart) e) (rest-live f os l) (λ q m. n q (List·Memᴰ·tail m))
     ∙ ap (λ (y : State). free (o .answer) y .after) (sym (free-each-one (p .answer) (answers os) x))
 
 -- Two lists of live objects, none in both.
-pub lists-commute : {s L : ℕ} {x : State} {heap : Heap} (i : Invariant s L x heap) (os ps : Heap) → Distinct os → Distinct ps → Live heap os → Live heap ps
+lists-commute : {s L : ℕ} {x : State} {heap : Heap} (i : Invariant s L x heap) (os ps : Heap) → Live heap os → Live heap ps
     → ((o : Object) → In o os → Apart o ps)
     → freeEach (answers ps) (freeEach (answers os) x) ≡ freeEach (answers os) (freeEach (answers ps) x)
 unfolding answers
-lists-commute {x = x} i [] ps d d′ live live′ n = ap (freeEach (answers ps)) (free-each-none x) ∙ sym (free-each-none _)
-lists-commute {x = x} i (o ∷ os) ps d d′ live live′ n =
-    let here = live o (List·Memᴰ·head refl) in
+lists-commute {x = x} i [] ps l m n = ap (freeEach (answers ps)) (free-each-none x) ∙ sym (free-each-none _)
+lists-commute {x = x} i (o ∷ os) ps l m n =
     let apart : Apart o ps = n o (List·Memᴰ·head refl) in
-    let f : Emptied i (headerOf o) o (free (o .answer) x) = free-live i (headerOf o) o here in
+    let f : Emptied i (headerOf o) o (free (o .answer) x) = free-live i (headerOf o) o (first-lives l) in
     ap (freeEach (answers ps)) (free-each-one (o .answer) (answers os) x)
-    ∙ lists-commute (f .left) os ps (d .1) d′ (live-on f os (first-apart o os d) (λ q m. live q (List·Memᴰ·tail m))) (live-on f ps apart live′)
-    (λ q m. n q (List·Memᴰ·tail m))
-    ∙ ap (freeEach (answers os)) (one-past i o ps here d′ live′ apart)
+    ∙ lists-commute (f .left) os ps (rest-live f os l) (live-on f ps apart m) (λ q w. n q (List·Memᴰ·tail w))
+    ∙ ap (freeEach (answers os)) (one-past i o ps (first-lives l) m apart)
     ∙ sym (free-each-one (o .answer) (answers os) (freeEach (answers ps) x))
 
 -- Two cues.
@@ -123,8 +119,7 @@ module _ {s L : ℕ} {x : State} {heap : Heap} (i : Invariant s L x heap) where
         b-answer = ap (λ (r : Outcome). r .answer) (second c d n);
         same =
             ap (λ (r : Outcome). r .after) (second c d n)
-            ∙ lists-commute i (objects c) (objects d) (sorted-distinct (objects c) (mine i c .sorted)) (sorted-distinct (objects d) (mine i d .sorted))
-            (λ o m. mine i c .live o m .0) (λ o m. mine i d .live o m .0)
+            ∙ lists-commute i (objects c) (objects d) (mine-live i c) (mine-live i d)
             (λ o m p w q.
             let a = mine i c .live o m in
             let b = mine i d .live p w in

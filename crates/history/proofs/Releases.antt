@@ -1,5 +1,5 @@
 -- A release on an image and table with the invariant.
--- In order: lists in the order of addresses; the cue's objects, so ordered; freeing them singly; what a release comes to. Assumes nothing.
+-- In order: lists in the order of addresses; the cue's objects, so ordered; freeing live objects singly; what a release comes to. Assumes nothing.
 use Prim.Native.Nat.{ℕ, suc, _+_, _≤_, _<_}
 use mathlib.Core.Path.{_≡_, refl, sym, ap, _∙_, subst}
 use mathlib.Core.Bool.{Bool, true, not}
@@ -38,7 +38,7 @@ abbrev pub Sorted : Heap → Type 0
 Sorted os = Pairs (λ o o′. headerOf o < headerOf o′) os
 
 -- no two of them have one header place
-pub sorted-distinct : (os : Heap) → Sorted os → Distinct os
+sorted-distinct : (os : Heap) → Sorted os → Distinct os
 sorted-distinct [] c = tt
 sorted-distinct (o ∷ os) c = (go (find os (headerOf o)) refl, sorted-distinct os (c .1))
   where
@@ -177,28 +177,40 @@ module _ {s L : ℕ} {x : State} {heap : Heap} (i : Invariant s L x heap) where
         extents = omega (arith, rest .extents);
       }))
 
--- Freeing them.
+-- Freeing live objects singly.
 
--- the objects live
-abbrev pub Live : Heap → Heap → Type 0
-Live heap os = (o : Object) → In o os → find heap (headerOf o) ≡ some o
+-- live objects, no two of them at one header place
+pub record Live (heap os : Heap) : Type 0 where
+  pub distinct : Distinct os
+  pub lives : (o : Object) → In o os → find heap (headerOf o) ≡ some o
 
--- none of them stands where o does
+-- none of the objects stands where o does
 abbrev pub Apart : Object → Heap → Type 0
 Apart o os = (p : Object) → In p os → headerOf o ≡ headerOf p → ⊥
 
--- so no object of a list does where its first one does
-pub first-apart : (o : Object) (os : Heap) → Distinct (o ∷ os) → Apart o os
-first-apart o os d p m e = none-some (d .0) (ap (find os) e ∙ in-find os p (d .1) m)
+-- the first one lives, and the rest do not stand there
+pub first-lives : {heap : Heap} {o : Object} {os : Heap} → Live heap (o ∷ os) → find heap (headerOf o) ≡ some o
+first-lives {o = o} l = l .lives o (List·Memᴰ·head refl)
 
--- others live on when an object is freed
-pub live-on : {s L : ℕ} {x : State} {heap : Heap} {i : Invariant s L x heap} {o : Object} {r : Outcome} → Emptied i (headerOf o) o r
-    → (os : Heap) → Apart o os → Live heap os → Live (without heap (o .answer)) os
-live-on {o = o} f os n live p m = f .finds (headerOf p) ∙ rw (ne-eqb (headerOf p) (headerOf o) (λ e. n p m (sym e))) (live p m)
+pub rest-apart : {heap : Heap} {o : Object} {os : Heap} → Live heap (o ∷ os) → Apart o os
+rest-apart {os = os} l p m e = none-some (l .distinct .0) (ap (find os) e ∙ in-find os p (l .distinct .1) m)
 
-free-all : {s L : ℕ} {x : State} {heap : Heap} (i : Invariant s L x heap) (os : Heap) → Distinct os → Live heap os → Freed s L x heap os
+module _ {s L : ℕ} {x : State} {heap : Heap} {i : Invariant s L x heap} {o : Object} {r : Outcome} (f : Emptied i (headerOf o) o r) where
+  -- others live on when an object is freed
+  pub live-on : (os : Heap) → Apart o os → Live heap os → Live (without heap (o .answer)) os
+  live-on os n l =
+      record {
+        distinct = l .distinct;
+        lives = λ p m. f .finds (headerOf p) ∙ rw (ne-eqb (headerOf p) (headerOf o) (λ e. n p m (sym e))) (l .lives p m);
+      }
+
+  -- and so the rest, when the first one is
+  pub rest-live : (os : Heap) → Live heap (o ∷ os) → Live (without heap (o .answer)) os
+  rest-live os l = live-on os (rest-apart l) (record { distinct = l .distinct .1; lives = λ p m. l .lives p (List·Memᴰ·tail m) })
+
+free-all : {s L : ℕ} {x : State} {heap : Heap} (i : Invariant s L x heap) (os : Heap) → Live heap os → Freed s L x heap os
 unfolding answers
-free-all {s} {L} {x} {heap} i [] d live =
+free-all {s} {L} {x} {heap} i [] l =
     record {
       each = none-left x;
       new = heap;
@@ -206,20 +218,17 @@ free-all {s} {L} {x} {heap} i [] d live =
       gone = λ o m. absurd (List·Memᴰ·not-nil m);
       stays = λ k n. refl;
     }
-free-all {s} {L} {x} {heap} i (o ∷ os) d live =
+free-all {s} {L} {x} {heap} i (o ∷ os) l =
     let h : ℕ = headerOf o in
-    let apart : Apart o os = first-apart o os d in
-    let f : Emptied i h o (free (o .answer) x) = free-live i h o (live o (List·Memᴰ·head refl)) in
-    let r : Freed s L (free (o .answer) x .after) (without heap (o .answer)) os =
-    free-all (f .left) os (d .1) (live-on f os apart (λ p m. live p (List·Memᴰ·tail m)))
-    in
+    let f : Emptied i h o (free (o .answer) x) = free-live i h o (first-lives l) in
+    let r : Freed s L (free (o .answer) x .after) (without heap (o .answer)) os = free-all (f .left) os (rest-live f os l) in
     record {
       each = one-freed (o .answer) (answers os) x (ap returned (f .answers)) (r .each);
       new = r .new;
       left = subst (λ (y : State). Invariant s L y (r .new)) (sym (free-each-one (o .answer) (answers os) x)) (r .left);
       gone =
           in-cons {P = λ p. find (r .new) (headerOf p) ≡ none} o os
-          (r .stays h (λ p m e. apart p m (sym e)) ∙ f .finds h ∙ rw (eq-eqb h h refl)) (r .gone);
+          (r .stays h (λ p m e. rest-apart l p m (sym e)) ∙ f .finds h ∙ rw (eq-eqb h h refl)) (r .gone);
       stays = λ k n. r .stays k (λ p m. n p (List·Memᴰ·tail m)) ∙ f .finds k ∙ rw (ne-eqb k h (λ e. n o (List·Memᴰ·head refl) (sym e)));
     }
 
@@ -279,9 +288,13 @@ module _ {s L : ℕ} {x : State} {heap : Heap} (i : Invariant s L x heap) (cue :
       let d : Distinct (mine .objects) = sorted-distinct (mine .objects) (mine .sorted) in
       rw released (refl, same-count (mine .objects) (ofCue heap cue) d (distinct-passing is-mine heap (i .laid .distinct)) mine-found)
 
+  -- they live
+  pub mine-live : Live heap (mine .objects)
+  mine-live = record { distinct = sorted-distinct (mine .objects) (mine .sorted); lives = λ o m. mine .live o m .0 }
+
   -- freeing them singly
   singly : Freed s L x heap (mine .objects)
-  singly = free-all i (mine .objects) (sorted-distinct (mine .objects) (mine .sorted)) (λ o m. mine .live o m .0)
+  singly = free-all i (mine .objects) mine-live
 
   -- leaves the objects that pass the second
   others-left : (k : ℕ) → find (singly .new) k ≡ find (withoutCue heap cue) k

@@ -98,7 +98,7 @@ pub either-order : (allAdmitted neighbours fresh6 ≡ true)
     × Commute (freeOf (neighbour 1)) (freeOf (neighbour 2)) (after neighbours fresh6 .state)
     × Commute (releaseCue 0) (releaseCue 9) (after neighbours fresh6 .state)
     × Commute (releaseCue 9) (releaseCue 1) (after neighbours fresh6 .state)
-unfolding frameNumber frameNumberIn unpack pack goodTag reach landed moved wrapper tagNumber pointerTo tagMatches usedEntries entryAt encode decode field put superblock withTotal superblockGood header headerAt wellFormed sound walkIn walkFrom walk fitOf firstFit metOf walkTo setUpChecks fresh setUp opening entryHolds fitAnswer takenExtent allocateChecks carved noted allocateFor headerPlace verified leadsBack located fromStart toEnd inBody accessed distancesChecks distancesAt distances movedAnswer moveAnswer move loadAnswer load storeChecks store fillChecks fill copyChecks copy textFrom textOf textAnswer textAt copyTextChecks copyText mergeEnd mergeStart released freeChecks releasedAt totalFits totalled freeRelease merged freed free walkCue gatheredAnswer placesOf allHeld extentsOf releaseChecks pointersTo cuePointers freeEach releaseCue member ownerOf inside change without passing write copied copiedText textCopied hear after allAdmitted known countOf countBlocks tallyOpened tallyCounted tally freeTotal
+unfolding frameNumber frameNumberIn unpack pack goodTag reach wrapper tagNumber pointerTo tagMatches usedEntries entryAt encode decode field put superblock withTotal superblockGood header headerAt wellFormed sound walkIn walkFrom walk fitOf firstFit metOf walkTo setUpChecks fresh setUp opening entryHolds fitAnswer takenExtent allocateChecks carved noted allocateFor headerPlace verified leadsBack located inBody accessed fillChecks fill mergeEnd mergeStart released freeChecks releasedAt totalFits totalled freeRelease merged freed free walkCue gatheredAnswer placesOf allHeld extentsOf releaseChecks pointersTo cuePointers freeEach releaseCue member ownerOf inside change without passing write hear after allAdmitted known
 either-order = (
   refl,
   record { a-accepted = refl; b-accepted = refl; a-answer = refl; b-answer = refl; same = refl },

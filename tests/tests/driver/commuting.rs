@@ -5,7 +5,7 @@ use cueledger_tests::commuting::either_order;
 use cueledger_tests::model::{self, Header, Pointer};
 use cueledger_tests::store::{Answer, Call, Model};
 
-/// What tells the fault: an answer, a byte of the image, or an entry.
+/// The fault shows on histories that the model has made, by what the text tells.
 fn find(fault: Behaviour, told_by: &str) {
     let what = either_order(&Model, &Faulty(fault), 1_000, 1).expect_err("the fault was not found");
     println!("{what}");
@@ -22,7 +22,7 @@ fn behind_free(image: &mut [u8], table: &mut [u64], call: Call<u64>, done: fn(&m
     answer
 }
 
-/// The model's answers, but the free block at h, if there is one with more behind it, is cut in two there.
+/// Cuts the free block that reaches over `h`, if one does, in two there.
 fn cut(image: &mut [u8], h: usize) {
     let blocks: Vec<(u64, Header)> = model::blocks(image).collect();
     if let Some(&(from, header)) = blocks.iter().find(|&&(from, header)| from < h as u64 && (h as u64) < from + u64::from(header.extent)) {
