@@ -5,7 +5,7 @@ use crate::case::Run;
 use crate::counts::Counts;
 use crate::driver::play;
 use crate::generate::Generator;
-use crate::model::{self, Header, Pointer};
+use crate::model::{self, Header, Pointer, HEADER};
 use crate::random::Random;
 use crate::store::{Answer, Call, Store};
 use std::fmt;
@@ -39,19 +39,24 @@ impl Dump {
 
 /// What differs between the two orders, or is refused.
 fn difference(store: &impl Store, dump: &Dump, a: Call<u64>, b: Call<u64>) -> Option<String> {
-    let (first, [a_first, b_second]) = dump.after(store, [a, b]);
-    let (second, [b_first, a_second]) = dump.after(store, [b, a]);
+    let (one, [a_first, b_second]) = dump.after(store, [a, b]);
+    let (other, [b_first, a_second]) = dump.after(store, [b, a]);
     for (call, first, second) in [(a, a_first, a_second), (b, b_first, b_second)] {
         if !first.accepted() || first != second {
             return Some(format!("{call}: {first} as the first call, {second} as the second"));
         }
     }
     let orders = format!("{a}; {b}; and the other way round");
-    if let Some(at) = (0..first.image.len()).find(|&i| first.image[i] != second.image[i]) {
-        return Some(format!("{orders}: image byte {at} is {:#04x}, {:#04x}", first.image[at], second.image[at]));
+    if let Some(at) = (0..one.image.len()).find(|&i| one.image[i] != other.image[i]) {
+        return Some(format!("{orders}: image byte {at} is {:#04x}, {:#04x}", one.image[at], other.image[at]));
     }
-    let at = (0..first.table.len()).find(|&i| first.table[i] != second.table[i])?;
-    Some(format!("{orders}: table entry {at} is {:#x}, {:#x}", first.table[at], second.table[at]))
+    let at = (0..one.table.len()).find(|&i| one.table[i] != other.table[i])?;
+    Some(format!("{orders}: table entry {at} is {:#x}, {:#x}", one.table[at], other.table[at]))
+}
+
+/// Whether the object with its header at h is small-framed.
+fn is_small(image: &[u8], (h, header): (u64, Header)) -> bool {
+    Pointer::to(image[6].into(), h, header.size.into()).small
 }
 
 /// Two objects, as places in the list of blocks, the lower one first.
@@ -67,8 +72,7 @@ impl TwoObjects<'_> {
     }
 
     fn small(&self) -> [bool; 2] {
-        let s = u32::from(self.image[6]);
-        self.at.map(|i| Pointer::to(s, self.blocks[i].0, self.blocks[i].1.size.into()).small)
+        self.at.map(|i| is_small(self.image, self.blocks[i]))
     }
 
     fn is_free(&self, i: usize) -> bool {
@@ -77,12 +81,13 @@ impl TwoObjects<'_> {
 
     fn written(&self, i: usize) -> bool {
         let (h, header) = self.blocks[i];
-        self.image[h as usize + 16..][..header.size as usize].iter().any(|&byte| byte != 0)
+        self.image[(h + HEADER) as usize..][..header.size as usize].iter().any(|&byte| byte != 0)
     }
 }
 
 /// Two cues, and the list of blocks.
 pub struct TwoCues<'a> {
+    image: &'a [u8],
     blocks: &'a [(u64, Header)],
     cues: [u32; 2],
 }
@@ -90,6 +95,20 @@ pub struct TwoCues<'a> {
 impl TwoCues<'_> {
     fn with_objects(&self) -> usize {
         self.cues.iter().filter(|&&cue| self.blocks.iter().any(|(_, header)| header.carries(cue))).count()
+    }
+
+    /// A large-framed object of each.
+    fn with_entries(&self) -> bool {
+        self.cues.iter().all(|&cue| self.blocks.iter().any(|&(h, header)| header.carries(cue) && !is_small(self.image, (h, header))))
+    }
+
+    /// An object of the one, somewhere between two of the other.
+    fn interleaved(&self) -> bool {
+        let [c, d] = self.cues;
+        let both = self.blocks.iter().filter(|(_, header)| header.carries(c) || header.carries(d));
+        let mut turns: Vec<bool> = both.map(|(_, header)| header.carries(c)).collect();
+        turns.dedup();
+        turns.len() > 2
     }
 
     /// Live blocks of both cues with so many free blocks between them.
@@ -121,18 +140,21 @@ pub const OBJECTS: [ObjectKind; 13] = [
     ("both large-framed", |pair| pair.small() == [false; 2]),
     ("one of each", |pair| pair.small()[0] != pair.small()[1]),
     ("one of no bytes", |pair| pair.headers().iter().any(|header| header.size == 0)),
-    ("spare bytes", |pair| pair.headers().iter().any(|header| header.extent > 16 + header.size)),
+    ("spare bytes", |pair| pair.headers().iter().any(|header| u64::from(header.extent) > HEADER + u64::from(header.size))),
     ("bytes in both bodies", |pair| pair.at.iter().all(|&i| pair.written(i))),
 ];
 
-pub const CUES: [CueKind; 7] = [
+pub const CUES: [CueKind; 10] = [
     ("objects of both", |pair| pair.with_objects() == 2),
     ("objects of one", |pair| pair.with_objects() == 1),
     ("objects of neither", |pair| pair.with_objects() == 0),
     ("cue 0", |pair| pair.cues.contains(&0)),
     ("cue 2^32 - 1", |pair| pair.cues.contains(&u32::MAX)),
+    ("two other cues with objects", |pair| pair.with_objects() == 2 && pair.cues.iter().all(|cue| ![0, u32::MAX].contains(cue))),
     ("neighbours, one of each", |pair| pair.side_by_side(0)),
     ("one of each around a free block", |pair| pair.side_by_side(1)),
+    ("one between two of the other", |pair| pair.interleaved()),
+    ("large-framed objects of both", |pair| pair.with_entries()),
 ];
 
 /// How many pairs were tried, and how many of each kind.
@@ -141,6 +163,15 @@ pub struct Tried {
     pub pairs: [u64; 2],
     pub objects: [u64; OBJECTS.len()],
     pub cues: [u64; CUES.len()],
+}
+
+impl Tried {
+    /// The kinds of which fewer pairs were tried.
+    pub fn under(&self, least: u64) -> Vec<&'static str> {
+        let objects = OBJECTS.iter().map(|(name, _)| *name).zip(self.objects);
+        let cues = CUES.iter().map(|(name, _)| *name).zip(self.cues);
+        objects.chain(cues).filter(|&(_, count)| count < least).map(|(name, _)| name).collect()
+    }
 }
 
 impl fmt::Display for Tried {
@@ -158,10 +189,11 @@ fn look<A: Store, B: Store>(run: &Run<'_, A, B>, store: &impl Store, random: &mu
     let dump = Dump { image: image.to_vec(), table: table.to_vec(), lent_image, lent_table };
     let blocks: Vec<(u64, Header)> = model::blocks(&dump.image[..lent_image]).collect();
     let heap: Vec<(u64, (u64, u32))> = run.heap().iter().map(|(&base, &object)| (base, object)).collect();
-    for _ in 0..if heap.len() < 2 { 0 } else { PAIRS } {
+    let pairs = if heap.len() < 2 { 0 } else { PAIRS };
+    for _ in 0..pairs {
         let i = random.below(heap.len() as u64 - 1) as usize;
         let j = if random.percent(50) { i + 1 } else { random.within(i as u64 + 1, heap.len() as u64 - 1) as usize };
-        let at = [i, j].map(|i| blocks.iter().position(|&(h, _)| h + 16 == heap[i].0).expect("a live object's block is on the walk"));
+        let at = [i, j].map(|i| blocks.iter().position(|&(h, _)| h + HEADER == heap[i].0).expect("a live object's block is on the walk"));
         let [a, b] = [i, j].map(|i| Call::Free { pointer: heap[i].1 .0 });
         if let Some(what) = difference(store, &dump, a, b) {
             return Err(what);
@@ -186,7 +218,7 @@ fn look<A: Store, B: Store>(run: &Run<'_, A, B>, store: &impl Store, random: &mu
             return Err(what);
         }
         tried.pairs[1] += 1;
-        let pair = TwoCues { blocks: &blocks, cues };
+        let pair = TwoCues { image: &dump.image, blocks: &blocks, cues };
         tried.cues.iter_mut().zip(CUES).for_each(|(count, (_, is_of_it))| *count += u64::from(is_of_it(&pair)));
     }
     Ok(())

@@ -41,6 +41,13 @@ pub find-there : (o : Object) (os : Heap) (k : ℕ) → (k ≡ headerOf o → �
 unfolding find
 find-there o os k n = rw (ne-eqb k (headerOf o) n)
 
+-- what stands behind a first object is what stands elsewhere in the whole list
+pub find-rest : (o : Object) (os : Heap) (k : ℕ) → Distinct (o ∷ os) → find os k ≡ cond (eqb k (headerOf o)) none (find (o ∷ os) k)
+find-rest o os k d =
+    byBool (eqb k (headerOf o))
+    (λ t. rw t (ap (find os) (eqb-true k (headerOf o) t) ∙ d .0))
+    (λ t. rw t (sym (find-there o os k (eqb-false k (headerOf o) t))))
+
 -- what is found has its header there
 pub find-place : (heap : Heap) (k : ℕ) (o : Object) → find heap k ≡ some o → headerOf o ≡ k
 unfolding find
@@ -91,13 +98,21 @@ pairwise P (x ∷ xs) c (suc i) zero d l u = absurd (omega arith)
 pairwise P (x ∷ xs) c zero (suc j) d l u = c .0 (getD xs j d) (getD-in xs j d (omega arith))
 pairwise P (x ∷ xs) c (suc i) (suc j) d l u = pairwise P xs (c .1) i j d (omega arith) (omega arith)
 
+-- no object of the list has its header where o has
+abbrev pub Apart : Object → Heap → Type 0
+Apart o os = (p : Object) → In p os → headerOf o ≡ headerOf p → ⊥
+
+-- nor one behind the first where the first has
+pub first-apart : (o : Object) (os : Heap) → Distinct (o ∷ os) → Apart o os
+first-apart o os d p m e = none-some (d .0) (ap (find os) e ∙ in-find os p (d .1) m)
+
 -- two places of the list have two header places
 pub places-apart : (heap : Heap) → Distinct heap → Pairwise heap (λ o o′. headerOf o ≡ headerOf o′ → ⊥)
 places-apart heap c = pairwise _ heap (go heap c)
   where
     go : (os : Heap) → Distinct os → Pairs (λ o o′. headerOf o ≡ headerOf o′ → ⊥) os
     go [] e = tt
-    go (x ∷ xs) e = ((λ o m q. none-some (e .0) (ap (find xs) q ∙ in-find xs o (e .1) m)), go xs (e .1))
+    go (x ∷ xs) e = (first-apart x xs e, go xs (e .1))
 
 -- so what holds of any two live objects with two header places holds of any two places of the list
 pub two-places : (heap : Heap) (P : Object → Object → Type 0) → Distinct heap
@@ -309,9 +324,6 @@ same-count [] (x ∷ xs) d d′ e = absurd (none-some {o = x} refl (e (headerOf 
 same-count (o ∷ os) new d d′ e =
     let there : find new (headerOf o) ≡ some o = sym (e (headerOf o)) ∙ find-here o os (headerOf o) refl in
     let rest : (k : ℕ) → find os k ≡ find (without new (o .answer)) k =
-    λ k.
-    byBool (eqb k (headerOf o))
-    (λ t. (ap (find os) (eqb-true k (headerOf o) t) ∙ d .0) ∙ sym (find-without new o k d′ there ∙ rw t))
-    (λ t. sym (find-there o os k (eqb-false k (headerOf o) t)) ∙ e k ∙ sym (find-without new o k d′ there ∙ rw t))
+    λ k. find-rest o os k d ∙ ap (λ (r : Option Object). cond (eqb k (headerOf o)) none r) (e k) ∙ sym (find-without new o k d′ there)
     in
     ap suc (same-count os (without new (o .answer)) (d .1) (distinct-without new (o .answer) d′) rest) ∙ sym (length-without new o there)

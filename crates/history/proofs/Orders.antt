@@ -19,10 +19,10 @@ use Rattle.history.specs.Release.{answers}
 use Rattle.history.specs.Commuting.{Commute, freeOf}
 use Rattle.history.proofs.Gaps.{Block, blockAt}
 use Rattle.history.proofs.Looks.{two-tests}
-use Rattle.history.proofs.Heap.{find, some-same, passing-within}
+use Rattle.history.proofs.Heap.{find, some-same, Apart, passing-within}
 use Rattle.history.proofs.Invariant.{Invariant, formatted, same-image}
 use Rattle.history.proofs.Steps.{Emptied, free-live}
-use Rattle.history.proofs.Releases.{sorted-same, Live, Apart, first-lives, live-on, rest-live, mine, released, mine-found, mine-live, release-counts, release-left}
+use Rattle.history.proofs.Releases.{sorted-same, Live, first-lives, live-on, rest-live, mine, released, mine-found, mine-live, release-counts, release-left}
 
 -- Two live objects: the same blocks are left, so the image is; the same entries are cleared, so the table is.
 pub frees-commute : {s L : ℕ} {x : State} {heap : Heap} (i : Invariant s L x heap) (o o′ : Object) → find heap (headerOf o) ≡ some o
@@ -54,7 +54,7 @@ frees-commute {s} {L} {x} {heap} i o o′ e e′ n =
       same = λ k. record { image = same-image (formatted (a-b .left .laid)) (formatted (b-a .left .laid)) looks k; table = table k };
     }
 
--- An object and a list of others.
+-- An object and a list of others: it is freed before them or behind them.
 one-past : {s L : ℕ} {x : State} {heap : Heap} (i : Invariant s L x heap) (o : Object) (os : Heap) → find heap (headerOf o) ≡ some o → Live heap os
     → Apart o os → freeEach (answers os) (free (o .answer) x .after) ≡ free (o .answer) (freeEach (answers os) x) .after
 unfolding answers
@@ -109,6 +109,7 @@ module _ {s L : ℕ} {x : State} {heap : Heap} (i : Invariant s L x heap) where
         after = freeEach (answers (objects-stay c d n k)) (released i c k .after);
       })
 
+  -- so the two releases are two lists of frees
   pub releases-commute : (c d : ℕ) → (c ≡ d → ⊥) → Commute (releaseCue c) (releaseCue d) x
   releases-commute c d n =
       let n′ : d ≡ c → ⊥ = λ q. n (sym q) in

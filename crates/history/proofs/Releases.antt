@@ -2,7 +2,7 @@
 -- In order: lists in the order of addresses; the cue's objects, so ordered; freeing live objects singly; what a release comes to. Assumes nothing.
 use Prim.Native.Nat.{ℕ, suc, _+_, _≤_, _<_}
 use mathlib.Core.Path.{_≡_, refl, sym, ap, _∙_, subst}
-use mathlib.Core.Bool.{Bool, true, not}
+use mathlib.Core.Bool.{Bool, true, not, cond}
 use mathlib.Core.List.{List, [], _∷_, List·Memᴰ·head, List·Memᴰ·tail, List·Memᴰ·not-nil, List·Memᴰ·cases-cons}
 use mathlib.Core.Logic.{_↔_, ⊎-elim}
 use mathlib.Core.Option.{Option, none, some}
@@ -29,7 +29,7 @@ use Rattle.history.proofs.Gaps.{extent, Layout, last, item, size, gaps,
 use Rattle.history.proofs.Looks.{look-first, look-rest, look-inside}
 use Rattle.history.proofs.Image.{live-at}
 use Rattle.history.proofs.Gathering.{placesIn, gather-layout}
-use Rattle.history.proofs.Heap.{find, Distinct, none-some, some-same, find-here, find-there, find-place, find-in, in-find, Pairs, pairwise, found-passing, distinct-passing, same-count}
+use Rattle.history.proofs.Heap.{find, Distinct, none-some, some-same, find-here, find-rest, find-place, find-in, in-find, Pairs, pairwise, Apart, first-apart, found-passing, distinct-passing, same-count}
 use Rattle.history.proofs.Invariant.{Invariant, known, object-of, no-object, exponent-is, total-is, opens, relisted}
 use Rattle.history.proofs.Steps.{Emptied, free-live}
 
@@ -46,6 +46,14 @@ sorted-distinct (o ∷ os) c = (go (find os (headerOf o)) refl, sorted-distinct 
     go none e = refl
     go (some o′) e = absurd (omega (arith, c .0 o′ (find-in os (headerOf o) o′ e), find-place os (headerOf o) o′ e))
 
+-- the first is the lowest
+first-lowest : (o : Object) (os : Heap) → Sorted (o ∷ os) → (p : Object) → find (o ∷ os) (headerOf p) ≡ some p → headerOf o ≤ headerOf p
+first-lowest o os c p e =
+    ⊎-elim
+    (λ (q : p ≡ o). omega (arith, ap (λ (z : Object). headerOf z) q))
+    (λ (m : In p os). omega (arith, c .0 p m))
+    (List·Memᴰ·cases-cons (find-in (o ∷ os) (headerOf p) p e))
+
 -- only one such list has the same objects
 pub sorted-same : (os ps : Heap) → Sorted os → Sorted ps → ((k : ℕ) → find os k ≡ find ps k) → os ≡ ps
 unfolding find
@@ -53,29 +61,17 @@ sorted-same [] [] c d e = refl
 sorted-same [] (p ∷ ps) c d e = absurd (none-some {o = p} refl (e (headerOf p) ∙ find-here p ps (headerOf p) refl))
 sorted-same (o ∷ os) [] c d e = absurd (none-some {o = o} refl (sym (e (headerOf o)) ∙ find-here o os (headerOf o) refl))
 sorted-same (o ∷ os) (p ∷ ps) c d e =
-    let first : o ≡ p =
-    ⊎-elim
-    (λ (q : o ≡ p). q)
-    (λ (m : In o ps).
-    ⊎-elim
-    (λ (q : p ≡ o). sym q)
-    (λ (w : In p os). absurd (omega (arith, c .0 p w, d .0 o m)))
-    (List·Memᴰ·cases-cons (find-in (o ∷ os) (headerOf p) p (e (headerOf p) ∙ find-here p ps (headerOf p) refl))))
-    (List·Memᴰ·cases-cons (find-in (p ∷ ps) (headerOf o) o (sym (e (headerOf o)) ∙ find-here o os (headerOf o) refl)))
-    in
-    let place : headerOf o ≡ headerOf p = ap (λ (q : Object). headerOf q) first in
+    let o-there : find (p ∷ ps) (headerOf o) ≡ some o = sym (e (headerOf o)) ∙ find-here o os (headerOf o) refl in
+    let p-here : find (o ∷ os) (headerOf p) ≡ some p = e (headerOf p) ∙ find-here p ps (headerOf p) refl in
+    let place : headerOf o ≡ headerOf p = omega (arith, first-lowest o os c p p-here, first-lowest p ps d o o-there) in
+    let first : o ≡ p = some-same o-there (find-here p ps (headerOf o) place) in
     let rest : os ≡ ps =
     sorted-same os ps (c .1) (d .1)
     (λ k.
-    byBool (eqb k (headerOf o))
-    (λ t.
-    let at-o : k ≡ headerOf o = eqb-true k (headerOf o) t in
-    ap (find os) at-o ∙ sorted-distinct (o ∷ os) c .0 ∙ sym (ap (find ps) (at-o ∙ place) ∙ sorted-distinct (p ∷ ps) d .0))
-    (λ t.
-    let n : k ≡ headerOf o → ⊥ = eqb-false k (headerOf o) t in
-    sym (find-there o os k n) ∙ e k ∙ find-there p ps k (λ q. n (q ∙ sym place))))
+    find-rest o os k (sorted-distinct (o ∷ os) c) ∙ (λ i. cond (eqb k (headerOf (first i))) none (e k i))
+    ∙ sym (find-rest p ps k (sorted-distinct (p ∷ ps) d)))
     in
-    λ n. first n ∷ rest n
+    λ i. first i ∷ rest i
 
 -- The cue's objects from h on, in the order of their addresses, and what release needs of their places.
 pub record Gathered (s cue : ℕ) (x : State) (heap : Heap) (h : ℕ) (l : Layout) (places : List ℕ) : Type 0 where
@@ -184,16 +180,12 @@ pub record Live (heap os : Heap) : Type 0 where
   pub distinct : Distinct os
   pub lives : (o : Object) → In o os → find heap (headerOf o) ≡ some o
 
--- none of the objects stands where o does
-abbrev pub Apart : Object → Heap → Type 0
-Apart o os = (p : Object) → In p os → headerOf o ≡ headerOf p → ⊥
-
 -- the first one lives, and the rest do not stand there
 pub first-lives : {heap : Heap} {o : Object} {os : Heap} → Live heap (o ∷ os) → find heap (headerOf o) ≡ some o
 first-lives {o = o} l = l .lives o (List·Memᴰ·head refl)
 
 pub rest-apart : {heap : Heap} {o : Object} {os : Heap} → Live heap (o ∷ os) → Apart o os
-rest-apart {os = os} l p m e = none-some (l .distinct .0) (ap (find os) e ∙ in-find os p (l .distinct .1) m)
+rest-apart {o = o} {os = os} l = first-apart o os (l .distinct)
 
 module _ {s L : ℕ} {x : State} {heap : Heap} {i : Invariant s L x heap} {o : Object} {r : Outcome} (f : Emptied i (headerOf o) o r) where
   -- others live on when an object is freed
@@ -208,6 +200,7 @@ module _ {s L : ℕ} {x : State} {heap : Heap} {i : Invariant s L x heap} {o : O
   pub rest-live : (os : Heap) → Live heap (o ∷ os) → Live (without heap (o .answer)) os
   rest-live os l = live-on os (rest-apart l) (record { distinct = l .distinct .1; lives = λ p m. l .lives p (List·Memᴰ·tail m) })
 
+-- freeing them one after the other
 free-all : {s L : ℕ} {x : State} {heap : Heap} (i : Invariant s L x heap) (os : Heap) → Live heap os → Freed s L x heap os
 unfolding answers
 free-all {s} {L} {x} {heap} i [] l =

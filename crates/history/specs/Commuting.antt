@@ -18,7 +18,7 @@ pub record Commute (a b : State → Outcome) (x : State) : Type 0 where
 abbrev pub freeOf : Object → State → Outcome
 freeOf o x = free (o .answer) x
 
--- the frees of any two live objects commute, and so do the releases of any two cues, 0 and cues without objects among them
+-- the frees of any two different live objects commute, and so do the releases of any two different cues, 0 and cues without objects among them
 pub record OrdersAgree (x : Configuration) : Type 0 where
   pub frees : Pairwise (x .heap) (λ o o′. Commute (freeOf o) (freeOf o′) (x .state))
   pub releases : (c d : ℕ) → c < 2 ^ 32 → d < 2 ^ 32 → (c ≡ d → ⊥) → Commute (releaseCue c) (releaseCue d) (x .state)

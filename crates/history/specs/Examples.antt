@@ -3,7 +3,8 @@ use Prim.Native.Nat.{ℕ}
 use mathlib.Core.Path.{_≡_, refl}
 use mathlib.Core.Bool.{true}
 use mathlib.Core.List.{List, [], _∷_}
-use lib.ListN.{replicate, getD}
+use lib.ListN.{length, replicate, getD}
+use native.Mathlib.Omega.{arith}
 use lib.IntN.{pos, negsuc}
 use Rattle.frame.specs.Frame.{frameNumber, frameNumberIn}
 use Rattle.frame.specs.Pointers.{unpack, pack, goodTag, reach, landed, moved}
@@ -12,7 +13,7 @@ use Rattle.block.specs.Bytes.{encode, decode, field, put}
 use Rattle.block.specs.Text.{textFrom, textOf}
 use Rattle.block.specs.Layout.{superblock, withTotal, superblockGood, header, headerAt, wellFormed, sound}
 use Rattle.block.specs.Walk.{walkIn, walkFrom, walk, fitOf, firstFit, metOf, walkTo, countOf, countBlocks, walkCue}
-use Rattle.store.specs.State.{state}
+use Rattle.store.specs.State.{State, state, IsAccepted}
 use Rattle.store.specs.Calls.{setUpChecks, fresh, setUp, opening, entryHolds, fitAnswer, takenExtent, allocateChecks, carved, noted, allocateFor, headerPlace, verified, leadsBack, located, fromStart, toEnd, inBody, accessed, distancesChecks, distancesAt, distances, movedAnswer, moveAnswer, move, loadAnswer, load, storeChecks, store, fillChecks, fill, copyChecks, copy, textAnswer, textAt, copyTextChecks, copyText, mergeEnd, mergeStart, released, freeChecks, releasedAt, totalFits, totalled, freeRelease, merged, freed, free, gatheredAnswer, placesOf, allHeld, extentsOf, releaseChecks, pointersTo, cuePointers, freeEach, releaseCue, freeTotal, tallyOpened, tallyCounted, tally}
 use Rattle.store.specs.declared.answer.Answer.the-variants.{Accepted}
 use Rattle.store.specs.declared.measuring.Measurement.the-variants.{Distances}
@@ -20,7 +21,7 @@ use Rattle.store.specs.declared.counting.Usage.the-variants as usage
 use Rattle.store.specs.Step.{Call, allocates, frees, moves, loads, stores, fills, copies, copiesText, allocatesFor, releases}
 use Rattle.history.specs.Heap.{Object, newObject, member, ownerOf, inside, change, without, passing, write, copied, copiedText, textCopied, hear}
 use Rattle.history.specs.History.{Configuration, begun, after, allAdmitted, known}
-use Rattle.history.specs.Commuting.{Commute, freeOf}
+use Rattle.history.specs.Commuting.{Commute, freeOf, EitherOrder}
 
 -- an image of 128 bytes and a table, full of other bytes, set up at the slot exponent 6
 abbrev fresh6 : Configuration
@@ -76,33 +77,58 @@ pub admitted-calls : (allAdmitted calls fresh6 ≡ true)
 unfolding frameNumber frameNumberIn unpack pack goodTag reach landed moved wrapper tagNumber pointerTo tagMatches usedEntries entryAt encode decode field put superblock withTotal superblockGood header headerAt wellFormed sound walkIn walkFrom walk fitOf firstFit metOf walkTo setUpChecks fresh setUp opening entryHolds fitAnswer takenExtent allocateChecks carved noted allocateFor headerPlace verified leadsBack located fromStart toEnd inBody accessed distancesChecks distancesAt distances movedAnswer moveAnswer move loadAnswer load storeChecks store fillChecks fill copyChecks copy textFrom textOf textAnswer textAt copyTextChecks copyText mergeEnd mergeStart released freeChecks releasedAt totalFits totalled freeRelease merged freed free walkCue gatheredAnswer placesOf allHeld extentsOf releaseChecks pointersTo cuePointers freeEach releaseCue member ownerOf inside change without passing write copied copiedText textCopied hear after allAdmitted known countOf countBlocks tallyOpened tallyCounted tally freeTotal
 admitted-calls = (refl, refl, refl, refl, refl, refl)
 
--- Three neighbours, written from end to end: one of no cue, one of cue 9 that is large-framed, one more of no cue.
+-- an image of 192 bytes and a table, full of other bytes
+abbrev lent : State
+lent = state (replicate 192 7) (replicate 100 9)
+
+-- Three neighbours, written from end to end: one of no cue, one of cue 9 and one more of no cue, both large-framed.
 abbrev pub neighbours : List Call
 neighbours =
     allocates 10 1
     ∷ allocatesFor 20 2 9
-    ∷ allocates 4 3
+    ∷ allocates 40 3
     ∷ fills 0x8010000000000020 10 5
     ∷ fills 0x000700000000003A 20 6
-    ∷ fills 0x800E00000000005E 4 7
+    ∷ fills 0x000800000000005E 40 7
     ∷ []
+
+-- what they leave, set up at the slot exponent 6
+abbrev left : Configuration
+left = after neighbours (begun 6 lent)
 
 -- one of them, in the order of allocation
 abbrev neighbour : ℕ → Object
-neighbour i = getD (after neighbours fresh6 .heap) i (newObject 0 0 0)
+neighbour i = getD (left .heap) i (newObject 0 0 0)
 
--- The first two are freed in either order, and so are the last two; cue 0, which has two of them, and cue 9 are released in either order, and so are
--- cue 9 and a cue without objects.
-pub either-order : (allAdmitted neighbours fresh6 ≡ true)
-    × Commute (freeOf (neighbour 0)) (freeOf (neighbour 1)) (after neighbours fresh6 .state)
-    × Commute (freeOf (neighbour 1)) (freeOf (neighbour 2)) (after neighbours fresh6 .state)
-    × Commute (releaseCue 0) (releaseCue 9) (after neighbours fresh6 .state)
-    × Commute (releaseCue 9) (releaseCue 1) (after neighbours fresh6 .state)
+-- Any two are freed in either order; cue 0, which has two of them, and cue 9 are released in either order, and so are cue 9 and a cue without objects.
+pub neighbours-commute : IsAccepted (setUp 6 lent) × (allAdmitted neighbours (begun 6 lent) ≡ true) × (length (left .heap) ≡ 3)
+    × Commute (freeOf (neighbour 0)) (freeOf (neighbour 1)) (left .state)
+    × Commute (freeOf (neighbour 0)) (freeOf (neighbour 2)) (left .state)
+    × Commute (freeOf (neighbour 1)) (freeOf (neighbour 2)) (left .state)
+    × Commute (releaseCue 0) (releaseCue 9) (left .state)
+    × Commute (releaseCue 9) (releaseCue 1) (left .state)
 unfolding frameNumber frameNumberIn unpack pack goodTag reach wrapper tagNumber pointerTo tagMatches usedEntries entryAt encode decode field put superblock withTotal superblockGood header headerAt wellFormed sound walkIn walkFrom walk fitOf firstFit metOf walkTo setUpChecks fresh setUp opening entryHolds fitAnswer takenExtent allocateChecks carved noted allocateFor headerPlace verified leadsBack located inBody accessed fillChecks fill mergeEnd mergeStart released freeChecks releasedAt totalFits totalled freeRelease merged freed free walkCue gatheredAnswer placesOf allHeld extentsOf releaseChecks pointersTo cuePointers freeEach releaseCue member ownerOf inside change without passing write hear after allAdmitted known
-either-order = (
+neighbours-commute = (
+  refl,
+  refl,
   refl,
   record { a-accepted = refl; b-accepted = refl; a-answer = refl; b-answer = refl; same = refl },
   record { a-accepted = refl; b-accepted = refl; a-answer = refl; b-answer = refl; same = refl },
   record { a-accepted = refl; b-accepted = refl; a-answer = refl; b-answer = refl; same = refl },
   record { a-accepted = refl; b-accepted = refl; a-answer = refl; b-answer = refl; same = refl },
+  record { a-accepted = refl; b-accepted = refl; a-answer = refl; b-answer = refl; same = refl },
 )
+
+-- What the claim says of them, without computing it: image and table are the same whichever of the outer two is freed first, and whichever of cue 0 and cue
+-- 2^32 - 1, or of cue 9 and cue 0, is released first.
+pub claimed : EitherOrder → let x : State = left .state in
+    (free (neighbour 2 .answer) (free (neighbour 0 .answer) x .after) .after ≡ free (neighbour 0 .answer) (free (neighbour 2 .answer) x .after) .after)
+    × (releaseCue 0xFFFFFFFF (releaseCue 0 x .after) .after ≡ releaseCue 0 (releaseCue 0xFFFFFFFF x .after) .after)
+    × (releaseCue 0 (releaseCue 9 x .after) .after ≡ releaseCue 9 (releaseCue 0 x .after) .after)
+unfolding EitherOrder
+claimed claim =
+    let agree = claim 6 lent (neighbours-commute .0) neighbours (neighbours-commute .1) in (
+      agree .frees 0 2 (newObject 0 0 0) (omega arith) (omega (arith, neighbours-commute .2)) .same,
+      agree .releases 0 0xFFFFFFFF (omega arith) (omega arith) (λ e. omega (arith, e)) .same,
+      agree .releases 9 0 (omega arith) (omega arith) (λ e. omega (arith, e)) .same,
+    )

@@ -1,4 +1,5 @@
-//! The long run: `compare [--calls N] [--seed S]`, with a fresh seed where none is given. Exit status 1 where library and model differ or a row is missing.
+//! The long run: `compare [--calls N] [--seed S]`, with a fresh seed where none is given. Exit status 1 where library and model differ, where the order of two frees
+//! or releases shows, or where a row is missing.
 
 use cueledger_tests::commuting::either_order;
 use cueledger_tests::driver::{compare, RUNNING};
@@ -101,7 +102,13 @@ fn main() {
             println!("{what}");
             exit(1);
         }
-        Ok(tried) => println!("either order: {tried}"),
+        Ok(tried) => {
+            println!("either order: {tried}");
+            if calls >= 1_000_000 && !tried.under(1).is_empty() {
+                println!("never occurred: {:?}", tried.under(1));
+                exit(1);
+            }
+        }
     }
     println!("{:.1} s", begun.elapsed().as_secs_f64());
 }

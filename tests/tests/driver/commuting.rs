@@ -5,7 +5,7 @@ use cueledger_tests::commuting::either_order;
 use cueledger_tests::model::{self, Header, Pointer};
 use cueledger_tests::store::{Answer, Call, Model};
 
-/// The fault shows on histories that the model has made, by what the text tells.
+/// Finds the fault by the order alone, on histories that the model has made: `told_by` is an answer, a byte of the image, or an entry.
 fn find(fault: Behaviour, told_by: &str) {
     let what = either_order(&Model, &Faulty(fault), 1_000, 1).expect_err("the fault was not found");
     println!("{what}");
@@ -22,7 +22,7 @@ fn behind_free(image: &mut [u8], table: &mut [u64], call: Call<u64>, done: fn(&m
     answer
 }
 
-/// Cuts the free block that reaches over `h`, if one does, in two there.
+/// Cuts the block around `h`, if there is one, in two there, as if the parts had not been merged.
 fn cut(image: &mut [u8], h: usize) {
     let blocks: Vec<(u64, Header)> = model::blocks(image).collect();
     if let Some(&(from, header)) = blocks.iter().find(|&&(from, header)| from < h as u64 && (h as u64) < from + u64::from(header.extent)) {
@@ -46,12 +46,13 @@ fn merged_header_stays() {
     );
 }
 
+/// It shows only far behind the image's start.
 #[test]
 fn first_byte_of_the_body_stays() {
     find(
         |image, table, call| {
             behind_free(image, table, call, |image, _, before, h| {
-                if Header::read(before, h as u64).size > 0 {
+                if h > 1_000 && Header::read(before, h as u64).size > 0 {
                     image[h + 16] = before[h + 16];
                 }
             })
@@ -63,6 +64,22 @@ fn first_byte_of_the_body_stays() {
 #[test]
 fn no_merging_with_the_block_before() {
     find(|image, table, call| behind_free(image, table, call, |image, _, _, h| cut(image, h)), "image byte");
+}
+
+/// The model, but the freed block is not merged with the one behind it where it is merged with the one before it.
+#[test]
+fn merging_with_one_block_alone() {
+    find(
+        |image, table, call| {
+            behind_free(image, table, call, |image, _, before, h| {
+                let next = h + Header::read(before, h as u64).extent as usize;
+                if image[h..h + 16] == [0; 16] && next < image.len() {
+                    cut(image, next);
+                }
+            })
+        },
+        "image byte",
+    );
 }
 
 #[test]
@@ -95,8 +112,47 @@ fn total_of_the_merged_block() {
 }
 
 #[test]
+fn total_without_the_merged_header() {
+    find(
+        |image, table, call| {
+            behind_free(image, table, call, |image, _, before, h| {
+                let next = h + Header::read(before, h as u64).extent as usize;
+                if next < before.len() && Header::read(before, next as u64).is_free() {
+                    model::set_total(image, model::total(image) - 16);
+                }
+            })
+        },
+        "image byte 12 is",
+    );
+}
+
+#[test]
+fn release_notes_its_cue() {
+    find(
+        |image, table, call| {
+            let answer = right(image, table, call);
+            if let (Call::Release { cue }, true) = (call, answer.accepted()) {
+                *table.last_mut().unwrap() = cue.into();
+            }
+            answer
+        },
+        "table entry",
+    );
+}
+
+/// It shows only in the last entry of a long table.
+#[test]
 fn last_freed_place_is_noted() {
-    find(|image, table, call| behind_free(image, table, call, |_, table, _, h| table[47] = h as u64), "table entry");
+    find(
+        |image, table, call| {
+            behind_free(image, table, call, |_, table, _, h| {
+                if table.len() > 100 {
+                    *table.last_mut().unwrap() = h as u64;
+                }
+            })
+        },
+        "table entry",
+    );
 }
 
 #[test]

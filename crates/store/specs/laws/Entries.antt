@@ -9,7 +9,7 @@ use lib.Seq.{getD-set-same, getD-set-other, drop-set-lt, set-comm}
 use lib.Dec.{eqb}
 use borrow.Author.Tests.{le-leb, lt-leb, eq-eqb, eqb-true, eqb-false}
 use Rattle.frame.specs.Pointers.{reach, at}
-use Rattle.frame.specs.Tags.{wrapper, pointerTo, tagMatches, entryAt, entryOf}
+use Rattle.frame.specs.Tags.{wrapper, isSmall, pointerTo, tagMatches, entryAt, entryOf}
 use Rattle.frame.specs.laws.Pointers.{reach-large}
 use Rattle.frame.specs.laws.Wrappers.{entry-same, entries-apart}
 use Rattle.frame.specs.laws.Tags.{tagged, by-frame, pointer-small, pointer-large, matches-pointer, tagged-small, tagged-large}
@@ -78,21 +78,14 @@ module _ (s h size : ℕ) where
 set-either : (table : List ℕ) (i j entry : ℕ) → set (set table i entry) j entry ≡ set (set table j entry) i entry
 set-either table i j entry = byBool (eqb i j) (λ p. rw (eqb-true i j p) refl) (λ p. set-comm table i j entry entry (eqb-false i j p))
 
--- so the entries of two objects are cleared in either order (entry 0), whatever their frames
+-- so two objects are noted with one value in either order, whatever their frames; with 0 both are cleared
 pub noted-either : (s h size k n entry : ℕ) (table : List ℕ)
     → noted s k n entry (noted s h size entry table) ≡ noted s h size entry (noted s k n entry table)
+unfolding noted
 noted-either s h size k n entry table =
-    by-frame s h size
-    (λ l. ap (noted s k n entry) (noted-small s h size entry table l) ∙ sym (noted-small s h size entry (noted s k n entry table) l))
-    (λ l.
-    by-frame s k n
-    (λ m. noted-small s k n entry (noted s h size entry table) m ∙ ap (noted s h size entry) (sym (noted-small s k n entry table m)))
-    (λ m.
-    let set-h : (t : List ℕ) → noted s h size entry t ≡ set t (entryOf s h size) entry = λ t. noted-large s h size entry t (entryOf s h size) l refl in
-    let set-k : (t : List ℕ) → noted s k n entry t ≡ set t (entryOf s k n) entry = λ t. noted-large s k n entry t (entryOf s k n) m refl in
-    set-k (noted s h size entry table) ∙ ap (λ (t : List ℕ). set t (entryOf s k n) entry) (set-h table)
-    ∙ set-either table (entryOf s h size) (entryOf s k n) entry
-    ∙ ap (λ (t : List ℕ). set t (entryOf s h size) entry) (sym (set-k table)) ∙ sym (set-h (noted s k n entry table))))
+    byBool (isSmall s h size)
+    (λ p. rw p)
+    (λ p. byBool (isSmall s k n) (λ q. rw (p, q)) (λ q. rw (p, q) (set-either table (entryOf s h size) (entryOf s k n) entry)))
 
 -- noting one object's entry leaves those of the objects behind it
 pub holds-kept : (s h size entry k n v : ℕ) (table : List ℕ) → h + 16 + size ≤ k → k + 16 + n ≤ 2 ^ 30
