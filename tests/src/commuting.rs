@@ -229,6 +229,7 @@ pub fn either_order(history: &impl Store, store: &impl Store, histories: usize, 
     let mut tried = Tried::default();
     let seeds = (0..).map(|n| seed.wrapping_add(n)).filter(|&seed| Generator::new(seed).buffers().history);
     for seed in seeds.take(histories) {
+        // other numbers than the generator's
         let mut random = Random::new(seed ^ u64::MAX);
         let mut found = Ok(());
         let played = play(history, history, seed, &mut Counts::default(), |run| {

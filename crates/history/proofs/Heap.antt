@@ -15,6 +15,7 @@ use Rattle.block.specs.laws.Booleans.{byBool, true-false, refuted}
 use Rattle.history.specs.Heap.{Object, Heap, holds, ownerOf, change, without, passing}
 use Rattle.history.specs.History.{In, Pairwise, headerOf, known}
 use Rattle.history.specs.laws.Plain.{answer-place}
+use Rattle.history.proofs.Looks.{two-tests}
 
 -- the first object with its header at k
 unfoldable pub find : Heap → ℕ → Option Object
@@ -147,13 +148,6 @@ known-owner (x ∷ xs) p e =
     (λ t. rw t (known-owner xs p (rw t at e)))
 
 -- One object more.
-
--- two tests, in the other order
-two-tests : {A : Type 0} (k a b : ℕ) (x y z : A) → (a ≡ b → ⊥) → cond (eqb k a) x (cond (eqb k b) y z) ≡ cond (eqb k b) y (cond (eqb k a) x z)
-two-tests k a b x y z n =
-    byBool (eqb k a)
-    (λ t. rw (t, ne-eqb k b (λ u. n (sym (eqb-true k a t) ∙ u))))
-    (λ t. rw t)
 
 -- a test asked again
 again : {A : Type 0} (b : Bool) (x y z : A) → cond b x z ≡ cond b x (cond b y z)
