@@ -17,9 +17,6 @@ use Rattle.descriptors.specs.declared.descriptor.Lookup.{Lookup}
 -- Where it lies.
 
 module _ (list : List ℕ) (p : ℕ) (s : Stands list p) where
-  pub head-inside : p + 12 ≤ length list
-  head-inside = good-here list p s .at-head .head
-
   pub long : 12 ≤ lengthAt list p
   long = omega (arith, length-here list p s)
 

@@ -5,5 +5,6 @@ pub mod Fields
 pub mod Lists
 -- which type has which
 pub mod Layouts
--- the check, test by test
+-- the check, test by test, and what it refuses
 pub mod Checks
+pub mod Bad

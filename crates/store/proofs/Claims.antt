@@ -21,7 +21,7 @@ use Rattle.block.specs.Layout.{slotExponent, headerAt, sizeAt, extentAt, fields
 use Rattle.block.specs.laws.Soundness.{sound-low, sound-end, sound-live-at}
 use Rattle.block.specs.declared.header.Header.{Header}
 use Rattle.store.specs.State.{State, state, Outcome, IsAccepted, returned, value, comparisonNumber, comparisonValue, distancesNumber, startDistance, endDistance, usageNumber, liveObjects, liveBytes, freeBytes, overheadBytes}
-use Rattle.store.specs.Calls.{setUpChecks, setUp, fresh, cleared, takenExtent, allocateChecks, noted, allotted, allocateFor, freeRelease, free, move, moveAnswer, load, loadAnswer, storeChecks, store, fillChecks, fill, copyChecks, copy, compare, copyTextChecks, copyText, releaseChecks, pointersTo, cuePointers, freeEach, releaseCue, freeTotal, tally, opening, fromStart, toEnd, distances}
+use Rattle.store.specs.Calls.{setUpChecks, setUp, fresh, cleared, takenExtent, allocateChecks, noted, allotted, allocateFor, freeRelease, free, move, moveAnswer, load, loadAnswer, storeChecks, store, fillChecks, fill, copyChecks, copy, compare, copyTextChecks, copyText, releaseChecks, pointersTo, cuePointers, freeEach, releaseCue, freeTotal, tally, opening, fromStart, toEnd, distances, hasType}
 use Rattle.store.specs.laws.Shapes.{shape-itself, shape-then}
 use Rattle.store.specs.laws.Refusals.{not-accepted}
 use Rattle.store.specs.laws.SetUp.{Settable, settable-parts, set-up-declined, set-up-done, length-fresh}
@@ -279,6 +279,7 @@ refusals-keep =
       calls = λ c x n. ended-keeps (exponent x) x (step c x) (ended x c) n;
       compares = λ p q n x e. comparison-refused (compare p q n x) e;
       distances = λ p x n. measurement-refused (distances p x) n;
+      casts = λ list p wanted x n. answer-refused (hasType list p wanted x) n;
       totals = λ x n. answer-refused (freeTotal x) n;
       counts = λ x n. usage-refused (tally x) n;
     }

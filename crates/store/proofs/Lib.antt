@@ -8,5 +8,6 @@ mod Freeing
 mod Sweeping
 mod Runs
 mod Gathering
--- The claims of single calls.
+-- The claims of single calls; that of the type check before a cast.
 pub mod Claims
+pub mod Casts

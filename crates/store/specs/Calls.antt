@@ -5,7 +5,7 @@ use mathlib.Core.Bool.{Bool, true, cond, _&&_, _||_}
 use mathlib.Core.List.{List, [], _∷_, _++_}
 use lib.ListN.{length, take, drop, getD, set, replicate}
 use lib.Dec.{leb, ltb, eqb}
-use lib.IntN.{ℤ, subℕ}
+use lib.IntN.{ℤ, pos, negsuc, subℕ}
 use Rattle.frame.specs.Frame.{frameStart, sameFrame}
 use Rattle.frame.specs.Pointers.{unpack, pack, goodTag, reach, moved}
 use Rattle.frame.specs.Tags.{isSmall, pointerTo, tagMatches, usedEntries, entryAt, entryOf}
@@ -15,7 +15,7 @@ use Rattle.frame.specs.declared.parts.Moved.the-variants.{To, Outside}
 use Rattle.block.specs.Bytes.{encode, field, put}
 use Rattle.block.specs.Order.{compareBytes}
 use Rattle.block.specs.Text.{textOf}
-use Rattle.block.specs.Layout.{within, superblock, superblockGood, slotExponent, storedTotal, withTotal, goodExponent, goodLength, freeHeader, liveHeader, sound, isFree, isLive, extentAt, sizeAt}
+use Rattle.block.specs.Layout.{within, superblock, superblockGood, slotExponent, storedTotal, withTotal, goodExponent, goodLength, freeHeader, liveHeader, sound, isFree, isLive, extentAt, typeAt, sizeAt}
 use Rattle.block.specs.Walk.{Walked, stopped, unsound, ended, firstFit, walkTo, countBlocks, walkCue}
 use Rattle.block.specs.declared.text.Text.{Text}
 use Rattle.block.specs.declared.text.Text.the-variants.{Ends, Endless}
@@ -25,8 +25,13 @@ use Rattle.block.specs.declared.walk.Met.{Met}
 use Rattle.block.specs.declared.walk.Met.the-variants as met
 use Rattle.block.specs.declared.walk.Counted.{Counted}
 use Rattle.block.specs.declared.walk.Counted.the-variants as counted
+use Rattle.descriptors.specs.Descriptors.{lookUp, goodList}
+use Rattle.descriptors.specs.Descriptors as descriptors
+use Rattle.descriptors.specs.Layouts.{typeHas}
+use Rattle.descriptors.specs.declared.descriptor.Lookup.{Lookup}
+use Rattle.descriptors.specs.declared.descriptor.Lookup.the-variants as lookup
 use Rattle.store.specs.State.{State, Outcome, outcome, demand, andThen, refuse, conclude}
-use Rattle.store.specs.declared.answer.Refusal.the-variants.{BadExponent, BadLength, TooFewEntries, BadSuperblock, ShortTable, Empty, Unsound, NoSpace, EntryTaken, BadTag, Dangling, Leaves, OutOfBounds, BadWidth, NotBase, TooLarge, Unterminated, EntryLost, WrongTotal}
+use Rattle.store.specs.declared.answer.Refusal.the-variants.{BadExponent, BadLength, TooFewEntries, BadSuperblock, ShortTable, Empty, Unsound, NoSpace, EntryTaken, BadTag, Dangling, Leaves, OutOfBounds, BadWidth, NotBase, TooLarge, Unterminated, EntryLost, WrongTotal, BadDescriptor, Undescribed}
 use Rattle.store.specs.declared.answer.Answer.{Answer}
 use Rattle.store.specs.declared.answer.Answer.the-variants.{Accepted, Refused}
 use Rattle.store.specs.declared.locate.Reading.{Reading}
@@ -189,6 +194,34 @@ distancesAt (Refused r) image p = measurement.Refused r
 -- its answer: how far the pointer is from the start and from the end of its object's body
 unfoldable pub distances : ℕ → State → Measurement
 distances word x = distancesAt (distancesChecks word x) (x .image) (unpack word)
+
+-- Type check before a cast: 24, 10, 11, 25. A list of type descriptors is lent too, and only read.
+
+-- 25: the descriptor that was found describes no more bytes than an object of `size` has; the number is its position
+unfoldable pub describedBy : List ℕ → ℕ → Lookup → Answer
+describedBy list size (lookup.At q) = demand (leb (descriptors.sizeAt list q) size) Undescribed (Accepted q)
+describedBy list size lookup.Nowhere = Refused Undescribed
+
+-- 25, for an object of that type and raw size
+unfoldable pub described : List ℕ → ℕ → ℕ → Answer
+described list type size = describedBy list size (lookUp list (length list) type)
+
+-- whether the type described at q has the wanted one at a distance from the base, 1 for yes and 0 for no: before the base it has nothing
+unfoldable pub hasAt : List ℕ → ℕ → ℕ → ℤ → ℕ
+hasAt list wanted q (pos o) = cond (typeHas list wanted q o) 1 0
+hasAt list wanted q (negsuc n) = 0
+
+-- what follows where the object has that type and raw size, and the pointer is at that distance from its base
+unfoldable pub castAnswer : List ℕ → ℕ → ℕ → ℕ → ℤ → Answer
+castAnswer list wanted type size distance = andThen (described list type size) λ q. Accepted (hasAt list wanted q distance)
+
+-- its answer: whether the object's type has the wanted one at the pointer's distance from the base
+unfoldable pub hasType : List ℕ → ℕ → ℕ → State → Answer
+hasType list word wanted x =
+    andThen (opening x) λ s.
+    demand (goodList list) BadDescriptor
+    (andThen (located s (unpack word) x) λ h.
+    castAnswer list wanted (typeAt (x .image) h) (sizeAt (x .image) h) (fromStart h (unpack word)))
 
 -- Move: 10, 12.
 

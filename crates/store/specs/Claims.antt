@@ -1,11 +1,11 @@
 -- What holds of single calls on every image and table, damaged ones too: demand 1, of demand 2 the pointer that allocate gives, read-back, the
--- balance of tally, that compare is an order, that a release frees all objects of its cue, what the distances say, and that an object of no bytes gives no
--- access. Assumes nothing.
-use Prim.Native.Nat.{ℕ, _+_, _^_, _<_}
+-- balance of tally, that compare is an order, that a release frees all objects of its cue, what the distances say, that an object of no bytes gives no
+-- access, and what the type check before a cast says. Assumes nothing.
+use Prim.Native.Nat.{ℕ, _+_, _^_, _≤_, _<_}
 use mathlib.Core.Path.{_≡_}
 use mathlib.Core.Bool.{true, _&&_}
 use mathlib.Core.List.{List, [], _∷_}
-use mathlib.Core.Logic.{_↔_}
+use mathlib.Core.Logic.{_⊎_, _↔_}
 use lib.ListN.{length, drop}
 use lib.IntN.{pos, negℤ, _+ℤ_, _-ℤ_}
 use lib.Signed.{leZ}
@@ -15,11 +15,13 @@ use Rattle.frame.specs.declared.parts.Pointer.{Pointer}
 use Rattle.block.specs.Layout.{slotExponent, typeAt, sizeAt, cueAt}
 use Rattle.block.specs.Walk.{firstFit}
 use Rattle.block.specs.declared.walk.Fit.the-variants as fit
+use Rattle.descriptors.specs.Descriptors as descriptors
+use Rattle.descriptors.specs.Claims.{Describes, SomeBad, Has}
 use Rattle.store.specs.State.{State, IsAccepted, returned, value, comparisonNumber, comparisonValue, distancesNumber, startDistance, endDistance, usageNumber, liveObjects, liveBytes, freeBytes, overheadBytes, Balances}
-use Rattle.store.specs.Calls.{setUp, allocateFor, load, store, fill, copy, free, compare, copyText, cuePointers, releaseCue, freeTotal, tally, opening, leadsBack, headerPlace, located, readTag, inBody, distances}
+use Rattle.store.specs.Calls.{setUp, allocateFor, load, store, fill, copy, free, compare, copyText, cuePointers, releaseCue, freeTotal, tally, opening, leadsBack, headerPlace, located, readTag, inBody, distances, hasType}
 use Rattle.store.specs.Step.{Call, step}
 use Rattle.store.specs.declared.answer.Refusal.{Refusal}
-use Rattle.store.specs.declared.answer.Answer.the-variants.{Accepted}
+use Rattle.store.specs.declared.answer.Answer.the-variants.{Accepted, Refused}
 use Rattle.store.specs.declared.locate.Reading.{Reading}
 use Rattle.store.specs.declared.locate.Found.the-variants as found
 use Rattle.store.specs.declared.measuring.Measurement.the-variants as measurement
@@ -32,6 +34,7 @@ pub record RefusalsKeep : Type 0 where
   pub distances :
       (p : ℕ) (x : State) → (distancesNumber (distances p x) ≡ 0 → ⊥)
       → (startDistance (distances p x) ≡ pos 0) × (endDistance (distances p x) ≡ pos 0)
+  pub casts : (list : List ℕ) (p wanted : ℕ) (x : State) → (returned (hasType list p wanted x) ≡ 0 → ⊥) → value (hasType list p wanted x) ≡ 0
   pub totals : (x : State) → (returned (freeTotal x) ≡ 0 → ⊥) → value (freeTotal x) ≡ 0
   pub counts :
       (x : State) → (usageNumber (tally x) ≡ 0 → ⊥)
@@ -43,8 +46,8 @@ KeepsShape s x y =
     (length (y .image) ≡ length (x .image)) × (length (y .table) ≡ length (x .table))
     × (drop (usedEntries s (length (x .image))) (y .table) ≡ drop (usedEntries s (length (x .image))) (x .table))
 
--- No call changes a length, or writes a table entry beyond the used ones; compare, distances, free total and tally leave all as it was, by their
--- definitions.
+-- No call changes a length, or writes a table entry beyond the used ones; compare, distances, the type check, free total and tally leave all as it was, by
+-- their definitions.
 pub record ShapesKept : Type 0 where
   pub set-up : (s : ℕ) (x : State) → KeepsShape s x (setUp s x .after)
   pub calls : (c : Call) (x : State) → KeepsShape (slotExponent (x .image)) x (step c x .after)
@@ -149,3 +152,42 @@ EachEmpty P =
 pub record EmptyBodies : Type 0 where
   pub loads : EachEmpty NoLoad
   pub others : EachEmpty NoAccess
+
+-- Rows 4, 5, 24, 10, 11 and 25 are passed: no descriptor of the list is bad, and the tag of p leads to the object at h, whose type is described at q with no
+-- more bytes than the object has.
+pub record Castable (list : List ℕ) (p : ℕ) (x : State) (h q : ℕ) : Type 0 where
+  pub exponent : ℕ
+  pub opens : opening x ≡ Accepted exponent
+  pub none-bad : SomeBad list → ⊥
+  pub object : located exponent (unpack p) x ≡ Accepted h
+  pub described : Describes list (length list) (typeAt (x .image) h) q
+  pub covered : descriptors.sizeAt list q ≤ sizeAt (x .image) h
+
+-- the address of p is so far behind the base of the object at h that the object's type has the wanted one there
+pub record HasWanted (list : List ℕ) (p wanted : ℕ) (x : State) (h : ℕ) : Type 0 where
+  pub offset : ℕ
+  pub distance : unpack p .address ≡ h + 16 + offset
+  pub has : Has list (typeAt (x .image) h) wanted offset
+
+-- the type is not listed, or it is described with more bytes than `size`
+abbrev pub Undescribes : List ℕ → ℕ → ℕ → Type 0
+Undescribes list type size =
+    ((q : ℕ) → Describes list (length list) type q → ⊥) ⊎ ((q : ℕ) × Describes list (length list) type q × (size < descriptors.sizeAt list q))
+
+-- The check is accepted exactly when its rows are passed; then it says yes exactly when the type has the wanted one at the pointer's distance, and no exactly
+-- when it has not. Its rows come in their order, 24 exactly when a descriptor is bad.
+pub record CastChecked (list : List ℕ) (p wanted : ℕ) (x : State) : Type 0 where
+  pub accepted : (returned (hasType list p wanted x) ≡ 0) ↔ ((h q : ℕ) × Castable list p x h q)
+  pub yes : (h q : ℕ) → Castable list p x h q → (hasType list p wanted x ≡ Accepted 1) ↔ HasWanted list p wanted x h
+  pub no : (h q : ℕ) → Castable list p x h q → (hasType list p wanted x ≡ Accepted 0) ↔ (HasWanted list p wanted x h → ⊥)
+  pub shut : (r : Refusal) → opening x ≡ Refused r → hasType list p wanted x ≡ Refused r
+  pub bad-list : (s : ℕ) → opening x ≡ Accepted s → (returned (hasType list p wanted x) ≡ 24) ↔ SomeBad list
+  pub unread :
+      (s : ℕ) (r : Refusal) → opening x ≡ Accepted s → (SomeBad list → ⊥) → located s (unpack p) x ≡ Refused r → hasType list p wanted x ≡ Refused r
+  pub undescribed :
+      (s h : ℕ) → opening x ≡ Accepted s → (SomeBad list → ⊥) → located s (unpack p) x ≡ Accepted h
+      → (returned (hasType list p wanted x) ≡ 25) ↔ Undescribes list (typeAt (x .image) h) (sizeAt (x .image) h)
+
+-- So is every list, pointer and wanted type, on every image and table.
+unfoldable pub ChecksCasts : Type 0
+ChecksCasts = (list : List ℕ) (p wanted : ℕ) (x : State) → CastChecked list p wanted x

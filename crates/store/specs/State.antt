@@ -6,7 +6,7 @@ use mathlib.Core.List.{List}
 use lib.IntN.{ℤ, pos}
 use Rattle.block.specs.Order.{sign}
 use Rattle.store.specs.declared.answer.Refusal.{Refusal}
-use Rattle.store.specs.declared.answer.Refusal.the-variants.{BadExponent, BadLength, TooFewEntries, BadSuperblock, ShortTable, Empty, Unsound, NoSpace, EntryTaken, BadTag, Dangling, Leaves, OutOfBounds, BadWidth, NotBase, TooLarge, Unterminated, EntryLost, WrongTotal}
+use Rattle.store.specs.declared.answer.Refusal.the-variants.{BadExponent, BadLength, TooFewEntries, BadSuperblock, ShortTable, Empty, Unsound, NoSpace, EntryTaken, BadTag, Dangling, Leaves, OutOfBounds, BadWidth, NotBase, TooLarge, Unterminated, EntryLost, WrongTotal, BadDescriptor, Undescribed}
 use Rattle.store.specs.declared.answer.Answer.{Answer}
 use Rattle.store.specs.declared.answer.Answer.the-variants.{Accepted, Refused}
 use Rattle.store.specs.declared.comparing.Comparison.{Comparison}
@@ -16,7 +16,7 @@ use Rattle.store.specs.declared.measuring.Measurement.the-variants as me
 use Rattle.store.specs.declared.counting.Usage.{Usage}
 use Rattle.store.specs.declared.counting.Usage.the-variants as usage
 
--- document 01's number of a refusal, or document 02's: 17 to 19 are a call log's
+-- document 01's number of a refusal, or document 02's: 17 to 19 are a call log's, 23 a workload's
 abbrev pub refusalNumber : Refusal → ℕ
 refusalNumber BadExponent = 1
 refusalNumber BadLength = 2
@@ -37,6 +37,8 @@ refusalNumber TooLarge = 16
 refusalNumber Unterminated = 20
 refusalNumber EntryLost = 21
 refusalNumber WrongTotal = 22
+refusalNumber BadDescriptor = 24
+refusalNumber Undescribed = 25
 
 -- the number that a call returns: 0 where it is accepted
 abbrev pub returned : Answer → ℕ

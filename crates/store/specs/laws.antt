@@ -6,6 +6,7 @@ pub mod Entries
 pub mod TagReading
 pub mod Access
 pub mod Distances
+pub mod Casts
 pub mod Total
 pub mod Shapes
 -- each call

@@ -23,6 +23,8 @@ pub enum Refusal {
     Unterminated,
     EntryLost,
     WrongTotal,
+    BadDescriptor,
+    Undescribed,
 }
 
 // A number, 0 where a call has none to give; or why there is none.
@@ -56,6 +58,8 @@ impl Refusal {
             Refusal::Unterminated => 20,
             Refusal::EntryLost => 21,
             Refusal::WrongTotal => 22,
+            Refusal::BadDescriptor => 24,
+            Refusal::Undescribed => 25,
         }
     }
 }

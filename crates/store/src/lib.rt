@@ -2,6 +2,7 @@
 mod access;
 mod allocation;
 mod answer;
+mod casting;
 mod comparing;
 mod copying;
 mod counting;
@@ -25,6 +26,7 @@ pub use allocation::allocate;
 pub use allocation::allocate_for;
 pub use answer::Answer;
 pub use answer::Refusal;
+pub use casting::has_type;
 pub use comparing::Comparison;
 pub use comparing::compare;
 pub use copying::copy;

@@ -147,6 +147,10 @@ module _ (list : List ℕ) (p : ℕ) (s : Stands list p) where
   pub good-here : Good list p
   good-here = good-parts list p (good-at list p (s .inside) (comes list (s .good) p (s .whole)))
 
+  -- its first 12 bytes lie in the list
+  pub head-here : p + 12 ≤ length list
+  head-here = good-here .at-head .head
+
   -- its length is 12 and whole fields
   pub length-here : lengthAt list p ≡ 12 + 6 * fieldCount list p
   length-here = headed-length list p (good-here .at-head)
@@ -204,3 +208,6 @@ module _ (list : List ℕ) (g : goodList list ≡ true) where
   -- what is found on all of it is described there
   pub lookup-describes : (type p : ℕ) → lookUp list (length list) type ≡ At p → Describes list (length list) type p
   lookup-describes type p e = found-describes list (length list) type p (found-at list (length list) type p end-reached e)
+
+  pub lookup-stands : (type p : ℕ) → lookUp list (length list) type ≡ At p → Stands list p
+  lookup-stands type p e = describes-stands type p (lookup-describes type p e)

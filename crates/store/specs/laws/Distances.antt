@@ -56,12 +56,12 @@ difference-least a b n =
     (λ t. let k = leb-true (b + n) a t in rw t (le-leb n (a - b) (omega arith)))
     (λ t. let k = leb-false (b + n) a t in rw t (lt-leb n (a - b) (omega arith))))
 
--- it is zero
-difference-none : (a b : ℕ) → (subℕ a b ≡ pos 0) ↔ (a ≡ b)
-difference-none a b =
-    by-difference (λ z. (z ≡ pos 0) ↔ (a ≡ b)) a b
+-- it is n
+difference-at : (a b n : ℕ) → (subℕ a b ≡ pos n) ↔ (a ≡ b + n)
+difference-at a b n =
+    by-difference (λ z. (z ≡ pos n) ↔ (a ≡ b + n)) a b
     (λ l. ((λ e. let z : _≡_ {A = ℕ} 0 1 = cc in absurd (omega arith)), λ e. absurd (omega arith)))
-    (λ l. ((λ e. let z : a - b ≡ 0 = cc in omega arith), λ e. ap pos (omega arith)))
+    (λ l. ((λ e. let z : a - b ≡ n = cc in omega arith), λ e. ap pos (omega arith)))
 
 -- as the integers subtract
 difference-is : (a b : ℕ) → pos a -ℤ pos b ≡ subℕ a b
@@ -89,10 +89,14 @@ module _ (h : ℕ) (p : Pointer) where
   unfolding fromStart toEnd
   distances-sum size = difference-sum (p .address) (h + 16) size
 
+  -- n bytes behind the base
+  pub start-at : (n : ℕ) → (fromStart h p ≡ pos n) ↔ (p .address ≡ h + 16 + n)
+  unfolding fromStart
+  start-at n = difference-at (p .address) (h + 16) n
+
   -- row 15
   start-none : (fromStart h p ≡ pos 0) ↔ (p .address ≡ h + 16)
-  unfolding fromStart
-  start-none = difference-none (p .address) (h + 16)
+  start-none = let (to, back) = start-at 0 in ((λ e. to e ∙ omega arith), λ e. back (e ∙ omega arith))
 
   -- the bytes from the address to the end
   end-bytes : (size : ℕ) → p .address ≤ h + 16 + size → toEnd h size p ≡ pos (h + 16 + size - p .address)

@@ -7,7 +7,7 @@ use native.Mathlib.Omega.{arith}
 use Rattle.block.specs.laws.Booleans.{true-false}
 use Rattle.store.specs.State.{State, Outcome, IsAccepted, refusalNumber, returned, value, demand, andThen, refuse}
 use Rattle.store.specs.declared.answer.Refusal.{Refusal}
-use Rattle.store.specs.declared.answer.Refusal.the-variants.{BadExponent, BadLength, TooFewEntries, BadSuperblock, ShortTable, Empty, Unsound, NoSpace, EntryTaken, BadTag, Dangling, Leaves, OutOfBounds, BadWidth, NotBase, TooLarge, Unterminated, EntryLost, WrongTotal}
+use Rattle.store.specs.declared.answer.Refusal.the-variants.{BadExponent, BadLength, TooFewEntries, BadSuperblock, ShortTable, Empty, Unsound, NoSpace, EntryTaken, BadTag, Dangling, Leaves, OutOfBounds, BadWidth, NotBase, TooLarge, Unterminated, EntryLost, WrongTotal, BadDescriptor, Undescribed}
 use Rattle.store.specs.declared.answer.Answer.{Answer}
 use Rattle.store.specs.declared.answer.Answer.the-variants.{Accepted, Refused}
 
@@ -32,6 +32,8 @@ refusal-range TooLarge = (omega arith, omega arith)
 refusal-range Unterminated = (omega arith, omega arith)
 refusal-range EntryLost = (omega arith, omega arith)
 refusal-range WrongTotal = (omega arith, omega arith)
+refusal-range BadDescriptor = (omega arith, omega arith)
+refusal-range Undescribed = (omega arith, omega arith)
 
 -- no refusal has the number 0
 pub refused-some : (r : Refusal) → refusalNumber r ≡ 0 → ⊥

@@ -7,11 +7,11 @@ use borrow.Fn.Kinds.{In}
 use borrow.Fn.PlainCycle.{Measures, is, falls, and}
 use Rattle.descriptors.specs.Layouts.{typeHas}
 use Rattle.descriptors.specs.laws.Lookups.{found-at}
-use Rattle.descriptors.specs.laws.Lists.{named-stands}
+use Rattle.descriptors.specs.laws.Lists.{head-here, named-stands}
 use Rattle.descriptors.specs.laws.Layouts.{field-at, field-unnamed, last-at, type-itself, type-no-field, type-by-field}
 use Rattle.descriptors.specs.declared.descriptor.Descriptor.{Descriptor}
 use Rattle.descriptors.specs.declared.descriptor.Field.{Field}
-use Rattle.descriptors.proofs.Read.{head-inside, long, fields-inside, field-inside, named-is, wanted-is, last-is}
+use Rattle.descriptors.proofs.Read.{long, fields-inside, field-inside, named-is, wanted-is, last-is}
 use Rattle.descriptors.proofs.layout.field_has.Reads as field-has
 use Rattle.descriptors.proofs.layout.field_has.Kinds as field-has-kinds
 use Rattle.descriptors.proofs.layout.+field_has+type_has.Lts-field_has as field-has-lts
@@ -92,7 +92,7 @@ pub +field-has+type-has-spec : {M : Type 1} → statement M
     (read-descriptor.Asked, read-descriptor.Learnt, is-wanted.Asked, is-wanted.Learnt, last-field.Asked, last-field.Learnt, field-has-below t, field-has.Post)
     (type-has-at t)
     type-has.Post
-    (λ c κs. head-inside _ _ (c .before .pre .1))
+    (λ c κs. head-here _ _ (c .before .pre .1))
     (λ c κs. tt)
     -- it is the wanted one
     (λ c.
