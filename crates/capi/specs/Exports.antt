@@ -43,7 +43,7 @@ export r v image table = record { returned = r; value = v; image = image; table 
 abbrev pub exported : Outcome → Export
 exported o = export (returned (o .answer)) (value (o .answer)) (o .after .image) (o .after .table)
 
--- What the export of free total returns and gives: the value is 0 where it is refused.
+-- What the exports of free total and of the type check return and give: the value is 0 where they are refused.
 pub record Answered : Type 0 where
   pub returned : ℕ
   pub value : ℕ
@@ -52,7 +52,7 @@ pub record Answered : Type 0 where
 abbrev pub answered : ℕ → ℕ → Answered
 answered r v = record { returned = r; value = v }
 
--- what C sees of its answer
+-- what C sees of their answer
 abbrev pub exportedAnswer : Answer → Answered
 exportedAnswer a = answered (returned a) (value a)
 

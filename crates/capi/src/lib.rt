@@ -2,7 +2,7 @@
 // given through a pointer is 0 where it is refused. The one exception is 23, a full log: what was done and given stands.
 ghost use mathlib.Core.Path.{_≡_};
 ghost use Rattle.store.specs.State.{state};
-ghost use Rattle.store.specs.Calls.{setUp, allocate, allocateFor, move, load, store, free, fill, copy, compare, copyText, releaseCue, freeTotal, tally, distances};
+ghost use Rattle.store.specs.Calls.{setUp, allocate, allocateFor, move, load, store, free, fill, copy, compare, copyText, releaseCue, freeTotal, tally, distances, hasType};
 ghost use Rattle.workload.specs.Traffic.{traffic};
 ghost use Rattle.capi.specs.Exports.{left, leftBy, export, exported, answered, exportedAnswer, compared, exportedComparison, measured, exportedDistances, tallied, exportedUsage, loggedExport, exportedTraffic};
 use store::Measurement;
@@ -197,6 +197,23 @@ pub extern "C" fn cue_distances(
         }
         Measurement::Refused(r) => r.number(),
     }
+}
+
+// Whether the object's type has the wanted one at the pointer's distance from the base goes to `yes`: 1, or 0 for no.
+#[no_mangle]
+pub extern "C" fn cue_has_type(
+    image: &[u8],
+    table: &[u64],
+    descriptors: &[u8],
+    pointer: u64,
+    wanted: u16,
+    yes: &mut u64,
+) -> u32
+    ensures { λ r. ⌜ answered r (now (yes .exit)) ≡ exportedAnswer (hasType (now (descriptors .entry)) pointer wanted (state (now (image .entry)) (now (table .entry)))) ⌝ }
+{
+    let a = store::has_type(image, table, descriptors, pointer, wanted);
+    *yes = a.value();
+    a.returned()
 }
 
 // The free total in the superblock goes to `total`.
