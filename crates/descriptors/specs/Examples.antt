@@ -1,16 +1,19 @@
 -- Worked examples, computed: a record of records, and each case of row 24. Assumes nothing.
-use Prim.Native.Nat.{ℕ, zero, suc, _+_}
+use Prim.Native.Nat.{ℕ, zero, suc, _+_, _≤_}
 use mathlib.Core.Path.{_≡_, refl}
 use mathlib.Core.Bool.{Bool, true, false, not, cond, _&&_}
 use mathlib.Core.List.{List, [], _∷_, _++_}
+use native.Mathlib.Omega.{arith}
 use lib.Dec.{T}
 use lib.ListN.{length, take}
 use Rattle.block.specs.Bytes.{encode, decode, field}
-use Rattle.descriptors.specs.Descriptors.{descriptorAt, fieldAt, lookUpIn, lookUp, fieldEnd, goodFieldsIn, goodDescriptor, goodFromIn, goodList}
+use Rattle.block.specs.laws.Booleans.{true-false}
+use Rattle.descriptors.specs.Descriptors.{descriptorAt, sizeAt, fieldAt, lookUpIn, lookUp, fieldEnd, goodFieldsIn, goodDescriptor, goodFromIn, goodList}
 use Rattle.descriptors.specs.Layouts.{anyBelow, fieldHas, typeHasIn, typeHas}
+use Rattle.descriptors.specs.Claims.{first, next, Describes, SomeBad, RefusesBad, Has, AnswersHas, EndsBeforeSize}
 
 -- the bytes of a descriptor, of any length, kind, type number and size
-pub descriptor : ℕ → ℕ → ℕ → ℕ → List ℕ
+unfoldable pub descriptor : ℕ → ℕ → ℕ → ℕ → List ℕ
 descriptor len kind type size = encode 4 len ++ (encode 2 kind ++ (encode 2 type ++ encode 4 size))
 
 -- of a plain type
@@ -22,12 +25,12 @@ abbrev pub recordOf : ℕ → ℕ → List ℕ → List ℕ
 recordOf type size fields = descriptor (12 + length fields) 5 type size ++ fields
 
 -- the bytes of a field
-pub at : ℕ → ℕ → List ℕ
+unfoldable pub at : ℕ → ℕ → List ℕ
 at offset type = encode 4 offset ++ encode 2 type
 
 -- A sample of a load cell (type 3, 12 bytes, described at 24) has a number of 4 bytes (type 1) at 0 and at 8, and one of 2 bytes (type 2) at 4. A load buffer
 -- (type 4, 30 bytes, described at 54) has a sample at 4, and a second one right behind it.
-pub winch : List ℕ
+unfoldable pub winch : List ℕ
 winch =
     plain 1 4 ++ (plain 2 2 ++ (recordOf 3 12 (at 0 1 ++ (at 4 2 ++ at 8 1)) ++ recordOf 4 30 (at 4 3 ++ at 16 3)))
 
@@ -114,3 +117,27 @@ cases =
 pub refusing : T (refused cases)
 unfolding refused cases winch descriptor at encode decode field descriptorAt fieldAt lookUpIn lookUp fieldEnd goodFieldsIn goodDescriptor goodFromIn goodList
 refusing = tt
+
+-- The load buffer is described at 54.
+pub buffer-described : Describes winch (length winch) 4 54
+unfolding winch descriptor at encode decode field descriptorAt
+buffer-described =
+    record { boundary = next 24 (next 12 (next 0 first (omega arith)) (omega arith)) (omega arith); before = omega arith; type-is = refl }
+
+-- what is computed of it, and of a list that is cut short
+computed : (typeHas winch 1 54 24 ≡ true) × (typeHas winch 1 54 10 ≡ false) × (sizeAt winch 54 ≡ 30) × (goodList (12 ∷ []) ≡ false)
+unfolding winch descriptor at encode decode field descriptorAt fieldAt lookUpIn lookUp anyBelow fieldHas typeHasIn typeHas goodDescriptor goodFromIn goodList
+computed = (refl, refl, refl, refl)
+
+-- What the claims say then: 4 bytes stand at 24, and none at 10; nothing of any type stands at 30 or behind it; and the list that is cut short has a bad
+-- descriptor.
+pub claimed : RefusesBad → AnswersHas → EndsBeforeSize → goodList winch ≡ true
+    → Has winch 4 1 24 × (Has winch 4 1 10 → ⊥) × ((wanted o : ℕ) → 30 ≤ o → Has winch 4 wanted o → ⊥) × (SomeBad winch → ⊥) × SomeBad (12 ∷ [])
+unfolding AnswersHas EndsBeforeSize
+claimed refuses answers ends good = (
+  answers winch good 4 54 1 24 buffer-described .0 (computed .0),
+  (λ h. true-false (answers winch good 4 54 1 10 buffer-described .1 h) (computed .1)),
+  (λ wanted o l h. omega (arith, ends winch good 4 54 wanted o buffer-described h, computed .2)),
+  refuses .passed winch .0 good,
+  refuses .refused (12 ∷ []) .0 (computed .3),
+)

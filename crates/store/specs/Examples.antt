@@ -1,8 +1,11 @@
 -- The marked cases of document 01, "Arithmetic by example", and those of document 02's requests, at the slot exponent 6: one theorem over one list, by
 -- computation. Assumes nothing.
 use Prim.Native.Nat.{ℕ, _+_, _-_, _^_}
+use mathlib.Core.Path.{_≡_, refl}
 use mathlib.Core.Bool.{Bool, true, false, cond, not, _&&_}
 use mathlib.Core.List.{List, [], _∷_, _++_}
+use mathlib.Core.Logic.{_↔_}
+use native.Mathlib.Omega.{arith}
 use lib.Dec.{T, eqb}
 use lib.ListN.{take, replicate, getD, set}
 use lib.IntN.{ℤ, pos, negsuc}
@@ -15,10 +18,16 @@ use Rattle.block.specs.Order.{compareBytes}
 use Rattle.block.specs.Text.{textFrom, textOf}
 use Rattle.block.specs.Layout.{superblock, withTotal, superblockGood, header, headerAt, wellFormed, sound, isFree, extentAt}
 use Rattle.block.specs.Walk.{Search, walkIn, walkFrom, walk, fitOf, firstFit, metOf, walkTo, countOf, countBlocks, walkCue}
+use Rattle.descriptors.specs.Descriptors.{descriptorAt, fieldAt, lookUpIn, lookUp, fieldEnd, goodFieldsIn, goodDescriptor, goodFromIn, goodList}
+use Rattle.descriptors.specs.Layouts.{anyBelow, fieldHas, typeHasIn, typeHas}
+use Rattle.descriptors.specs.Claims.{first, no-size}
+use Rattle.descriptors.specs.Examples.{descriptor, plain, at, winch}
 use Rattle.store.specs.State.{State, state, Outcome, returned, value, comparisonNumber, comparisonValue, distancesNumber, startDistance, endDistance, usageNumber, liveObjects, liveBytes, freeBytes, overheadBytes}
-use Rattle.store.specs.Calls.{setUpChecks, fresh, setUp, opening, entryHolds, fitAnswer, takenExtent, allocateChecks, carved, noted, allocateFor, allocate, headerPlace, verified, leadsBack, located, fromStart, toEnd, foundAt, readTag, inBody, accessed, distancesChecks, distancesAt, distances, movedAnswer, moveAnswer, move, loadAnswer, load, storeChecks, store, fillChecks, fill, copyChecks, copy, compared, compare, textAnswer, textAt, copyTextChecks, copyText, mergeEnd, mergeStart, released, freeChecks, releasedAt, totalFits, totalled, freeRelease, merged, freed, free, gatheredAnswer, placesOf, allHeld, extentsOf, releaseChecks, pointersTo, cuePointers, freeEach, releaseCue, freeTotal, tallyOpened, tallyCounted, tally}
+use Rattle.store.specs.Calls.{setUpChecks, fresh, setUp, opening, entryHolds, fitAnswer, takenExtent, allocateChecks, carved, noted, allocateFor, allocate, headerPlace, verified, leadsBack, located, fromStart, toEnd, foundAt, readTag, inBody, accessed, distancesChecks, distancesAt, distances, describedBy, described, hasAt, castAnswer, hasType, movedAnswer, moveAnswer, move, loadAnswer, load, storeChecks, store, fillChecks, fill, copyChecks, copy, compared, compare, textAnswer, textAt, copyTextChecks, copyText, mergeEnd, mergeStart, released, freeChecks, releasedAt, totalFits, totalled, freeRelease, merged, freed, free, gatheredAnswer, placesOf, allHeld, extentsOf, releaseChecks, pointersTo, cuePointers, freeEach, releaseCue, freeTotal, tallyOpened, tallyCounted, tally}
+use Rattle.store.specs.Claims.{Castable, HasWanted, ChecksCasts}
 use Rattle.store.specs.Step as call
 use Rattle.store.specs.declared.answer.Answer.{Answer}
+use Rattle.store.specs.declared.answer.Answer.the-variants.{Accepted}
 use Rattle.store.specs.declared.comparing.Comparison.{Comparison}
 use Rattle.store.specs.declared.locate.Found.{Found}
 use Rattle.store.specs.declared.locate.Found.the-variants as found
@@ -67,6 +76,8 @@ pub data Case : Type 0 where
   measures : (L : ℕ) (before : List ℕ) (entries at byte pointer number : ℕ) (start end : ℤ) → Case
   -- W8: what the tag of a pointer is read as
   reads : (L : ℕ) (before : List ℕ) (pointer header base size : ℕ) (offset remaining : ℤ) → Case
+  -- W12: a further object of that size and type; with so many table entries and another byte, the type check of a pointer: the returned number, and the value
+  casts : (L : ℕ) (before : List ℕ) (size type entries place byte : ℕ) (list : List ℕ) (pointer wanted number value : ℕ) → Case
 
 -- a store set up on an image and table that were full of other bytes
 abbrev begun : ℕ → State
@@ -88,8 +99,8 @@ releasedAll [] x = x
 releasedAll (cue ∷ cues) x = releasedAll cues (releaseCue cue x .after)
 
 -- the kind and extent of each block, in the order of their addresses
-abbrev described : Search (List ℕ)
-described = record { stops = λ h d. false; passes = λ a h d. a ++ (d .kind ∷ d .extent ∷ []) }
+abbrev kindsAndExtents : Search (List ℕ)
+kindsAndExtents = record { stops = λ h d. false; passes = λ a h d. a ++ (d .kind ∷ d .extent ∷ []) }
 
 -- two lists of numbers are one
 abbrev sameNumbers : List ℕ → List ℕ → Bool
@@ -168,7 +179,7 @@ holds (releases L sizes cues gone index v cue number count blocks entries) =
     let o : Outcome = releaseCue cue (state (x .image) (set (x .table) index v)) in
     eqb (returned (o .answer)) number
     && (eqb (value (o .answer)) count
-    && (sameNumbers (placesOf (walk described (o .after .image) [])) blocks && sameNumbers (take 2 (o .after .table)) entries))
+    && (sameNumbers (placesOf (walk kindsAndExtents (o .after .image) [])) blocks && sameNumbers (take 2 (o .after .table)) entries))
 holds (keeps L sizes cues index v at byte cue number) =
     let x : State = placedFor sizes cues (begun L) in
     let y : State = state (set (x .image) at byte) (set (x .table) index v) in
@@ -194,6 +205,10 @@ holds (measures L before entries at byte pointer number start end) =
     eqb (distancesNumber m) number && (equal (startDistance m) start && equal (endDistance m) end)
 holds (reads L before pointer header base size offset remaining) =
     finds (readTag 6 (unpack pointer) (placed before (begun L))) header base size offset remaining
+holds (casts L before size type entries place byte list pointer wanted number v) =
+    let x : State = allocate size type (placed before (begun L)) .after in
+    let a : Answer = hasType list pointer wanted (state (set (x .image) place byte) (take entries (x .table))) in
+    eqb (returned a) number && eqb (value a) v
 
 abbrev pub all : List Case → Bool
 all [] = true
@@ -420,8 +435,60 @@ cases =
     ∷ releases 64 (0 ∷ 0 ∷ 0 ∷ []) (7 ∷ 9 ∷ 7 ∷ []) [] 2 0 7 0 2 (1 ∷ 16 ∷ 2 ∷ 16 ∷ 1 ∷ 16 ∷ []) (0 ∷ 0 ∷ [])
     ∷ releases 64 (0 ∷ 0 ∷ 0 ∷ []) (7 ∷ 9 ∷ 7 ∷ []) (7 ∷ []) 2 0 9 0 1 (1 ∷ 48 ∷ []) (0 ∷ 0 ∷ [])
     ∷ keeps 64 (16 ∷ 0 ∷ []) (7 ∷ 9 ∷ []) 0 0 0 16 9 21
+    ∷ casts 1024 [] 30 4 400 0 16 winch 0x8010000000000020 4 0 1
+    ∷ casts 1024 [] 30 4 400 0 16 winch 0x8010000000000020 3 0 0
+    ∷ casts 1024 [] 30 4 400 0 16 winch 0x8010000000000021 4 0 0
+    ∷ casts 1024 [] 30 4 400 0 16 winch 0x8010000000000024 3 0 1
+    ∷ casts 1024 [] 30 4 400 0 16 winch 0x8010000000000024 1 0 1
+    ∷ casts 1024 [] 30 4 400 0 16 winch 0x8010000000000024 4 0 0
+    ∷ casts 1024 [] 30 4 400 0 16 winch 0x801000000000002C 1 0 1
+    ∷ casts 1024 [] 30 4 400 0 16 winch 0x8010000000000030 3 0 1
+    ∷ casts 1024 [] 30 4 400 0 16 winch 0x8010000000000028 2 0 1
+    ∷ casts 1024 [] 30 4 400 0 16 winch 0x8010000000000028 1 0 0
+    ∷ casts 1024 [] 30 4 400 0 16 winch 0x801000000000002A 1 0 0
+    ∷ casts 1024 [] 30 4 400 0 16 winch 0x8010000000000038 1 0 1
+    ∷ casts 1024 [] 30 4 400 0 16 winch 0x801000000000003C 1 0 0
+    ∷ casts 1024 [] 30 4 400 0 16 winch 0x801000000000003D 1 0 0
+    ∷ casts 1024 [] 30 4 400 0 16 winch 0x801000000000003E 4 0 0
+    ∷ casts 1024 [] 30 4 400 0 16 winch 0x801000000000003F 1 0 0
+    ∷ casts 1024 [] 30 4 400 0 16 winch 0x801000000000001F 4 0 0
+    ∷ casts 1024 [] 30 4 400 0 16 winch 0x8010000000000000 4 0 0
+    ∷ casts 1024 [] 30 4 400 0 16 winch 0x8010000000000020 9 0 0
+    ∷ casts 1024 [] 30 4 400 0 16 winch 0x8010000000000020 65535 0 0
+    ∷ casts 1024 [] 31 4 400 0 16 winch 0x8010000000000020 4 0 1
+    ∷ casts 1024 [] 31 4 400 0 16 winch 0x801000000000003E 4 0 0
+    ∷ casts 1024 [] 40 4 400 0 16 winch 0x0007000000000030 3 0 1
+    ∷ casts 1024 [] 40 4 400 0 16 winch 0x000700000000001F 4 0 0
+    ∷ casts 1024 [] 40 4 400 0 16 winch 0x0007000000000047 1 0 0
+    ∷ casts 1024 [] 29 4 400 0 16 winch 0x8010000000000020 4 25 0
+    ∷ casts 1024 [] 30 5 400 0 16 winch 0x8010000000000020 4 25 0
+    ∷ casts 1024 [] 30 4 400 0 16 [] 0x8010000000000020 4 25 0
+    ∷ casts 1024 [] 0 1 400 0 16 winch 0x8010000000000020 1 25 0
+    ∷ casts 1024 [] 1 7 400 0 16 (plain 7 1) 0x8010000000000020 7 0 1
+    ∷ casts 1024 (10 ∷ []) 20 7 400 0 16 (plain 7 1) 0x000700000000003A 7 0 1
+    ∷ casts 1024 [] 29 4 383 4 0 (plain 1 0) 0x0000000000000000 4 4 0
+    ∷ casts 1024 [] 29 4 383 0 16 (plain 1 0) 0x0000000000000000 4 5 0
+    ∷ casts 1024 [] 29 4 400 0 16 (plain 1 0) 0x0000000000000000 4 24 0
+    ∷ casts 1024 [] 29 4 400 0 16 (plain 1 0) 0x8010000000000020 4 24 0
+    ∷ casts 1024 [] 29 4 400 0 16 winch 0x0000000000000000 4 10 0
+    ∷ casts 1024 [] 29 4 400 0 16 winch 0x802A000000000020 4 11 0
+    ∷ casts 1024 [] 30 4 400 0 16 [] 0x802A000000000020 4 11 0
+    ∷ casts 1024 [] 30 4 400 20 1 winch 0x8010000000000020 4 11 0
     ∷ []
 
 pub worked : T (all cases)
-unfolding frameNumber frameNumberIn unpack pack goodTag reach landed moved wrapper tagNumber pointerTo tagMatches usedEntries entryAt encode decode field put superblock withTotal superblockGood header headerAt wellFormed sound walkIn walkFrom walk fitOf firstFit setUpChecks fresh setUp opening entryHolds fitAnswer takenExtent allocateChecks carved noted allocateFor headerPlace verified leadsBack located fromStart toEnd foundAt readTag inBody accessed distancesChecks distancesAt distances movedAnswer moveAnswer move loadAnswer load storeChecks store fillChecks fill compareBytes textFrom textOf copyChecks copy compared compare textAnswer textAt copyTextChecks copyText countOf countBlocks tallyOpened tallyCounted tally metOf walkTo mergeEnd mergeStart released freeChecks releasedAt totalFits totalled freeRelease merged freed free walkCue gatheredAnswer placesOf allHeld extentsOf releaseChecks pointersTo cuePointers freeEach releaseCue freeTotal
+unfolding frameNumber frameNumberIn unpack pack goodTag reach landed moved wrapper tagNumber pointerTo tagMatches usedEntries entryAt encode decode field put superblock withTotal superblockGood header headerAt wellFormed sound walkIn walkFrom walk fitOf firstFit setUpChecks fresh setUp opening entryHolds fitAnswer takenExtent allocateChecks carved noted allocateFor headerPlace verified leadsBack located fromStart toEnd foundAt readTag inBody accessed distancesChecks distancesAt distances descriptorAt fieldAt lookUpIn lookUp fieldEnd goodFieldsIn goodDescriptor goodFromIn goodList anyBelow fieldHas typeHasIn typeHas descriptor at winch describedBy described hasAt castAnswer hasType movedAnswer moveAnswer move loadAnswer load storeChecks store fillChecks fill compareBytes textFrom textOf copyChecks copy compared compare textAnswer textAt copyTextChecks copyText countOf countBlocks tallyOpened tallyCounted tally metOf walkTo mergeEnd mergeStart released freeChecks releasedAt totalFits totalled freeRelease merged freed free walkCue gatheredAnswer placesOf allHeld extentsOf releaseChecks pointersTo cuePointers freeEach releaseCue freeTotal
 worked = tt
+
+-- What the claim on casts says of a load buffer, without computing it: a pointer 4 bytes behind its base has a sample there or has not, as the relation says; and a
+-- list with a descriptor of size 0 is refused by 24, whatever the pointer and the wanted type, numbers of more than 64 bits too.
+pub claimed : ChecksCasts → (x : State) (s h q : ℕ)
+    → (Castable winch 0x8010000000000024 x h q
+    → ((hasType winch 0x8010000000000024 3 x ≡ Accepted 1) ↔ HasWanted winch 0x8010000000000024 3 x h)
+    × ((hasType winch 0x8010000000000024 3 x ≡ Accepted 0) ↔ (HasWanted winch 0x8010000000000024 3 x h → ⊥)))
+    × (opening x ≡ Accepted s → returned (hasType (plain 1 0) (2 ^ 64) (2 ^ 64) x) ≡ 24)
+unfolding ChecksCasts descriptor encode decode field descriptorAt
+claimed claim x s h q = (
+  (λ c. (claim winch 0x8010000000000024 3 x .yes h q c, claim winch 0x8010000000000024 3 x .no h q c)),
+  λ e. claim (plain 1 0) (2 ^ 64) (2 ^ 64) x .bad-list s e .1 (0, first, omega arith, no-size refl),
+)
