@@ -5,12 +5,12 @@
  * Each function returns CUE_ACCEPTED (0) or the number of a refusal (enum cue_refusal). A refused call has changed no
  * byte of image, table or log, and every value given through a pointer is 0, with one exception: cue_traffic's CUE_LOG_FULL
  * (23), after which all that was done stands, and both values are given. Every call ends properly on all images, tables,
- * pointers, logs and numbers.
+ * pointers, logs, lists of descriptors and numbers.
  *
- * Arguments. Lengths count bytes of the image and of the log, and 64-bit entries of the table. Image, table, log and values
- * must be valid for the call (not null, also where a length is 0, and aligned as their types ask) and must not overlap. No
- * pointer is kept: image and table can be saved, restored at another address and lent again, and tagged pointers keep their
- * meaning.
+ * Arguments. Lengths count bytes of the image, of the log and of the descriptors, and 64-bit entries of the table. Image,
+ * table, log, descriptors and values must be valid for the call (not null, also where a length is 0, and aligned as their
+ * types ask) and must not overlap. No pointer is kept: image and table can be saved, restored at another address and lent
+ * again, and tagged pointers keep their meaning.
  *
  * Limits.
  * - The archive is for x86-64 Linux: size_t has 64 bits. It calls memmove and memset and no other outside function, and
@@ -20,14 +20,19 @@
  * - Time: allocate, free, release and tally walk over the blocks from the image's start and grow with their number. Setup,
  *   free, release, fill and copy also grow with the bytes that they write, compare and text copy with those that they read.
  *   Load, store, move, distances and free total take constant time. Traffic sets up and then grows with its draws, of which
- *   each is an allocate, a free or a store.
+ *   each is an allocate, a free or a store. Has type does not depend on the image: it checks the whole list of descriptors,
+ *   looking up each type and each field's type by a walk over the descriptors before it, and then follows one field of each
+ *   record that it enters. Most of it is the check: with n descriptors and m fields some n * (n + m) / 2 steps, of about
+ *   @STEP@ ns each.
  * - Stack, in bytes at most: the return address and all below it, without memmove and memset.
  *     cue_setup         48    cue_load     176    cue_copy        208
  *     cue_allocate     112    cue_store    176    cue_compare     224
  *     cue_allocate_for  88    cue_free     216    cue_copy_text   208
  *     cue_move           8    cue_release  112    cue_tally        64
  *     cue_distances    160    cue_fill     160    cue_free_total    8
- *     cue_traffic      928
+ *     cue_traffic      928    cue_has_type     208
+ *   cue_has_type takes 32 more for each further record that it enters: a record in a record in the object's type is the
+ *   second one. There are at most as many as descriptors in the list: of 65,536 types, each a field of the next, 2 MiB.
  *
  * On CUE_UNSOUND something else has written into the image. Allocate, free and release nothing more there. Objects that
  * their pointers still reach can be loaded; save image and table for diagnosis, then set the store up afresh. The same
@@ -43,9 +48,9 @@ extern "C" {
 #endif
 
 #define CUE_VERSION_MAJOR 1
-#define CUE_VERSION_MINOR 8
+#define CUE_VERSION_MINOR 9
 #define CUE_VERSION_PATCH 0
-#define CUE_VERSION "1.8.0"
+#define CUE_VERSION "1.9.0"
 
 /* 17 to 19 are a call log's (docs/FORMAT.md): the program replay prints them, and no function returns them. */
 enum cue_refusal {
@@ -69,7 +74,9 @@ enum cue_refusal {
     CUE_UNTERMINATED = 20,   /* text copy: no zero byte from the source's address to the body's end */
     CUE_ENTRY_LOST = 21,     /* release: an object's entry does not hold its header: the table is damaged, or another image's */
     CUE_WRONG_TOTAL = 22,    /* the free total would fall below 0, or rise above image_len - 16: the image is damaged, or older than 1.4.0 */
-    CUE_LOG_FULL = 23        /* traffic: the log has no space for the next record; what was recorded stands, and both values are given */
+    CUE_LOG_FULL = 23,       /* traffic: the log has no space for the next record; what was recorded stands, and both values are given */
+    CUE_BAD_DESCRIPTOR = 24, /* has type: a descriptor of the list is bad: see cue_has_type */
+    CUE_UNDESCRIBED = 25     /* has type: the object's type is not listed, or described with more bytes than the object has */
 };
 
 /* A returned number as text. */
@@ -97,6 +104,8 @@ static inline const char *cue_reason(uint32_t number)
     case CUE_ENTRY_LOST: return "table entry does not hold its header";
     case CUE_WRONG_TOTAL: return "free total below 0 or above L - 16";
     case CUE_LOG_FULL: return "log has no space for the next record";
+    case CUE_BAD_DESCRIPTOR: return "bad type descriptor";
+    case CUE_UNDESCRIBED: return "object not described";
     default: return "no refusal has this number";
     }
 }
@@ -144,6 +153,31 @@ uint32_t cue_move(const uint8_t *image, size_t image_len, const uint64_t *table,
  * in the pointer's slot or frame: wherever cue_move leads to.
  * Refusals, in order: 4, 5, 10, 11; never 13. */
 uint32_t cue_distances(const uint8_t *image, size_t image_len, const uint64_t *table, size_t table_len, uint64_t pointer, int64_t *from_start, int64_t *to_end);
+
+/* Type descriptors as bytes of an array: a plain type; a record, which its fields follow; a field. Constant expressions where
+ * the arguments are:
+ *     static const uint8_t types[] = {
+ *         CUE_PLAIN(1, 4),                                              type 1: 4 bytes
+ *         CUE_RECORD(2, 12, 2), CUE_FIELD(0, 1), CUE_FIELD(8, 1),       type 2: 12 bytes, with type 1 at 0 and at 8
+ *     }; */
+#define CUE_BYTES_2(n) (uint8_t)((n) & 0xFF), (uint8_t)((n) >> 8 & 0xFF)
+#define CUE_BYTES_4(n) CUE_BYTES_2(n), CUE_BYTES_2((uint32_t)(n) >> 16)
+#define CUE_DESCRIPTOR(length, kind, type, size) CUE_BYTES_4(length), CUE_BYTES_2(kind), CUE_BYTES_2(type), CUE_BYTES_4(size)
+#define CUE_PLAIN(type, size) CUE_DESCRIPTOR(12, 4, type, size)
+#define CUE_RECORD(type, size, fields) CUE_DESCRIPTOR(12 + 6 * (fields), 5, type, size)
+#define CUE_FIELD(offset, type) CUE_BYTES_4(offset), CUE_BYTES_2(type)
+
+/* Type check before a cast: yes is 1 where the object's type has the wanted one at the pointer's distance from the object's
+ * start, 0 where it has not. A type has another one at an offset when it is that type and the offset is 0, or when one of its
+ * fields has it there. So the answer is 0 before the start, between fields, at the end and past it, and for a type that is not
+ * listed. Nothing is written.
+ * The list holds descriptors, little-endian, one behind the other up to its end: length (4 bytes, fields included), kind (2: 4
+ * for a plain type, 5 for a record), type (2), size (4); a record's fields of 6 bytes: offset (4), type (2). A field names a
+ * type described before its record, starts at or after the end of the field before it, and fits inside its record's size.
+ * Refusals, in order: 4, 5, 24 (a descriptor is cut short, of an unknown kind, of size 0, of a length that is not 12 or, for a
+ * record, 12 and whole fields, of a type described before it, or has a bad field; whatever the pointer), 10, 11, 25 (the
+ * object's type is not listed, or the object has fewer bytes than it is described with). */
+uint32_t cue_has_type(const uint8_t *image, size_t image_len, const uint64_t *table, size_t table_len, const uint8_t *descriptors, size_t descriptors_len, uint64_t pointer, uint16_t wanted, uint64_t *yes);
 
 /* Loads 1 to 8 bytes, little-endian.
  * Refusals, in order: 4, 5, 14, 10, 11, 13. */

@@ -1,8 +1,8 @@
 //! The exports of `libcapi.a`, as `include/cueledger.h` has them.
 //!
 //! Each returns a [`Refusal`](crate::Refusal)'s number, 0 where the call is accepted; a refused call gives 0 for every value. Only
-//! `cue_traffic` also returns 23, and then both values. Image, table, log and values must be valid for the call and must not overlap. No
-//! pointer is kept.
+//! `cue_traffic` also returns 23, and then both values. Image, table, log, descriptors and values must be valid for the call and must not
+//! overlap. No pointer is kept.
 
 #![allow(missing_docs)]
 
@@ -12,6 +12,17 @@ extern "C" {
     pub fn cue_allocate_for(image: *mut u8, image_len: usize, table: *mut u64, table_len: usize, size: u32, r#type: u16, cue: u32, pointer: *mut u64) -> u32;
     pub fn cue_move(image: *const u8, image_len: usize, table: *const u64, table_len: usize, pointer: u64, distance: i64, moved: *mut u64) -> u32;
     pub fn cue_distances(image: *const u8, image_len: usize, table: *const u64, table_len: usize, pointer: u64, from_start: *mut i64, to_end: *mut i64) -> u32;
+    pub fn cue_has_type(
+        image: *const u8,
+        image_len: usize,
+        table: *const u64,
+        table_len: usize,
+        descriptors: *const u8,
+        descriptors_len: usize,
+        pointer: u64,
+        wanted: u16,
+        yes: *mut u64,
+    ) -> u32;
     pub fn cue_load(image: *const u8, image_len: usize, table: *const u64, table_len: usize, pointer: u64, width: u64, value: *mut u64) -> u32;
     pub fn cue_store(image: *mut u8, image_len: usize, table: *const u64, table_len: usize, pointer: u64, width: u64, value: u64) -> u32;
     pub fn cue_free(image: *mut u8, image_len: usize, table: *mut u64, table_len: usize, pointer: u64) -> u32;

@@ -32,6 +32,7 @@
 #![warn(missing_docs)]
 
 mod blocks;
+pub mod descriptor;
 pub mod ffi;
 mod pointer;
 mod refusal;

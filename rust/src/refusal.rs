@@ -58,11 +58,17 @@ pub enum Refusal {
     /// Something else has written into the image, as for [`Unsound`](Refusal::Unsound); or it was set up before 1.4.0, and
     /// README.md, "Saving", says how to take it over.
     WrongTotal = 22,
+    /// 24, type check: a descriptor of the list is cut short, of an unknown kind, of size 0, of a length that is not 12 (or, for a record,
+    /// 12 and whole fields), of a type that is described before it, or has a bad field: one that names no earlier type, starts before
+    /// the end of the field before it, or does not fit inside its record's size.
+    BadDescriptor = 24,
+    /// 25, type check: the object's type is not listed, or the object has fewer bytes than it is described with.
+    Undescribed = 25,
 }
 
 impl Refusal {
     /// Every refusal, in the order of its number.
-    pub const ALL: [Refusal; 19] = [
+    pub const ALL: [Refusal; 21] = [
         Refusal::BadExponent,
         Refusal::BadLength,
         Refusal::TooFewEntries,
@@ -82,9 +88,11 @@ impl Refusal {
         Refusal::Unterminated,
         Refusal::EntryLost,
         Refusal::WrongTotal,
+        Refusal::BadDescriptor,
+        Refusal::Undescribed,
     ];
 
-    /// The number that the exports return: 1 to 16 or 20 to 22. 17 to 19 are a call log's, and 23 is no refusal here but
+    /// The number that the exports return: 1 to 16, 20 to 22, 24 or 25. 17 to 19 are a call log's, and 23 is no refusal here but
     /// [`Traffic::full`](crate::Traffic::full): what was recorded stands, and a refused call has changed nothing.
     ///
     /// ```
@@ -108,6 +116,7 @@ impl Refusal {
         let place = match number {
             1..=16 => number - 1,
             20..=22 => number - 4,
+            24..=25 => number - 5,
             _ => return None,
         };
         Some(Self::ALL[place as usize])
@@ -140,6 +149,8 @@ impl Refusal {
             Refusal::Unterminated => "no zero byte up to the body's end",
             Refusal::EntryLost => "table entry does not hold its header",
             Refusal::WrongTotal => "free total below 0 or above L - 16",
+            Refusal::BadDescriptor => "bad type descriptor",
+            Refusal::Undescribed => "object not described",
         }
     }
 }

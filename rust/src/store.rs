@@ -300,6 +300,60 @@ impl<'a> Store<'a> {
         answer(number, Distances { from_start, to_end })
     }
 
+    /// Type check before a cast: whether the object's type has the type `wanted` at the pointer's distance from the base.
+    ///
+    /// A type has another one at an offset when it is that type and the offset is 0, or when one of its fields has it there. So a pointer to a
+    /// record may be taken for one to the record's first field, and one moved to a field's offset for one to that field. Before the base,
+    /// between fields, at the end and past it the answer is no, and for a type that is not listed too. Nothing is written.
+    ///
+    /// `descriptors` lists the types, one after another: [`descriptor`](crate::descriptor) makes their bytes. Time and stack grow with the
+    /// list: see `include/cueledger.h`.
+    ///
+    /// Refused with, in this order: [`BadDescriptor`](Refusal::BadDescriptor), whatever the pointer; [`BadTag`](Refusal::BadTag),
+    /// [`Dangling`](Refusal::Dangling); [`Undescribed`](Refusal::Undescribed).
+    ///
+    /// ```
+    /// # use cueledger::{descriptor, Refusal, Store};
+    /// # let (mut image, mut table) = ([0u8; 1024], [0u64; Store::table_entries(1024, 9)]);
+    /// const NUMBER: u16 = 1; // 4 bytes
+    /// const SAMPLE: u16 = 2; // a number at 0, and one at 8
+    /// let mut list = Vec::new();
+    /// list.extend(descriptor::plain(NUMBER, 4));
+    /// list.extend(descriptor::record(SAMPLE, 12, 2));
+    /// list.extend(descriptor::field(0, NUMBER));
+    /// list.extend(descriptor::field(8, NUMBER));
+    ///
+    /// let mut store = Store::set_up(&mut image, &mut table, 9)?;
+    /// let sample = store.allocate(12, SAMPLE)?;
+    /// assert_eq!(store.has_type(&list, sample, SAMPLE), Ok(true));
+    /// assert_eq!(store.has_type(&list, sample, NUMBER), Ok(true)); // its first field
+    /// assert_eq!(store.has_type(&list, store.offset(sample, 8)?, NUMBER), Ok(true));
+    /// assert_eq!(store.has_type(&list, store.offset(sample, 4)?, NUMBER), Ok(false)); // between its fields
+    /// assert_eq!(store.has_type(&list[..12], sample, NUMBER), Err(Refusal::Undescribed));
+    /// assert_eq!(store.has_type(&list[..13], sample, NUMBER), Err(Refusal::BadDescriptor));
+    /// # Ok::<(), Refusal>(())
+    /// ```
+    #[inline]
+    pub fn has_type(&self, descriptors: &[u8], pointer: Pointer, wanted: u16) -> Result<bool, Refusal> {
+        let mut yes = 0;
+        let (image, table) = (self.image(), self.table());
+        // SAFETY: as in `offset`; the third slice is valid for the call and only read, too.
+        let number = unsafe {
+            ffi::cue_has_type(
+                image.as_ptr(),
+                image.len(),
+                table.as_ptr(),
+                table.len(),
+                descriptors.as_ptr(),
+                descriptors.len(),
+                pointer.into(),
+                wanted,
+                &mut yes,
+            )
+        };
+        answer(number, yes == 1)
+    }
+
     /// Loads a number of `width` bytes, little-endian.
     ///
     /// Refused with, in this order: [`BadTag`](Refusal::BadTag), [`Dangling`](Refusal::Dangling),

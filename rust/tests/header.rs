@@ -35,7 +35,7 @@ fn refusals() {
         }
     }
     // no `Refusal`: what was recorded stands
-    for line in ["CUE_LOG_FULL = 23 ", "case CUE_LOG_FULL: return \"log has no space for the next record\";"] {
+    for line in ["CUE_LOG_FULL = 23,", "case CUE_LOG_FULL: return \"log has no space for the next record\";"] {
         assert!(HEADER.contains(line), "include/cueledger.h has no `{line}`");
     }
     assert_eq!(HEADER.matches("    case CUE_").count(), Refusal::ALL.len() + 2, "accepted, a full log, and these");

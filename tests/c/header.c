@@ -56,10 +56,30 @@ static void expect_traffic(uint32_t s, uint64_t draws, size_t log_len, uint32_t 
     }
 }
 
+/* types that the macros describe: 4 bytes (1); a record with two of them (2); one of the largest size, with a byte at its end (65535) */
+static const uint8_t types[] = {
+    CUE_PLAIN(1, 4),
+    CUE_RECORD(2, 10, 2), CUE_FIELD(0, 1), CUE_FIELD(6, 1),
+    CUE_PLAIN(0x1234, 1),
+    CUE_RECORD(65535, 0xFFFFFFFF, 1), CUE_FIELD(0xFFFFFFFE, 0x1234),
+};
+
+/* yes or no, and 0 where it is refused */
+static void expect_type(size_t types_len, uint64_t pointer, uint16_t type, uint32_t wanted, uint64_t answer)
+{
+    uint64_t yes = 2;
+
+    expect("has type", cue_has_type(image, 1024, table, CUE_TABLE_ENTRIES(1024, 6), types, types_len, pointer, type, &yes), wanted);
+    if (yes != answer) {
+        printf("has type: %lu, not %lu\n", (unsigned long)yes, (unsigned long)answer);
+        failures++;
+    }
+}
+
 /* 17 to 19 are a call log's */
 static int returned(uint32_t number)
 {
-    return number <= CUE_TOO_LARGE || (number >= CUE_UNTERMINATED && number <= CUE_LOG_FULL);
+    return number <= CUE_TOO_LARGE || (number >= CUE_UNTERMINATED && number <= CUE_UNDESCRIBED);
 }
 
 int main(void)
@@ -82,6 +102,18 @@ int main(void)
     expect_distances(pointer - 1, CUE_ACCEPTED, -1, 11);
     expect_distances(pointer + 11, CUE_ACCEPTED, 11, -1);
     expect_distances(pointer + 32, CUE_DANGLING, 0, 0);
+    expect_type(sizeof types, pointer, 7, CUE_UNDESCRIBED, 0);
+    expect("allocate a record", cue_allocate(image, 1024, table, CUE_TABLE_ENTRIES(1024, 6), 10, 2, &pointer), CUE_ACCEPTED);
+    expect_type(sizeof types, pointer, 2, CUE_ACCEPTED, 1);
+    expect_type(sizeof types, pointer, 1, CUE_ACCEPTED, 1);
+    expect_type(sizeof types, pointer + 6, 1, CUE_ACCEPTED, 1);
+    expect_type(sizeof types, pointer + 4, 1, CUE_ACCEPTED, 0);
+    expect_type(sizeof types, pointer - 1, 2, CUE_ACCEPTED, 0);
+    expect_type(36, pointer, 2, CUE_ACCEPTED, 1);
+    expect_type(12, pointer, 1, CUE_UNDESCRIBED, 0);
+    expect_type(sizeof types - 1, pointer, 2, CUE_BAD_DESCRIPTOR, 0);
+    expect_type(0, pointer, 2, CUE_UNDESCRIBED, 0);
+    expect_type(sizeof types, 0, 2, CUE_BAD_TAG, 0);
     expect("allocate 0", cue_allocate(image, 1024, table, CUE_TABLE_ENTRIES(1024, 6), 0, 7, &pointer), CUE_ACCEPTED);
     expect_distances(pointer, CUE_ACCEPTED, 0, 0);
     expect("fill 0", cue_fill(image, 1024, table, CUE_TABLE_ENTRIES(1024, 6), pointer, 0, 1), CUE_EMPTY);
@@ -96,7 +128,7 @@ int main(void)
     expect_traffic(6, 2, 32, CUE_ACCEPTED, UINT64_C(0x3C6EF372FE94F82A), 32);
 
     /* a reason of its own for each number, and one for all that no call returns */
-    for (number = CUE_ACCEPTED; number <= CUE_LOG_FULL + 1; number++)
+    for (number = CUE_ACCEPTED; number <= CUE_UNDESCRIBED + 1; number++)
         for (other = CUE_ACCEPTED; other < number; other++)
             if ((strcmp(cue_reason(number), cue_reason(other)) == 0) != (!returned(number) && !returned(other))) {
                 printf("%u and %u: \"%s\" and \"%s\"\n", (unsigned)other, (unsigned)number, cue_reason(other), cue_reason(number));
