@@ -5,6 +5,7 @@
 mod accesses;
 mod blocks;
 mod bulk;
+mod casts;
 mod contestants;
 mod freeing;
 mod heap;
@@ -43,6 +44,7 @@ fn main() {
     freeing::measure(&mut bench);
     heap::measure(&mut bench);
     tree::measure(&mut bench);
+    casts::measure(&mut bench);
     traffic::measure(&mut bench);
     logs::measure(&mut bench);
     memory::measure();

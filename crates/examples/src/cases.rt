@@ -354,3 +354,30 @@ pub fn loads(run: Run) -> Run {
     let run = run.traffic(6, 0, 0, 0, 0, 0);
     run.traffic(5, 8, 128, 1, 0, 0)
 }
+
+// Type checks of a load buffer: inside its samples, between fields, at its end and before it; with a list that is cut short, and without one; refusals 24, 25, 11
+// and 10.
+pub fn types(run: Run) -> Run {
+    heading(
+        b"Cases: a load buffer of 30 bytes at 32, of type 1, with samples of type 5 at 36 and at 48",
+    );
+    let run = run.quietly(Call::SetUp(6)).quietly(Call::Allocate(30));
+    let run = run.has_type(78, TEN | 32, 1, 0, 1);
+    let run = run.has_type(78, TEN | 36, 5, 0, 1);
+    let run = run.has_type(78, TEN | 36, 2, 0, 1);
+    let run = run.has_type(78, TEN | 40, 3, 0, 1);
+    let run = run.has_type(78, TEN | 48, 5, 0, 1);
+    let run = run.has_type(78, TEN | 42, 2, 0, 0);
+    let run = run.has_type(78, TEN | 36, 1, 0, 0);
+    let run = run.has_type(78, TEN | 60, 2, 0, 0);
+    let run = run.has_type(78, TEN | 62, 2, 0, 0);
+    let run = run.has_type(78, TEN | 31, 1, 0, 0);
+    let run = run.has_type(78, TEN | 32, 9, 0, 0);
+    let run = run.has_type(77, TEN | 32, 1, 24, 0);
+    let run = run.has_type(54, TEN | 32, 1, 25, 0);
+    let run = run.has_type(0, TEN | 32, 1, 25, 0);
+    let run = run.has_type(0, TEN | 64, 1, 11, 0);
+    let run = run.has_type(0, 0, 1, 10, 0);
+    let run = run.quietly(Call::SetUp(6)).quietly(Call::Allocate(29));
+    run.has_type(78, TEN | 32, 1, 25, 0)
+}

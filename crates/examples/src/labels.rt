@@ -1,5 +1,5 @@
 // The first column of each call's line: 32 places, in the order of the calls.
-pub const LABELS: [u8; 5888] = *b"set up                          \
+pub const LABELS: [u8; 6432] = *b"set up                          \
 10 bytes                        \
 20 bytes                        \
 32 bytes                        \
@@ -182,4 +182,21 @@ tally                           \
 8 draws, 127 bytes of log       \
 2^64-1 draws, 32 bytes of log   \
 no draw, no log                 \
-s = 5                           ";
+s = 5                           \
+has 1 at 32, its start          \
+has 5 at 36                     \
+has 2 at 36, in a sample        \
+has 3 at 40                     \
+has 5 at 48, behind the first   \
+has 2 at 42, between fields     \
+has 1 at 36                     \
+has 2 at 60, behind the fields  \
+has 2 at 62, its end            \
+has 1 at 31, before it          \
+has 9 at 32, not listed         \
+has 1, the list cut to 77 bytes \
+has 1, the list cut to 54 bytes \
+has 1, no list                  \
+has 1 at 64, no list            \
+has 1 through 0, no list        \
+29 bytes: has 1                 ";

@@ -31,6 +31,7 @@ fn main() {
     let run = cases::measured_empty(cases::empties(cases::fresh(run)));
     let run = cases::totals(cases::cues(run));
     let run = cases::loads(cases::damaged(cases::spare_totals(run)));
+    let run = cases::types(run);
     text(b"\n");
     decimal(run.made);
     text(b" calls, ");

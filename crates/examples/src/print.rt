@@ -43,7 +43,7 @@ pub fn heading(t: &[u8]) {
 // The label of the call with this number, 0 the first.
 pub fn label(call: u64) {
     text(b"  ");
-    if call < 184 {
+    if call < 201 {
         let at = 32 * call as usize;
         let end = at + 32;
         text(&LABELS[at..end]);
@@ -51,7 +51,7 @@ pub fn label(call: u64) {
 }
 
 // Why a call was declined, by its number; 17 to 19 are a call log's.
-const REASONS: [u8; 864] = *b"no reason known                     \
+const REASONS: [u8; 936] = *b"no reason known                     \
 slot exponent outside 6 to 15       \
 image length outside 64 to 2^30     \
 table too short to set up           \
@@ -74,7 +74,9 @@ no reason known                     \
 no zero byte up to the body's end   \
 table entry does not hold its header\
 free total below 0 or above L - 16  \
-log has no space for the next record";
+log has no space for the next record\
+bad type descriptor                 \
+object not described                ";
 
 // Text without the blanks at its end.
 fn trimmed(t: &[u8]) {
@@ -93,7 +95,7 @@ fn refused(number: u32) {
     text(b"refused ");
     decimal(number as u64);
     text(b": ");
-    if number < 24 {
+    if number < 26 {
         let at = 36 * number as usize;
         let end = at + 36;
         trimmed(&REASONS[at..end]);
@@ -201,7 +203,7 @@ fn parts(pointer: u64, table: &[u64]) {
     framed(flag, tag, table);
 }
 
-// How a value is shown: not at all, as bytes, as a number, as a pointer with its parts.
+// How a value is shown: not at all, as bytes, as a number, as a pointer with its parts, as yes or no.
 pub const DONE: u32 = 0;
 
 pub const BYTES: u32 = 1;
@@ -209,6 +211,17 @@ pub const BYTES: u32 = 1;
 pub const NUMBER: u32 = 2;
 
 pub const PARTS: u32 = 3;
+
+pub const YES: u32 = 4;
+
+// Whether a type check says yes.
+fn yes(v: u64) {
+    if v == 1 {
+        text(b"yes");
+    } else {
+        text(b"no");
+    }
+}
 
 // An answer.
 pub fn answer(a: Answer, form: u32, table: &[u64]) {
@@ -218,6 +231,7 @@ pub fn answer(a: Answer, form: u32, table: &[u64]) {
             DONE => text(b"accepted"),
             BYTES => hex(v),
             NUMBER => decimal(v),
+            YES => yes(v),
             _ => parts(v, table),
         },
     }

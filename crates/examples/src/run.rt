@@ -1,4 +1,5 @@
 // The calls of the store, each with its line and the answer that docs/FORMAT.md gives for it: the returned number, and the value.
+use crate::print::YES;
 use crate::print::answer;
 use crate::print::ends;
 use crate::print::label;
@@ -13,7 +14,7 @@ use store::Refusal;
 use store::Usage;
 use workload::Traffic;
 
-// The calls but compare, distances, tally and traffic, each with its arguments.
+// The calls but compare, distances, has type, tally and traffic, each with its arguments.
 pub enum Call {
     // Slot exponent.
     SetUp(u32),
@@ -97,6 +98,98 @@ fn has(u: Usage, number: u32, objects: u64, live: u64, free: u64, overhead: u64)
         }
         Usage::Refused(r) => r.number() == number,
     }
+}
+
+// A load buffer (type 1, 30 bytes) with two samples (type 5, 12 bytes) at 4 and 16; a sample has numbers of 4 bytes (type 2) at 0 and 8, and one of 2 bytes (type 3)
+// at 4.
+const TYPES: [u8; 78] = [
+    12,
+    0,
+    0,
+    0,
+    4,
+    0,
+    2,
+    0,
+    4,
+    0,
+    0,
+    0,
+    12,
+    0,
+    0,
+    0,
+    4,
+    0,
+    3,
+    0,
+    2,
+    0,
+    0,
+    0,
+    30,
+    0,
+    0,
+    0,
+    5,
+    0,
+    5,
+    0,
+    12,
+    0,
+    0,
+    0,
+    0,
+    0,
+    0,
+    0,
+    2,
+    0,
+    4,
+    0,
+    0,
+    0,
+    3,
+    0,
+    8,
+    0,
+    0,
+    0,
+    2,
+    0,
+    24,
+    0,
+    0,
+    0,
+    5,
+    0,
+    1,
+    0,
+    30,
+    0,
+    0,
+    0,
+    4,
+    0,
+    0,
+    0,
+    5,
+    0,
+    16,
+    0,
+    0,
+    0,
+    5,
+    0,
+];
+
+// Makes a type check with the first so many bytes of the list; refused where there are not as many.
+fn cast(image: &[u8], table: &[u64], bytes: usize, pointer: u64, wanted: u16) -> Answer {
+    let types = TYPES;
+    if types.len() < bytes {
+        return Answer::Refused(Refusal::BadDescriptor);
+    }
+    store::has_type(image, table, &types[..bytes], pointer, wanted)
 }
 
 // Makes a load from the state 0, with a log of that many bytes; with 128 where it asks for more.
@@ -186,6 +279,16 @@ impl Run {
         label(self.made);
         ends(m);
         self.count(measured(m, number, from_start, to_end))
+    }
+
+    // Type check, on the whole image and table and with so many bytes of the list: the returned number and the value.
+    pub fn has_type(self, bytes: usize, pointer: u64, wanted: u16, number: u32, value: u64) -> Run {
+        let image = self.image;
+        let table = self.table;
+        let a = cast(&image, &table, bytes, pointer, wanted);
+        label(self.made);
+        answer(a, YES, &table);
+        self.count(a.returned() == number && a.value() == value)
     }
 
     // Traffic, on the whole image and table: the returned number, the state and the bytes of log.
