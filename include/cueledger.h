@@ -20,10 +20,10 @@
  * - Time: allocate, free, release and tally walk over the blocks from the image's start and grow with their number. Setup,
  *   free, release, fill and copy also grow with the bytes that they write, compare and text copy with those that they read.
  *   Load, store, move, distances and free total take constant time. Traffic sets up and then grows with its draws, of which
- *   each is an allocate, a free or a store. Has type does not depend on the image: it checks the whole list of descriptors,
- *   looking up each type and each field's type by a walk over the descriptors before it, and then follows one field of each
- *   record that it enters. Most of it is the check: with n descriptors and m fields some n * (n + m) / 2 steps, of about
- *   @STEP@ ns each.
+ *   each is an allocate, a free or a store. Has type does not depend on the blocks: it checks the whole list of descriptors,
+ *   and then follows one field of each record that it enters. Each type, each field's type and each type entered is looked up
+ *   by a walk from the list's start, 1.5 ns or so on a PC for each descriptor passed: 16 types, each a field of the next, take
+ *   0.3 microseconds, 1,000 take 2 ms, and 65,536 would take 10 s.
  * - Stack, in bytes at most: the return address and all below it, without memmove and memset.
  *     cue_setup         48    cue_load     176    cue_copy        208
  *     cue_allocate     112    cue_store    176    cue_compare     224
