@@ -31,8 +31,8 @@
  *     cue_move           8    cue_release  112    cue_tally        64
  *     cue_distances    160    cue_fill     160    cue_free_total    8
  *     cue_traffic      928    cue_has_type     208
- *   cue_has_type takes 32 more for each further record that it enters: a record in a record in the object's type is the
- *   second one. There are at most as many as descriptors in the list: of 65,536 types, each a field of the next, 2 MiB.
+ *   cue_has_type takes 32 more for each further type that it enters: the object's type is the first, that of a field in it the
+ *   second. There are at most as many as descriptors in the list: 65,536 types, each a field of the next, take 2 MiB.
  *
  * On CUE_UNSOUND something else has written into the image. Allocate, free and release nothing more there. Objects that
  * their pointers still reach can be loaded; save image and table for diagnosis, then set the store up afresh. The same

@@ -1,8 +1,8 @@
 -- What a good list is, case by case, and which type has which at an offset, both without any walk: document 02, W12. Assumes nothing.
-use Prim.Native.Nat.{ℕ, suc, _+_, _*_, _≤_, _<_}
+use Prim.Native.Nat.{ℕ, suc, _+_, _*_, _<_}
 use mathlib.Core.Path.{_≡_}
 use mathlib.Core.Bool.{true, false}
-use mathlib.Core.Logic.{_⊎_, _↔_}
+use mathlib.Core.Logic.{_↔_}
 use mathlib.Core.List.{List}
 use lib.ListN.{length}
 use Rattle.descriptors.specs.Descriptors.{lengthAt, kindAt, typeAt, sizeAt, fieldCount, fieldAt, goodList}

@@ -1,30 +1,30 @@
 -- The claim on the type check before a cast. Assumes nothing.
-use Prim.Native.Nat.{ℕ, _+_, _≤_, _<_}
+use Prim.Native.Nat.{ℕ, _≤_}
 use mathlib.Core.Path.{_≡_, refl, sym, ap, _∙_, subst}
 use mathlib.Core.Bool.{Bool, true, false, cond}
 use mathlib.Core.List.{List}
-use mathlib.Core.Logic.{_⊎_, inl, inr, _↔_}
+use mathlib.Core.Logic.{inl, inr, _↔_}
 use native.Mathlib.Omega.{arith}
 use lib.ListN.{length}
 use lib.IntN.{ℤ, pos, negsuc}
 use Rattle.frame.specs.Pointers.{unpack}
 use Rattle.block.specs.Layout.{typeAt, sizeAt}
-use Rattle.block.specs.laws.Booleans.{byBool, true-false, refuted}
-use Rattle.descriptors.specs.Descriptors.{lookUp, goodList}
+use Rattle.block.specs.laws.Booleans.{refuted}
+use Rattle.descriptors.specs.Descriptors.{goodList}
 use Rattle.descriptors.specs.Descriptors as descriptors
 use Rattle.descriptors.specs.Layouts.{typeHas}
-use Rattle.descriptors.specs.Claims.{Describes, SomeBad, Has}
+use Rattle.descriptors.specs.Claims.{Describes, Has}
 use Rattle.descriptors.specs.laws.Lookups.{missed}
 use Rattle.descriptors.specs.laws.Lists.{end-reached, describes-stands, described-once, lookup-at, lookup-describes}
 use Rattle.descriptors.specs.laws.Bad.{some-bad, none-bad, unless-bad}
 use Rattle.descriptors.specs.laws.Layouts.{computed-has, has-computed}
 use Rattle.store.specs.State.{State, returned, refusalNumber, value}
 use Rattle.store.specs.Calls.{opening, located, fromStart, described, hasAt, castAnswer, hasType}
-use Rattle.store.specs.Claims.{Castable, HasWanted, Undescribes, CastChecked, ChecksCasts}
+use Rattle.store.specs.Claims.{Castable, HasWanted, Undescribes, ChecksCasts}
 use Rattle.store.specs.laws.Refusals.{accepted-is}
 use Rattle.store.specs.laws.TagReading.{located-refusal}
 use Rattle.store.specs.laws.Distances.{start-at}
-use Rattle.store.specs.laws.Casts.{described-at, Describing, unlisted, short, covering, describing, has-offset, has-negative, cast-undescribed, cast-described, has-type-shut, has-type-bad, has-type-unread, has-type-cast, Checked, has-type-parts}
+use Rattle.store.specs.laws.Casts.{described-at, Describing, unlisted, short, covering, describing, has-offset, has-negative, cast-undescribed, cast-described, has-type-shut, has-type-bad, has-type-unread, has-type-cast, has-type-parts}
 use Rattle.store.specs.declared.answer.Refusal.the-variants.{Undescribed}
 use Rattle.store.specs.declared.answer.Answer.{Answer}
 use Rattle.store.specs.declared.answer.Answer.the-variants.{Accepted, Refused}

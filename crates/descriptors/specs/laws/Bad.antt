@@ -1,16 +1,16 @@
 -- What row 24 refuses, and what it lets pass, case by case. Assumes nothing.
 use Prim.Native.Nat.{ℕ, zero, suc, _+_, _-_, _%_, _<_}
-use mathlib.Core.Path.{_≡_, refl, sym, ap, _∙_, subst}
+use mathlib.Core.Path.{_≡_, refl, sym, ap, _∙_}
 use mathlib.Core.Bool.{true, false}
 use mathlib.Core.List.{List}
 use native.Mathlib.Omega.{arith}
 use lib.ListN.{length}
 use lib.Dec.{leb, ltb, eqb}
 use borrow.Author.Tests.{eq-eqb, leb-false, ltb-false, eqb-true, eqb-false}
-use Rattle.block.specs.laws.Booleans.{byBool, true-false, refuted}
+use Rattle.block.specs.laws.Booleans.{byBool, true-false}
 use Rattle.descriptors.specs.Descriptors.{descriptorAt, lengthAt, kindAt, typeAt, sizeAt, fieldCount, fieldAt, WholeTo, start, lookUp, fieldEnd, goodFieldsIn, goodShape, goodHead, goodDescriptor, goodFromIn, goodList, Stands}
 use Rattle.descriptors.specs.Claims.{Describes, BadFieldAt, no-earlier-type, overlaps, sticks-out, BadDescriptorAt, no-head, cut-short, unknown-kind, no-size, plain-length, record-length, repeated-type, bad-field, SomeBad}
-use Rattle.descriptors.specs.laws.Lookups.{whole-inside, whole-boundary, at-injective, at-somewhere, found-at, found-describes, missed}
+use Rattle.descriptors.specs.laws.Lookups.{whole-inside, whole-boundary, at-injective, found-at, found-describes, missed}
 use Rattle.descriptors.specs.laws.Fields.{Fits, endOf, Tried, fits, unnamed, early, late, tried, fields-on, fields-apart}
 use Rattle.descriptors.specs.laws.Lists.{Shaped, plain, fielded, headed-length, headed-over, good-parts, good-here, field-fits, describes-stands, lookup-at}
 use Rattle.descriptors.specs.laws.Checks.{shape-record}

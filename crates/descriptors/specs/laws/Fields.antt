@@ -1,7 +1,7 @@
 -- The fields of a record. Assumes nothing.
 use Prim.Native.Nat.{ℕ, zero, suc, _+_, _≤_, _<_}
 use mathlib.Core.Path.{_≡_, refl, sym, ap, _∙_, subst}
-use mathlib.Core.Bool.{Bool, true, false, _&&_, and-false}
+use mathlib.Core.Bool.{true, false, and-false}
 use mathlib.Core.List.{List}
 use native.Mathlib.Omega.{arith}
 use lib.Dec.{leb, ltb}
@@ -10,7 +10,6 @@ use Rattle.block.specs.laws.Booleans.{byBool, true-false}
 use Rattle.descriptors.specs.Descriptors.{sizeAt, fieldAt, lookUp, endWithin, fieldEnd, goodFieldsIn}
 use Rattle.descriptors.specs.laws.Lookups.{at-injective}
 use Rattle.descriptors.specs.declared.descriptor.Field.{Field}
-use Rattle.descriptors.specs.declared.descriptor.FieldEnd.{FieldEnd}
 use Rattle.descriptors.specs.declared.descriptor.FieldEnd.the-variants.{EndsAt, BadField}
 use Rattle.descriptors.specs.declared.descriptor.Lookup.{Lookup}
 use Rattle.descriptors.specs.declared.descriptor.Lookup.the-variants.{At, Nowhere}

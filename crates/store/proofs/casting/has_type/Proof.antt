@@ -1,5 +1,4 @@
 -- `store::has_type` meets its contract: 4 and 5 (`opening`), 24 (`good_list`), 10 and 11 (`locate`), then 25 or the answer (`cast`). Assumes nothing.
-use Prim.Native.Nat.{ℕ, _+_, _≤_}
 use mathlib.Core.Path.{_≡_, sym, ap, _∙_}
 use mathlib.Core.Bool.{true}
 use native.Mathlib.Omega.{arith}
