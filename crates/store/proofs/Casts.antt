@@ -3,7 +3,7 @@ use Prim.Native.Nat.{ℕ, _≤_}
 use mathlib.Core.Path.{_≡_, refl, sym, ap, _∙_, subst}
 use mathlib.Core.Bool.{Bool, true, false, cond}
 use mathlib.Core.List.{List}
-use mathlib.Core.Logic.{inl, inr, _↔_}
+use mathlib.Core.Logic.{_⊎_, inl, inr, _↔_}
 use native.Mathlib.Omega.{arith}
 use lib.ListN.{length}
 use lib.IntN.{ℤ, pos, negsuc}
@@ -24,7 +24,7 @@ use Rattle.store.specs.Claims.{Castable, HasWanted, Undescribes, ChecksC
 use Rattle.store.specs.laws.Refusals.{accepted-is}
 use Rattle.store.specs.laws.TagReading.{located-refusal}
 use Rattle.store.specs.laws.Distances.{start-at}
-use Rattle.store.specs.laws.Casts.{described-at, Describing, unlisted, short, covering, describing, has-offset, has-negative, cast-undescribed, cast-described, has-type-shut, has-type-bad, has-type-unread, has-type-cast, has-type-parts}
+use Rattle.store.specs.laws.Casts.{described-at, described-parts, Describing, unlisted, short, covering, describing, has-offset, has-negative, cast-undescribed, cast-described, cast-number, has-type-shut, has-type-bad, has-type-unread, has-type-cast, has-type-parts}
 use Rattle.store.specs.declared.answer.Refusal.the-variants.{Undescribed}
 use Rattle.store.specs.declared.answer.Answer.{Answer}
 use Rattle.store.specs.declared.answer.Answer.the-variants.{Accepted, Refused}
@@ -37,18 +37,7 @@ module _ (list : List ℕ) (g : goodList list ≡ true) (type size : ℕ) where
 
   -- the descriptor that covers the object
   covers : (q : ℕ) → described list type size ≡ Accepted q → Describes list (length list) type q × (descriptors.sizeAt list q ≤ size)
-  covers q e = go (describing list type size)
-    where
-      refused : described list type size ≡ Refused Undescribed → Describes list (length list) type q × (descriptors.sizeAt list q ≤ size)
-      refused d = let z : Accepted q ≡ Refused Undescribed = sym e ∙ d in let y : _≡_ {A = ℕ} 0 1 = cc in absurd (omega arith)
-
-      go : Describing list type size → Describes list (length list) type q × (descriptors.sizeAt list q ≤ size)
-      go (unlisted f d) = refused d
-      go (short p f l d) = refused d
-      go (covering p f l d) =
-          let same : Accepted p ≡ Accepted q = sym d ∙ e in
-          let i : p ≡ q = cc in
-          subst (λ (x : ℕ). Describes list (length list) type x × (descriptors.sizeAt list x ≤ size)) i (lookup-describes list g type p f, l)
+  covers q e = let (f, l) = described-parts list type size q e in (lookup-describes list g type q f, l)
 
   -- 25 exactly where none does
   undescribed : (wanted : ℕ) (d : ℤ) → (returned (castAnswer list wanted type size d) ≡ 25) ↔ Undescribes list type size
@@ -164,29 +153,13 @@ module _ (list : List ℕ) (p wanted : ℕ) (x : State) where
       go (Refused r) l =
           let n : refusalNumber r ≡ 24 = sym (ap returned (has-type-unread list p wanted x s e g r l)) ∙ t in
           omega (arith, located-refusal s (unpack p) x r l .1, n)
-      go (Accepted h) l = cases (describing list (typeAt (x .image) h) (sizeAt (x .image) h))
+      go (Accepted h) l = rows (cast-number list wanted (typeAt (x .image) h) (sizeAt (x .image) h) (fromStart h (unpack p)))
         where
-          d : ℤ
-          d = fromStart h (unpack p)
-
-          given : hasType list p wanted x ≡ castAnswer list wanted (typeAt (x .image) h) (sizeAt (x .image) h) (fromStart h (unpack p))
-          given = has-type-cast list p wanted x s e g h l
-
-          refused : described list (typeAt (x .image) h) (sizeAt (x .image) h) ≡ Refused Undescribed → ⊥
-          refused f =
-              let z : _≡_ {A = ℕ} 25 24 =
-              sym (ap returned (given ∙ cast-undescribed list wanted (typeAt (x .image) h) (sizeAt (x .image) h) (fromStart h (unpack p)) Undescribed f)) ∙ t
-              in
-              omega arith
-
-          cases : Describing list (typeAt (x .image) h) (sizeAt (x .image) h) → ⊥
-          cases (unlisted a f) = refused f
-          cases (short q a m f) = refused f
-          cases (covering q a m f) =
-              let z : _≡_ {A = ℕ} 0 24 =
-              sym (ap returned (given ∙ cast-described list wanted (typeAt (x .image) h) (sizeAt (x .image) h) (fromStart h (unpack p)) q f)) ∙ t
-              in
-              omega arith
+          rows :
+              let n : ℕ = returned (castAnswer list wanted (typeAt (x .image) h) (sizeAt (x .image) h) (fromStart h (unpack p))) in
+              (n ≡ 0) ⊎ (n ≡ 25) → ⊥
+          rows (inl i) = omega (arith, i, ap returned (has-type-cast list p wanted x s e g h l), t)
+          rows (inr i) = omega (arith, i, ap returned (has-type-cast list p wanted x s e g h l), t)
 
 pub checks-casts : ChecksCasts
 unfolding ChecksCasts

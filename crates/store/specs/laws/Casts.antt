@@ -1,8 +1,9 @@
 -- Type check before a cast: row 25, the answer, and the call's rows. Assumes nothing.
 use Prim.Native.Nat.{ℕ, _≤_, _<_}
-use mathlib.Core.Path.{_≡_, refl, sym, ap, _∙_}
+use mathlib.Core.Path.{_≡_, refl, sym, ap, _∙_, subst}
 use mathlib.Core.Bool.{Bool, true, false, cond}
 use mathlib.Core.List.{List}
+use mathlib.Core.Logic.{_⊎_, inl, inr}
 use native.Mathlib.Omega.{arith}
 use lib.ListN.{length}
 use lib.Dec.{leb}
@@ -17,15 +18,12 @@ use Rattle.descriptors.specs.Descriptors as descriptors
 use Rattle.descriptors.specs.Layouts.{typeHas}
 use Rattle.descriptors.specs.declared.descriptor.Lookup.{Lookup}
 use Rattle.descriptors.specs.declared.descriptor.Lookup.the-variants.{At, Nowhere}
-use Rattle.store.specs.State.{State}
+use Rattle.store.specs.State.{State, returned, value}
 use Rattle.store.specs.Calls.{opening, located, fromStart, describedBy, described, hasAt, castAnswer, hasType}
 use Rattle.store.specs.laws.Refusals.{demand-met, and-then-met}
 use Rattle.store.specs.declared.answer.Refusal.{Refusal}
 use Rattle.store.specs.declared.answer.Refusal.the-variants.{BadDescriptor, Undescribed}
 use Rattle.store.specs.declared.answer.Answer.the-variants.{Accepted, Refused}
-
-accepted-injective : (a b : ℕ) → Accepted a ≡ Accepted b → a ≡ b
-accepted-injective a b e = cc
 
 -- Row 25, for an object of that type and raw size.
 
@@ -61,17 +59,20 @@ module _ (list : List ℕ) (type size : ℕ) where
           (λ t. let l = leb-true (descriptors.sizeAt list q) size t in covering q e l (described-at q e l))
           (λ t. let l = leb-false (descriptors.sizeAt list q) size t in short q e l (described-short q e l))
 
-  -- what is described was found
-  pub described-found : (q : ℕ) → described list type size ≡ Accepted q → lookUp list (length list) type ≡ At q
-  described-found q e = go describing
+  -- what a passed row says
+  pub described-parts : (q : ℕ) → described list type size ≡ Accepted q
+      → (lookUp list (length list) type ≡ At q) × (descriptors.sizeAt list q ≤ size)
+  described-parts q e = go describing
     where
-      refused : described list type size ≡ Refused Undescribed → lookUp list (length list) type ≡ At q
+      refused : described list type size ≡ Refused Undescribed → (lookUp list (length list) type ≡ At q) × (descriptors.sizeAt list q ≤ size)
       refused d = let z : Accepted q ≡ Refused Undescribed = sym e ∙ d in let y : _≡_ {A = ℕ} 0 1 = cc in absurd (omega arith)
 
-      go : Describing → lookUp list (length list) type ≡ At q
+      go : Describing → (lookUp list (length list) type ≡ At q) × (descriptors.sizeAt list q ≤ size)
       go (unlisted f d) = refused d
       go (short p f l d) = refused d
-      go (covering p f l d) = f ∙ ap At (accepted-injective p q (sym d ∙ e))
+      go (covering p f l d) =
+          let same : p ≡ q = ap value (sym d ∙ e) in
+          (f ∙ ap At same, subst (λ (x : ℕ). descriptors.sizeAt list x ≤ size) same l)
 
 -- The answer, at a signed distance.
 
@@ -107,6 +108,15 @@ module _ (list : List ℕ) (wanted type size : ℕ) (d : ℤ) where
   pub cast-described : (q : ℕ) → described list type size ≡ Accepted q → castAnswer list wanted type size d ≡ Accepted (hasAt list wanted q d)
   unfolding castAnswer
   cast-described q e = rw e
+
+  -- it comes to 0 or 25
+  pub cast-number : (returned (castAnswer list wanted type size d) ≡ 0) ⊎ (returned (castAnswer list wanted type size d) ≡ 25)
+  cast-number = go (describing list type size)
+    where
+      go : Describing list type size → (returned (castAnswer list wanted type size d) ≡ 0) ⊎ (returned (castAnswer list wanted type size d) ≡ 25)
+      go (unlisted f e) = inr (ap returned (cast-undescribed Undescribed e))
+      go (short q f l e) = inr (ap returned (cast-undescribed Undescribed e))
+      go (covering q f l e) = inl (ap returned (cast-described q e))
 
 -- The call's rows.
 

@@ -5,7 +5,7 @@ use mir.Val.{SFits}
 use mir.Facts.{toZ-ofZ}
 use Rattle.descriptors.specs.laws.Lists.{lookup-stands}
 use Rattle.store.specs.Calls.{described, hasAt}
-use Rattle.store.specs.laws.Casts.{described-found, cast-undescribed, cast-described}
+use Rattle.store.specs.laws.Casts.{described-parts, cast-undescribed, cast-described}
 use Rattle.store.specs.declared.answer.Answer.the-variants.{Accepted}
 use borrow.Author.Needs.{needs}
 use Rattle.store.proofs.casting.cast.Statement.{statement}
@@ -17,7 +17,7 @@ found : (c : tie.After-known-told2)
 found c = sym (c .before .before .before .described .ensures) ∙ c .before .q .given .1
 
 has-at-requires : tie.Need-has-at-requires
-has-at-requires c κs = lookup-stands _ (c .before .before .before .before .before .pre) _ _ (described-found _ _ _ _ (found c))
+has-at-requires c κs = lookup-stands _ (c .before .before .before .before .before .pre) _ _ (described-parts _ _ _ _ (found c) .0)
 
 -- row 25
 returns : tie.Need-returns
