@@ -2,7 +2,6 @@
 
 use crate::seen::Seen;
 use crate::store::{Answer, Call, Kind, KINDS, ROWS};
-use cueledger::Refusal;
 use std::fmt;
 
 /// How often each call, and each of its answers, occurred.
@@ -67,7 +66,7 @@ impl fmt::Display for Counts {
         write!(f, "{:>8}", "answer")?;
         KINDS.iter().try_for_each(|kind| write!(f, "{:>width$}", kind.name, width = width(kind)))?;
         writeln!(f, "{:>11}", "all")?;
-        for row in (0..=ROWS).filter(|&row| row == 0 || Refusal::from_number(row as u32).is_some()) {
+        for row in (0..=ROWS).filter(|&row| row == 0 || KINDS.iter().any(|kind| kind.rows.contains(&(row as u32)))) {
             write!(f, "{:>8}", if row == 0 { "accepted".to_string() } else { row.to_string() })?;
             for (kind, answers) in KINDS.iter().zip(&self.by_call) {
                 write!(f, "{:>width$}", if answers[row] == 0 { ".".to_string() } else { answers[row].to_string() }, width = width(kind))?;

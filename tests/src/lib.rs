@@ -5,9 +5,11 @@
 //! how it is run on two stores at once; `generate` makes random lists; `counts` and `seen` say what occurred in them;
 //! `shrink` shortens one that fails; `driver` puts them together. `distances` says what a pointer's distances have to do with other
 //! calls' answers, `empties` which pointers lead to objects of no bytes, `totals` has the limits of the free total, `single_pass` is
-//! another model of release, `commuting` tries two frees or releases in either order, `log` the call log, `traffic` the repeatable load.
+//! another model of release, `commuting` tries two frees or releases in either order, `log` the call log, `traffic` the repeatable load,
+//! `casts` the type check before a cast, with its own model, generator and counters.
 
 pub mod case;
+pub mod casts;
 pub mod commuting;
 pub mod counts;
 pub mod distances;

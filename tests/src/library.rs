@@ -1,5 +1,6 @@
-//! The library as a `Store` and as `Traffic`, through the Rust wrapper and through the exports themselves.
+//! The library as a `Store`, as `Traffic` and as `Casts`, through the Rust wrapper and through the exports themselves.
 
+use crate::casts::Casts;
 use crate::store::{Answer, Call, Store, VALUES};
 use crate::traffic::{Asked, Traffic, FULL};
 use cueledger::{ffi, Pointer, Refusal, Width};
@@ -45,6 +46,13 @@ impl Traffic for Library {
             Ok(cueledger::Traffic { state, written, full }) => Answer::new(if full { FULL } else { 0 }, [state, written as u64]),
             Err(refusal) => Answer::new(refusal.number(), []),
         }
+    }
+}
+
+impl Casts for Library {
+    fn has_type(&self, image: &mut [u8], table: &mut [u64], descriptors: &mut [u8], pointer: u64, wanted: u16) -> Answer {
+        let yes = cueledger::Store::open(image, table).and_then(|store| store.has_type(descriptors, Pointer::from(pointer), wanted));
+        yes.map(u64::from).map_err(Refusal::number).into()
     }
 }
 
@@ -120,5 +128,15 @@ impl Traffic for Exports {
         // SAFETY: the three slices are valid and borrowed mutably for the call; the values are locals.
         let refusal = unsafe { ffi::cue_traffic(bytes, n, entries, m, slot_exponent, state, draws, log.as_mut_ptr(), log.len(), &mut after, &mut written) };
         Answer::new(refusal, [after, written])
+    }
+}
+
+impl Casts for Exports {
+    fn has_type(&self, image: &mut [u8], table: &mut [u64], descriptors: &mut [u8], pointer: u64, wanted: u16) -> Answer {
+        let (bytes, n, entries, m) = (image.as_mut_ptr(), image.len(), table.as_mut_ptr(), table.len());
+        let mut yes = STALE;
+        // SAFETY: the three slices are valid and borrowed mutably for the call; the value is a local.
+        let refusal = unsafe { ffi::cue_has_type(bytes, n, entries, m, descriptors.as_mut_ptr(), descriptors.len(), pointer, wanted, &mut yes) };
+        Answer::new(refusal, [yes])
     }
 }

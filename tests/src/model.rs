@@ -243,19 +243,20 @@ pub fn open(image: &[u8], table: &[u64]) -> Result<u32, u32> {
     Ok(s)
 }
 
+/// Where the tag leads, be there a header or not; none where slot or frame begins behind the image. The tag is in range.
+pub fn place(table: &[u64], s: u32, p: Pointer, length: u64) -> Option<u64> {
+    let start = frame_start(p.reach(s), p.address);
+    (start < length).then(|| if p.small { start + p.tag } else { table[entry(s, p.reach(s), p.address) as usize] })
+}
+
 /// 10, 11; gives the header's place and the header.
-fn read_tag(image: &[u8], table: &[u64], s: u32, p: Pointer) -> Result<(u64, Header), u32> {
+pub fn read_tag(image: &[u8], table: &[u64], s: u32, p: Pointer) -> Result<(u64, Header), u32> {
     if !p.tag_in_range(s) {
         return Err(10);
     }
-    let reach = p.reach(s);
-    let start = frame_start(reach, p.address);
-    if start >= image.len() as u64 {
-        return Err(11);
-    }
-    let h = if p.small { start + p.tag } else { table[entry(s, reach, p.address) as usize] };
+    let h = place(table, s, p, image.len() as u64).ok_or(11u32)?;
     let header = sound(image, h).ok_or(11u32)?;
-    if !header.is_live() || !same_frame(reach, h, p.address) {
+    if !header.is_live() || !same_frame(p.reach(s), h, p.address) {
         return Err(11);
     }
     let afresh = Pointer::to(s, h, u64::from(header.size));

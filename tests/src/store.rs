@@ -174,15 +174,17 @@ impl Store for Model {
 #[cfg(test)]
 mod tests {
     use super::KINDS;
+    use crate::casts;
     use cueledger::Refusal;
 
     #[test]
     fn every_row_is_some_calls() {
+        let calls = || KINDS.iter().map(|kind| (kind.name, kind.rows)).chain([("has type", &casts::ROWS[..])]);
         for refusal in Refusal::ALL {
-            assert!(KINDS.iter().any(|kind| kind.rows.contains(&refusal.number())), "{refusal}");
+            assert!(calls().any(|(_, rows)| rows.contains(&refusal.number())), "{refusal}");
         }
-        for kind in KINDS {
-            assert!(kind.rows.iter().all(|&row| Refusal::from_number(row).is_some()), "{}", kind.name);
+        for (name, rows) in calls() {
+            assert!(rows.iter().all(|&row| Refusal::from_number(row).is_some()), "{name}");
         }
     }
 }

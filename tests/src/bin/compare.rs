@@ -1,6 +1,7 @@
 //! The long run: `compare [--calls N] [--seed S]`, with a fresh seed where none is given. Exit status 1 where library and model differ, where the order of two frees
 //! or releases shows, or where a row is missing.
 
+use cueledger_tests::casts;
 use cueledger_tests::commuting::either_order;
 use cueledger_tests::driver::{compare, RUNNING};
 use cueledger_tests::library::{Exports, Library};
@@ -90,6 +91,22 @@ fn main() {
         }
         Ok(seen) => {
             println!("repeatable load: {seen}");
+            if calls >= 1_000_000 && !seen.missing().is_empty() {
+                println!("never occurred: {:?}", seen.missing());
+                exit(1);
+            }
+        }
+    }
+    // and a store with questions about types for every fifty calls, a tenth of them through the wrapper
+    let cases = calls.div_ceil(50);
+    let result = casts::case::compare(&Model, &Exports, cases, seed);
+    match result.and_then(|seen| casts::case::compare(&Model, &Library, cases.div_ceil(10), seed).map(|_| seen)) {
+        Err(failure) => {
+            println!("{failure}");
+            exit(1);
+        }
+        Ok(seen) => {
+            println!("type check: {seen}");
             if calls >= 1_000_000 && !seen.missing().is_empty() {
                 println!("never occurred: {:?}", seen.missing());
                 exit(1);
