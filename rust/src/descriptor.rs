@@ -13,11 +13,16 @@ pub const fn plain(type_number: u16, size: u32) -> [u8; 12] {
 
 /// The descriptor of a record of `size` bytes without its fields, of which so many must follow.
 ///
+/// # Panics
+///
+/// With more than 715,827,880 fields: their bytes are more than a length of 32 bits can say.
+///
 /// ```
 /// # use cueledger::descriptor;
 /// assert_eq!(descriptor::record(9, 16, 2), [24, 0, 0, 0, 5, 0, 9, 0, 16, 0, 0, 0]);
 /// ```
 pub const fn record(type_number: u16, size: u32, fields: u32) -> [u8; 12] {
+    assert!(fields <= 715_827_880, "more fields than a length can say");
     head(12 + 6 * fields, 5, type_number, size)
 }
 
