@@ -43,6 +43,19 @@ pub laid :
 unfolding winch descriptor at encode
 laid = refl
 
+-- Each byte of a descriptor and of its second field is read in its place.
+pub bytes : List ℕ
+bytes =
+    0 ∷ 0x11 ∷ 0x22 ∷ 0x33 ∷ 0x44 ∷ 0x55 ∷ 0x66 ∷ 0x77 ∷ 0x88 ∷ 0x99 ∷ 0xAA ∷ 0xBB ∷ 0xCC
+    ∷ 1 ∷ 2 ∷ 3 ∷ 4 ∷ 5 ∷ 6 ∷ 0xD1 ∷ 0xD2 ∷ 0xD3 ∷ 0xD4 ∷ 0xE1 ∷ 0xE2 ∷ 0 ∷ []
+
+pub read :
+    (descriptorAt bytes 1 ≡ record { length = 0x44332211; kind = 0x6655; ty = 0x8877; size = 0xCCBBAA99 })
+    × (fieldAt bytes 1 0 ≡ record { offset = 0x04030201; ty = 0x0605 })
+    × (fieldAt bytes 1 1 ≡ record { offset = 0xD4D3D2D1; ty = 0xE2E1 })
+unfolding bytes decode field descriptorAt fieldAt
+read = (refl, refl, refl)
+
 -- the offsets below n at which the load buffer has a type
 pub offsets : ℕ → ℕ → List ℕ
 offsets wanted zero = []
@@ -55,15 +68,16 @@ pub winch-has :
 unfolding winch descriptor at encode decode field offsets descriptorAt fieldAt lookUpIn lookUp anyBelow fieldHas typeHasIn typeHas
 winch-has = (refl, refl, refl, refl, refl)
 
--- Lists that pass: none at all, a record without fields, a field that fills its record, and fields that meet.
+-- Lists that pass: none at all, a record without fields, a field that fills its record, fields that meet, and types that have a byte in common.
 pub passing :
     T (goodList [])
     × T (goodList winch)
     × T (goodList (recordOf 0 1 []))
     × T (goodList (plain 65535 0xFFFFFFFF ++ recordOf 0 0xFFFFFFFF (at 0 65535)))
     × T (goodList (plain 7 1 ++ recordOf 0 0xFFFFFFFF (at 0xFFFFFFFD 7 ++ at 0xFFFFFFFE 7)))
+    × T (goodList (plain 1 4 ++ plain 257 0x01000000))
 unfolding winch descriptor at encode decode field descriptorAt fieldAt lookUpIn lookUp fieldEnd goodFieldsIn goodDescriptor goodFromIn goodList
-passing = (tt, tt, tt, tt, tt)
+passing = (tt, tt, tt, tt, tt, tt)
 
 -- whether row 24 refuses each of these
 pub refused : List (List ℕ) → Bool
@@ -80,20 +94,25 @@ cases =
     ∷ take 77 winch
     ∷ descriptor 18 5 1 4
     ∷ descriptor 0xFFFFFFFC 5 1 4
+    ∷ descriptor 0x1000C 4 1 4
+    ∷ descriptor 0x0100000C 4 1 4
     -- a kind that is unknown
     ∷ descriptor 12 0 1 4
     ∷ descriptor 12 3 1 4
     ∷ descriptor 12 6 1 4
     ∷ descriptor 12 65535 1 4
+    ∷ descriptor 12 0x0104 1 4
     -- a size of 0
     ∷ plain 1 0
     ∷ recordOf 1 0 []
     -- a length that is not 12, or not 12 and whole fields
-    ∷ (descriptor 18 4 1 4 ++ at 0 1)
+    ∷ (plain 1 4 ++ (descriptor 18 4 2 4 ++ at 0 1))
     ∷ descriptor 11 4 1 4
     ∷ descriptor 0 4 1 4
     ∷ descriptor 0 5 1 4
     ∷ descriptor 6 5 1 4
+    -- the second one would stand in the first
+    ∷ (descriptor 6 5 12 0x40000 ++ (encode 2 1 ++ encode 4 4))
     ∷ (winch ++ (descriptor 13 5 9 4 ++ (0 ∷ [])))
     ∷ (winch ++ (descriptor 17 5 9 4 ++ take 5 (at 0 1)))
     -- a type that is described before

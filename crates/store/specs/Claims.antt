@@ -188,6 +188,6 @@ pub record CastChecked (list : List ℕ) (p wanted : ℕ) (x : State) : Type 0 w
       (s h : ℕ) → opening x ≡ Accepted s → (SomeBad list → ⊥) → located s (unpack p) x ≡ Accepted h
       → (returned (hasType list p wanted x) ≡ 25) ↔ Undescribes list (typeAt (x .image) h) (sizeAt (x .image) h)
 
--- So is every list, pointer and wanted type, on every image and table.
+-- So it is for every list, pointer and wanted type, on every image and table.
 unfoldable pub ChecksCasts : Type 0
 ChecksCasts = (list : List ℕ) (p wanted : ℕ) (x : State) → CastChecked list p wanted x

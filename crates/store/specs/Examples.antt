@@ -1,10 +1,9 @@
 -- The marked cases of document 01, "Arithmetic by example", and those of document 02's requests, at the slot exponent 6: one theorem over one list, by
 -- computation. Assumes nothing.
 use Prim.Native.Nat.{ℕ, _+_, _-_, _^_}
-use mathlib.Core.Path.{_≡_, refl}
+use mathlib.Core.Path.{_≡_, refl, sym, ap, _∙_}
 use mathlib.Core.Bool.{Bool, true, false, cond, not, _&&_}
 use mathlib.Core.List.{List, [], _∷_, _++_}
-use mathlib.Core.Logic.{_↔_}
 use native.Mathlib.Omega.{arith}
 use lib.Dec.{T, eqb}
 use lib.ListN.{take, replicate, getD, set}
@@ -16,18 +15,19 @@ use Rattle.frame.specs.Tags.{lastHeld, wrapper, isSmall, tagNumber, pointerTo, 
 use Rattle.block.specs.Bytes.{encode, decode, field, put}
 use Rattle.block.specs.Order.{compareBytes}
 use Rattle.block.specs.Text.{textFrom, textOf}
-use Rattle.block.specs.Layout.{superblock, withTotal, superblockGood, header, headerAt, wellFormed, sound, isFree, extentAt}
+use Rattle.block.specs.Layout.{superblock, withTotal, superblockGood, header, headerAt, wellFormed, sound, isFree, extentAt, typeAt, sizeAt}
 use Rattle.block.specs.Walk.{Search, walkIn, walkFrom, walk, fitOf, firstFit, metOf, walkTo, countOf, countBlocks, walkCue}
 use Rattle.descriptors.specs.Descriptors.{descriptorAt, fieldAt, lookUpIn, lookUp, fieldEnd, goodFieldsIn, goodDescriptor, goodFromIn, goodList}
 use Rattle.descriptors.specs.Layouts.{anyBelow, fieldHas, typeHasIn, typeHas}
-use Rattle.descriptors.specs.Claims.{first, no-size}
+use Rattle.descriptors.specs.Claims.{first, no-size, SomeBad}
 use Rattle.descriptors.specs.Examples.{descriptor, plain, at, winch}
 use Rattle.store.specs.State.{State, state, Outcome, returned, value, comparisonNumber, comparisonValue, distancesNumber, startDistance, endDistance, usageNumber, liveObjects, liveBytes, freeBytes, overheadBytes}
 use Rattle.store.specs.Calls.{setUpChecks, fresh, setUp, opening, entryHolds, fitAnswer, takenExtent, allocateChecks, carved, noted, allocateFor, allocate, headerPlace, verified, leadsBack, located, fromStart, toEnd, foundAt, readTag, inBody, accessed, distancesChecks, distancesAt, distances, describedBy, described, hasAt, castAnswer, hasType, movedAnswer, moveAnswer, move, loadAnswer, load, storeChecks, store, fillChecks, fill, copyChecks, copy, compared, compare, textAnswer, textAt, copyTextChecks, copyText, mergeEnd, mergeStart, released, freeChecks, releasedAt, totalFits, totalled, freeRelease, merged, freed, free, gatheredAnswer, placesOf, allHeld, extentsOf, releaseChecks, pointersTo, cuePointers, freeEach, releaseCue, freeTotal, tallyOpened, tallyCounted, tally}
-use Rattle.store.specs.Claims.{Castable, HasWanted, ChecksCasts}
+use Rattle.store.specs.Claims.{RefusalsKeep, Castable, HasWanted, Undescribes, ChecksCasts}
 use Rattle.store.specs.Step as call
+use Rattle.store.specs.declared.answer.Refusal.the-variants.{BadSuperblock, BadTag, Undescribed}
 use Rattle.store.specs.declared.answer.Answer.{Answer}
-use Rattle.store.specs.declared.answer.Answer.the-variants.{Accepted}
+use Rattle.store.specs.declared.answer.Answer.the-variants.{Accepted, Refused}
 use Rattle.store.specs.declared.comparing.Comparison.{Comparison}
 use Rattle.store.specs.declared.locate.Found.{Found}
 use Rattle.store.specs.declared.locate.Found.the-variants as found
@@ -453,6 +453,7 @@ cases =
     ∷ casts 1024 [] 30 4 400 0 16 winch 0x801000000000003F 1 0 0
     ∷ casts 1024 [] 30 4 400 0 16 winch 0x801000000000001F 4 0 0
     ∷ casts 1024 [] 30 4 400 0 16 winch 0x8010000000000000 4 0 0
+    ∷ casts 1024 [] 30 4 400 0 16 winch 0x801000000000001C 3 0 0
     ∷ casts 1024 [] 30 4 400 0 16 winch 0x8010000000000020 9 0 0
     ∷ casts 1024 [] 30 4 400 0 16 winch 0x8010000000000020 65535 0 0
     ∷ casts 1024 [] 31 4 400 0 16 winch 0x8010000000000020 4 0 1
@@ -480,15 +481,41 @@ pub worked : T (all cases)
 unfolding frameNumber frameNumberIn unpack pack goodTag reach landed moved wrapper tagNumber pointerTo tagMatches usedEntries entryAt encode decode field put superblock withTotal superblockGood header headerAt wellFormed sound walkIn walkFrom walk fitOf firstFit setUpChecks fresh setUp opening entryHolds fitAnswer takenExtent allocateChecks carved noted allocateFor headerPlace verified leadsBack located fromStart toEnd foundAt readTag inBody accessed distancesChecks distancesAt distances descriptorAt fieldAt lookUpIn lookUp fieldEnd goodFieldsIn goodDescriptor goodFromIn goodList anyBelow fieldHas typeHasIn typeHas descriptor at winch describedBy described hasAt castAnswer hasType movedAnswer moveAnswer move loadAnswer load storeChecks store fillChecks fill compareBytes textFrom textOf copyChecks copy compared compare textAnswer textAt copyTextChecks copyText countOf countBlocks tallyOpened tallyCounted tally metOf walkTo mergeEnd mergeStart released freeChecks releasedAt totalFits totalled freeRelease merged freed free walkCue gatheredAnswer placesOf allHeld extentsOf releaseChecks pointersTo cuePointers freeEach releaseCue freeTotal
 worked = tt
 
--- What the claim on casts says of a load buffer, without computing it: a pointer 4 bytes behind its base has a sample there or has not, as the relation says; and a
+-- A load buffer on a fresh image.
+abbrev buffer : State
+buffer = allocate 30 4 (begun 1024) .after
+
+-- What is computed of it: a sample stands 4 bytes behind its base, and none 5 bytes behind it; without a list it is not described; image and table pass 4 and 5, and
+-- none at all does not; number 0 has no good tag, and its pointer leads to 16.
+computed :
+    (hasType winch 0x8010000000000024 3 buffer ≡ Accepted 1) × (hasType winch 0x8010000000000025 3 buffer ≡ Accepted 0)
+    × (hasType [] 0x8010000000000024 3 buffer ≡ Refused Undescribed) × (opening buffer ≡ Accepted 6) × (opening (state [] []) ≡ Refused BadSuperblock)
+    × (located 6 (unpack 0) buffer ≡ Refused BadTag) × (located 6 (unpack 0x8010000000000024) buffer ≡ Accepted 16)
+unfolding frameNumber frameNumberIn unpack pack goodTag reach wrapper tagNumber pointerTo tagMatches usedEntries entryAt encode decode field put superblock withTotal superblockGood header headerAt wellFormed sound walkIn walkFrom walk fitOf firstFit setUpChecks fresh setUp opening entryHolds fitAnswer takenExtent allocateChecks carved noted allocateFor headerPlace verified leadsBack located fromStart descriptorAt fieldAt lookUpIn lookUp fieldEnd goodFieldsIn goodDescriptor goodFromIn goodList anyBelow fieldHas typeHasIn typeHas descriptor at winch describedBy described hasAt castAnswer hasType
+computed = (refl, refl, refl, refl, refl, refl, refl)
+
+-- What the claims on casts say then: its rows are passed, and a sample stands there, or does not, as the relation says; refused by 4, by 10 and by 25, it gives 0; and a
 -- list with a descriptor of size 0 is refused by 24, whatever the pointer and the wanted type, numbers of more than 64 bits too.
-pub claimed : ChecksCasts → (x : State) (s h q : ℕ)
-    → (Castable winch 0x8010000000000024 x h q
-    → ((hasType winch 0x8010000000000024 3 x ≡ Accepted 1) ↔ HasWanted winch 0x8010000000000024 3 x h)
-    × ((hasType winch 0x8010000000000024 3 x ≡ Accepted 0) ↔ (HasWanted winch 0x8010000000000024 3 x h → ⊥)))
-    × (opening x ≡ Accepted s → returned (hasType (plain 1 0) (2 ^ 64) (2 ^ 64) x) ≡ 24)
+pub claimed : RefusalsKeep → ChecksCasts → (SomeBad winch → ⊥) → (SomeBad [] → ⊥)
+    → ((h q : ℕ) × Castable winch 0x8010000000000024 buffer h q × HasWanted winch 0x8010000000000024 3 buffer h)
+    × ((h q : ℕ) × Castable winch 0x8010000000000025 buffer h q × (HasWanted winch 0x8010000000000025 3 buffer h → ⊥))
+    × (hasType winch 0 (2 ^ 64) (state [] []) ≡ Refused BadSuperblock)
+    × (hasType winch 0 (2 ^ 64) buffer ≡ Refused BadTag)
+    × Undescribes [] (typeAt (buffer .image) 16) (sizeAt (buffer .image) 16)
+    × (returned (hasType [] 0x8010000000000024 (2 ^ 64) buffer) ≡ 25)
+    × (value (hasType [] 0x8010000000000024 3 buffer) ≡ 0)
+    × (returned (hasType (plain 1 0) (2 ^ 64) (2 ^ 64) buffer) ≡ 24)
 unfolding ChecksCasts descriptor encode decode field descriptorAt
-claimed claim x s h q = (
-  (λ c. (claim winch 0x8010000000000024 3 x .yes h q c, claim winch 0x8010000000000024 3 x .no h q c)),
-  λ e. claim (plain 1 0) (2 ^ 64) (2 ^ 64) x .bad-list s e .1 (0, first, omega arith, no-size refl),
-)
+claimed kept claim none empty =
+    let (h, q, c) = claim winch 0x8010000000000024 3 buffer .accepted .0 (ap returned (computed .0)) in
+    let (i, r, d) = claim winch 0x8010000000000025 3 buffer .accepted .0 (ap returned (computed .1)) in
+    let undescribed = claim [] 0x8010000000000024 3 buffer .undescribed 6 16 (computed .3) empty (computed .6) .0 (ap returned (computed .2)) in (
+      (h, q, c, claim winch 0x8010000000000024 3 buffer .yes h q c .0 (computed .0)),
+      (i, r, d, claim winch 0x8010000000000025 3 buffer .no i r d .0 (computed .1)),
+      claim winch 0 (2 ^ 64) (state [] []) .shut BadSuperblock (computed .4),
+      claim winch 0 (2 ^ 64) buffer .unread 6 BadTag (computed .3) none (computed .5),
+      undescribed,
+      claim [] 0x8010000000000024 (2 ^ 64) buffer .undescribed 6 16 (computed .3) empty (computed .6) .1 undescribed,
+      kept .casts [] 0x8010000000000024 3 buffer (λ e. let z : _≡_ {A = ℕ} 25 0 = sym (ap returned (computed .2)) ∙ e in omega arith),
+      claim (plain 1 0) (2 ^ 64) (2 ^ 64) buffer .bad-list 6 (computed .3) .1 (0, first, omega arith, no-size refl),
+    )
