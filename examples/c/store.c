@@ -12,6 +12,12 @@ static uint64_t table[CUE_TABLE_ENTRIES(sizeof image, SLOT_EXPONENT)];
 
 #define STORE image, sizeof image, table, sizeof table / sizeof table[0]
 
+static const uint8_t types[] = {
+    CUE_PLAIN(2, 4),                                           /* type 2: a number of 4 bytes */
+    CUE_RECORD(5, 12, 2), CUE_FIELD(0, 2), CUE_FIELD(8, 2),    /* type 5: a sample, with numbers at 0 and 8 */
+    CUE_RECORD(1, 30, 2), CUE_FIELD(4, 5), CUE_FIELD(16, 5),   /* type 1: a load buffer, with samples at 4 and 16 */
+};
+
 static void report(const char *call, uint32_t number)
 {
     if (number == CUE_ACCEPTED)
@@ -75,6 +81,18 @@ int main(void)
     report("copy the text to the record", cue_copy_text(STORE, record, name, &value));
     printf("%" PRIu64 " bytes\n", value);
     report("free the name", cue_free(STORE, name));
+
+    report("allocate a load buffer of type 1", cue_allocate(STORE, 30, 1, &buffer));
+    report("move by 4", cue_move(STORE, buffer, 4, &moved));
+    report("is a sample there", cue_has_type(STORE, types, sizeof types, moved, 5, &value));
+    puts(value ? "yes" : "no");
+    report("is a number there", cue_has_type(STORE, types, sizeof types, moved, 2, &value)); /* the sample's first */
+    puts(value ? "yes" : "no");
+    report("is a load buffer there", cue_has_type(STORE, types, sizeof types, moved, 1, &value));
+    puts(value ? "yes" : "no");
+    report("a list without type 1", cue_has_type(STORE, types, 36, moved, 5, &value));
+    report("a list that is cut short", cue_has_type(STORE, types, sizeof types - 1, moved, 5, &value));
+    report("free it", cue_free(STORE, buffer));
 
     report("allocate 0 for cue 11", cue_allocate_for(STORE, 0, 9, 11, &empty)); /* no samples yet, but a pointer of its own */
     report("load 1 there", cue_load(STORE, empty, 1, &value));

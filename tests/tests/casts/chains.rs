@@ -10,7 +10,7 @@ use cueledger_tests::print;
 use cueledger_tests::store::Answer;
 use std::time::{Duration, Instant};
 
-/// The header's figure for each further record that the call enters, in bytes.
+/// The header's figure for each further type that the call enters, in bytes.
 const LEVEL: usize = 32;
 
 /// For the rest of the call, and for what Rust does at a thread's start.
@@ -49,7 +49,7 @@ fn chain(count: u16, offset: u64) -> Vec<Descriptor> {
     [Descriptor::plain(0, 1)].into_iter().chain((1..count).map(record)).collect()
 }
 
-/// On a stack of what the header says: with 20,000 types the call enters 19,999 records, and needs 32 bytes for each of them.
+/// On a stack of what the header says: the call enters all 20,000 types, and needs 32 bytes for each but the first.
 #[test]
 fn stack_of_20_000_types() {
     const COUNT: u16 = 20_000;
