@@ -62,13 +62,13 @@ any-only test n k l e =
 
 module _ (has : ℕ → ℕ → Bool) (list : List ℕ) (p o : ℕ) (d : Field) where
   -- what it asks of its type
-  pub record FieldHas : Type 0 where
+  record FieldHas : Type 0 where
     pub of : ℕ
     pub starts : d .offset ≤ o
     pub named : lookUp list p (d .ty) ≡ At of
     pub has-it : has of (o - d .offset) ≡ true
 
-  pub field-has-parts : fieldHas has list p o d ≡ true → FieldHas
+  field-has-parts : fieldHas has list p o d ≡ true → FieldHas
   unfolding fieldHas
   field-has-parts h =
       byBool (leb (d .offset) o)
@@ -84,7 +84,7 @@ module _ (has : ℕ → ℕ → Bool) (list : List ℕ) (p o : ℕ) (d : Field) 
   unfolding fieldHas
   field-at q l e = rw (fieldHas, le-leb _ _ l, e)
 
-  pub field-before : o < d .offset → fieldHas has list p o d ≡ false
+  field-before : o < d .offset → fieldHas has list p o d ≡ false
   unfolding fieldHas
   field-before l = rw (fieldHas, lt-leb _ _ l)
 

@@ -23,7 +23,7 @@ pub data Shaped (d : Descriptor) : Type 0 where
   plain : d .kind ≡ 4 → d .length ≡ 12 → Shaped d
   fielded : d .kind ≡ 5 → d .length ≡ 12 + 6 * ((d .length - 12) / 6) → Shaped d
 
-pub shaped : (d : Descriptor) → goodShape d ≡ true → Shaped d
+shaped : (d : Descriptor) → goodShape d ≡ true → Shaped d
 shaped d g =
     byBool (eqb (d .kind) 4)
     (λ t. plain (eqb-true _ _ t) (eqb-true _ _ (rw t at g)))
@@ -35,7 +35,7 @@ shaped d g =
     fielded (eqb-true _ _ (and-left (eqb (d .kind) 5) _ r)) (omega arith))
 
 -- its length, whatever the kind
-pub shaped-length : (d : Descriptor) → Shaped d → d .length ≡ 12 + 6 * ((d .length - 12) / 6)
+shaped-length : (d : Descriptor) → Shaped d → d .length ≡ 12 + 6 * ((d .length - 12) / 6)
 shaped-length d (plain k l) = omega arith
 shaped-length d (fielded k l) = l
 

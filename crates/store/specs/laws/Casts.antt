@@ -59,15 +59,17 @@ module _ (list : List ℕ) (type size : ℕ) where
           (λ t. let l = leb-true (descriptors.sizeAt list q) size t in covering q e l (described-at q e l))
           (λ t. let l = leb-false (descriptors.sizeAt list q) size t in short q e l (described-short q e l))
 
-  -- what a passed row says
-  pub described-parts : (q : ℕ) → described list type size ≡ Accepted q
-      → (lookUp list (length list) type ≡ At q) × (descriptors.sizeAt list q ≤ size)
+  -- what a passed row says: the type is found at q, and described with no more bytes
+  abbrev Covers : ℕ → Type 0
+  Covers q = (lookUp list (length list) type ≡ At q) × (descriptors.sizeAt list q ≤ size)
+
+  pub described-parts : (q : ℕ) → described list type size ≡ Accepted q → Covers q
   described-parts q e = go describing
     where
-      refused : described list type size ≡ Refused Undescribed → (lookUp list (length list) type ≡ At q) × (descriptors.sizeAt list q ≤ size)
+      refused : described list type size ≡ Refused Undescribed → Covers q
       refused d = let z : Accepted q ≡ Refused Undescribed = sym e ∙ d in let y : _≡_ {A = ℕ} 0 1 = cc in absurd (omega arith)
 
-      go : Describing → (lookUp list (length list) type ≡ At q) × (descriptors.sizeAt list q ≤ size)
+      go : Describing → Covers q
       go (unlisted f d) = refused d
       go (short p f l d) = refused d
       go (covering p f l d) =
@@ -88,14 +90,12 @@ module _ (list : List ℕ) (wanted q : ℕ) where
 
   -- before the base
   pub has-before : (d : ℤ) → ltZ d (pos 0) ≡ true → hasAt list wanted q d ≡ 0
-  unfolding hasAt
   has-before (pos o) t = let l = ltb-true o 0 t in absurd (omega arith)
-  has-before (negsuc n) t = refl
+  has-before (negsuc n) t = has-negative n
 
   -- at it or behind it
   pub has-behind : (d : ℤ) → ltZ d (pos 0) ≡ false → (b : Bool) → typeHas list wanted q (natAbs d) ≡ b → hasAt list wanted q d ≡ cond b 1 0
-  unfolding hasAt
-  has-behind (pos o) t b e = ap (λ (x : Bool). cond x 1 0) e
+  has-behind (pos o) t b e = has-offset o ∙ ap (λ (x : Bool). cond x 1 0) e
   has-behind (negsuc n) t b e = let z : _≡_ {A = ℕ} 0 1 = cc in absurd (omega arith)
 
 -- What follows of row 25.
