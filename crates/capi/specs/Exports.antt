@@ -10,6 +10,8 @@ use Rattle.store.specs.declared.comparing.Comparison.{Comparison}
 use Rattle.store.specs.declared.measuring.Measurement.{Measurement}
 use Rattle.store.specs.declared.measuring.Measurement.the-variants as measurement
 use Rattle.store.specs.declared.counting.Usage.{Usage}
+use Rattle.placement.specs.Placement.{orderWord}
+use Rattle.placement.specs.declared.answer.Placement.{Placement}
 use Rattle.workload.specs.Traffic.{trafficNumber, stateAfter, bytesWritten, LoggedOutcome, logged}
 use Rattle.workload.specs.declared.answer.Traffic.{Traffic}
 use Rattle.workload.specs.declared.answer.Traffic.the-variants as answer
@@ -132,3 +134,19 @@ pub traffic-seen :
     × (seen (answer.LogFull 7 9) ≡ loggedExport 23 7 9 (1 ∷ []) [] (2 ∷ 3 ∷ []))
     × (seen (answer.Refused BadLength) ≡ loggedExport 2 0 0 (1 ∷ []) [] (2 ∷ 3 ∷ []))
 traffic-seen = (refl, refl, refl)
+
+-- What the export of order returns and gives: every value is 0 where it is refused.
+pub record Ordered : Type 0 where
+  pub returned : ℕ
+  pub order : ℕ
+  pub large : ℕ
+  pub tried : ℕ
+  pub floor : ℕ
+
+-- made of a returned number and four values
+abbrev pub ordered : ℕ → ℕ → ℕ → ℕ → ℕ → Ordered
+ordered r order large tried floor = record { returned = r; order = order; large = large; tried = tried; floor = floor }
+
+-- what C sees of the answer
+abbrev pub exportedPlacement : Placement → Ordered
+exportedPlacement p = ordered (p .row) (orderWord p) (p .large) (p .tried) (p .floor)

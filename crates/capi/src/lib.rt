@@ -4,7 +4,8 @@ ghost use mathlib.Core.Path.{_≡_};
 ghost use Rattle.store.specs.State.{state};
 ghost use Rattle.store.specs.Calls.{setUp, allocate, allocateFor, move, load, store, free, fill, copy, compare, copyText, releaseCue, freeTotal, tally, distances, hasType};
 ghost use Rattle.workload.specs.Traffic.{traffic};
-ghost use Rattle.capi.specs.Exports.{left, leftBy, export, exported, answered, exportedAnswer, compared, exportedComparison, measured, exportedDistances, tallied, exportedUsage, loggedExport, exportedTraffic};
+ghost use Rattle.placement.specs.Placement.{placement};
+ghost use Rattle.capi.specs.Exports.{left, leftBy, export, exported, answered, exportedAnswer, compared, exportedComparison, measured, exportedDistances, tallied, exportedUsage, loggedExport, exportedTraffic, ordered, exportedPlacement};
 use store::Measurement;
 use store::Usage;
 use workload::Traffic;
@@ -286,4 +287,25 @@ pub extern "C" fn cue_traffic(
             r.number()
         }
     }
+}
+
+// The first best order of the sizes goes to `order`, place i in byte i; its large-framed objects to `large`, the orders tried to `tried`, the floor to `floor`.
+#[no_mangle]
+pub extern "C" fn cue_order(
+    sizes: &[u32],
+    exponent: u32,
+    budget: u64,
+    order: &mut u64,
+    large: &mut u64,
+    tried: &mut u64,
+    floor: &mut u64,
+) -> u32
+    ensures { λ r. ⌜ ordered r (now (order .exit)) (now (large .exit)) (now (tried .exit)) (now (floor .exit)) ≡ exportedPlacement (placement exponent (now (sizes .entry)) budget) ⌝ }
+{
+    let p = placement::order(sizes, exponent, budget);
+    *order = p.order_word();
+    *large = p.large;
+    *tried = p.tried;
+    *floor = p.floor;
+    p.row
 }

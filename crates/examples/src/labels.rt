@@ -1,5 +1,5 @@
 // The first column of each call's line: 32 places, in the order of the calls.
-pub const LABELS: [u8; 6432] = *b"set up                          \
+pub const LABELS: [u8; 6976] = *b"set up                          \
 10 bytes                        \
 20 bytes                        \
 32 bytes                        \
@@ -199,4 +199,21 @@ has 1, the list cut to 54 bytes \
 has 1, no list                  \
 has 1 at 64, no list            \
 has 1 through 0, no list        \
-29 bytes: has 1                 ";
+29 bytes: has 1                 \
+all 6 orders                    \
+the first 3 orders              \
+the first 4 orders              \
+2^64-1 orders                   \
+no order                        \
+31, which a slot holds          \
+32, which crosses its end       \
+48, which fits no slot          \
+15 179 40 268 10                \
+without the last order          \
+eight sizes, all 40320 orders   \
+nine sizes                      \
+no size                         \
+a size of 65536                 \
+s = 5                           \
+s = 16                          \
+no size and no order            ";

@@ -31,7 +31,7 @@ fn main() {
     let run = cases::measured_empty(cases::empties(cases::fresh(run)));
     let run = cases::totals(cases::cues(run));
     let run = cases::loads(cases::damaged(cases::spare_totals(run)));
-    let run = cases::types(run);
+    let run = cases::other_orders(cases::orders(cases::types(run)));
     text(b"\n");
     decimal(run.made);
     text(b" calls, ");

@@ -1,6 +1,7 @@
 // What the program writes.
 use crate::labels::LABELS;
 use libc::STDOUT_FILENO;
+use placement::Placement;
 use store::Answer;
 use store::Comparison;
 use store::Measurement;
@@ -43,7 +44,7 @@ pub fn heading(t: &[u8]) {
 // The label of the call with this number, 0 the first.
 pub fn label(call: u64) {
     text(b"  ");
-    if call < 201 {
+    if call < 218 {
         let at = 32 * call as usize;
         let end = at + 32;
         text(&LABELS[at..end]);
@@ -51,7 +52,7 @@ pub fn label(call: u64) {
 }
 
 // Why a call was declined, by its number; 17 to 19 are a call log's.
-const REASONS: [u8; 936] = *b"no reason known                     \
+const REASONS: [u8; 1008] = *b"no reason known                     \
 slot exponent outside 6 to 15       \
 image length outside 64 to 2^30     \
 table too short to set up           \
@@ -76,7 +77,9 @@ table entry does not hold its header\
 free total below 0 or above L - 16  \
 log has no space for the next record\
 bad type descriptor                 \
-object not described                ";
+object not described                \
+sizes or slot exponent out of range \
+budget of no orders                 ";
 
 // Text without the blanks at its end.
 fn trimmed(t: &[u8]) {
@@ -95,7 +98,7 @@ fn refused(number: u32) {
     text(b"refused ");
     decimal(number as u64);
     text(b": ");
-    if number < 26 {
+    if number < 28 {
         let at = 36 * number as usize;
         let end = at + 36;
         trimmed(&REASONS[at..end]);
@@ -147,6 +150,35 @@ pub fn load(t: Traffic) {
             given(state, written);
         }
         Traffic::Refused(r) => refused(r.number()),
+    }
+}
+
+// The first so many places of an order.
+fn places(order: [u64; 8], count: usize) {
+    let mut i = 0;
+    while i < 8 {
+        if i < count {
+            text(b" ");
+            decimal(order[i]);
+        }
+        i += 1;
+    }
+}
+
+// The answer of a search for an order of so many sizes.
+pub fn placed(p: Placement, count: usize) {
+    if p.row != 0 {
+        refused(p.row);
+    } else {
+        let order = p.order;
+        text(b"order");
+        places(order, count);
+        text(b", large-framed ");
+        decimal(p.large);
+        text(b", tried ");
+        decimal(p.tried);
+        text(b", floor ");
+        decimal(p.floor);
     }
 }
 

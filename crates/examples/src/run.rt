@@ -5,8 +5,10 @@ use crate::print::ends;
 use crate::print::label;
 use crate::print::load;
 use crate::print::order;
+use crate::print::placed;
 use crate::print::text;
 use crate::print::usage;
+use placement::Placement;
 use std::num::wrapping_add_u64;
 use store::Answer;
 use store::Measurement;
@@ -14,7 +16,7 @@ use store::Refusal;
 use store::Usage;
 use workload::Traffic;
 
-// The calls but compare, distances, has type, tally and traffic, each with its arguments.
+// The calls but compare, distances, has type, order, tally and traffic, each with its arguments.
 pub enum Call {
     // Slot exponent.
     SetUp(u32),
@@ -134,6 +136,26 @@ fn recorded(t: Traffic, number: u32, state: u64, written: u64) -> bool {
     }
 }
 
+// Searches for an order of the first so many sizes; of all where it asks for more.
+fn searched(sizes: &[u32], count: usize, s: u32, budget: u64) -> Placement {
+    if sizes.len() < count {
+        return placement::order(sizes, s, budget);
+    }
+    placement::order(&sizes[..count], s, budget)
+}
+
+// Whether two orders are the same, place by place.
+fn same_order(a: [u64; 8], b: [u64; 8]) -> bool {
+    let mut i = 0;
+    while i < 8 {
+        if a[i] != b[i] {
+            return false;
+        }
+        i += 1;
+    }
+    true
+}
+
 // Image and table, of which the first `bytes` and `entries` are lent; the last answer; how many calls were made, and how many answered as
 // expected.
 pub struct Run {
@@ -233,6 +255,29 @@ impl Run {
         label(self.made);
         load(t);
         self.count(recorded(t, number, state, written))
+    }
+
+    // Order, of the first so many sizes: the returned number, and the answer's four values.
+    pub fn order(
+        self,
+        sizes: [u32; 9],
+        count: usize,
+        s: u32,
+        budget: u64,
+        expected: Placement,
+    ) -> Run {
+        let p = searched(&sizes, count, s, budget);
+        let found = p.order;
+        let wanted = expected.order;
+        label(self.made);
+        placed(p, count);
+        self.count(
+            p.row == expected.row
+                && same_order(found, wanted)
+                && p.large == expected.large
+                && p.tried == expected.tried
+                && p.floor == expected.floor,
+        )
     }
 
     // Tally: the returned number and the counts.
