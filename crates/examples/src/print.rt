@@ -79,7 +79,7 @@ log has no space for the next record\
 bad type descriptor                 \
 object not described                \
 sizes or slot exponent out of range \
-budget of no orders                 ";
+budget of orders is 0               ";
 
 // Text without the blanks at its end.
 fn trimmed(t: &[u8]) {
