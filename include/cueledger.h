@@ -5,12 +5,12 @@
  * Each function returns CUE_ACCEPTED (0) or the number of a refusal (enum cue_refusal). A refused call has changed no
  * byte of image, table or log, and every value given through a pointer is 0, with one exception: cue_traffic's CUE_LOG_FULL
  * (23), after which all that was done stands, and both values are given. Every call ends properly on all images, tables,
- * pointers, logs, lists of descriptors and numbers.
+ * pointers, logs, lists of descriptors, sizes and numbers.
  *
- * Arguments. Lengths count bytes of the image, of the log and of the descriptors, and 64-bit entries of the table. Image,
- * table, log, descriptors and values must be valid for the call (not null, also where a length is 0, and aligned as their
- * types ask) and must not overlap. No pointer is kept: image and table can be saved, restored at another address and lent
- * again, and tagged pointers keep their meaning.
+ * Arguments. Lengths count bytes of the image, of the log and of the descriptors, and 64-bit entries of the table; a count,
+ * sizes of 32 bits. Image, table, log, descriptors, sizes and values must be valid for the call (not null, also where a length
+ * or count is 0, and aligned as their types ask) and must not overlap. No pointer is kept: image and table can be saved,
+ * restored at another address and lent again, and tagged pointers keep their meaning.
  *
  * Limits.
  * - The archive is for x86-64 Linux: size_t has 64 bits. It calls memmove and memset and no other outside function, and
@@ -23,14 +23,15 @@
  *   each is an allocate, a free or a store. Has type does not depend on the blocks: it checks the whole list of descriptors,
  *   and then follows one field of each record that it enters. Each type, each field's type and each type entered is looked up
  *   by a walk from the list's start, 1.5 ns or so on a PC for each descriptor passed: 16 types, each a field of the next, take
- *   0.3 microseconds, 1,000 take 2 ms, and 65,536 take 10 s.
+ *   0.3 microseconds, 1,000 take 2 ms, and 65,536 take 10 s. Order grows with the orders that it tries and with the sizes: all
+ *   40,320 orders of eight take NNN ms on a PC.
  * - Stack, in bytes at most: the return address and all below it, without memmove and memset.
  *     cue_setup         48    cue_load     176    cue_copy        208
  *     cue_allocate     112    cue_store    176    cue_compare     224
  *     cue_allocate_for  88    cue_free     216    cue_copy_text   208
  *     cue_move           8    cue_release  112    cue_tally        64
  *     cue_distances    160    cue_fill     160    cue_free_total    8
- *     cue_traffic      928    cue_has_type     208
+ *     cue_traffic      928    cue_has_type     208    cue_order    NNN
  *   cue_has_type takes 32 more for each further type that it enters: the object's type is the first, that of a field in it the
  *   second. There are at most as many as descriptors in the list: 65,536 types, each a field of the next, take 2 MiB.
  *
@@ -48,9 +49,9 @@ extern "C" {
 #endif
 
 #define CUE_VERSION_MAJOR 1
-#define CUE_VERSION_MINOR 9
+#define CUE_VERSION_MINOR 10
 #define CUE_VERSION_PATCH 0
-#define CUE_VERSION "1.9.0"
+#define CUE_VERSION "1.10.0"
 
 /* 17 to 19 are a call log's (docs/FORMAT.md): the program replay prints them, and no function returns them. */
 enum cue_refusal {
@@ -76,7 +77,9 @@ enum cue_refusal {
     CUE_WRONG_TOTAL = 22,    /* the free total would fall below 0, or rise above image_len - 16: the image is damaged, or older than 1.4.0 */
     CUE_LOG_FULL = 23,       /* traffic: the log has no space for the next record; what was recorded stands, and both values are given */
     CUE_BAD_DESCRIPTOR = 24, /* has type: a descriptor of the list is bad: see cue_has_type */
-    CUE_UNDESCRIBED = 25     /* has type: the object's type is not listed, or described with more bytes than the object has */
+    CUE_UNDESCRIBED = 25,    /* has type: the object's type is not listed, or described with more bytes than the object has */
+    CUE_BAD_PLAN = 26,       /* order: not 1 to 8 sizes, a size above 65535, or a slot exponent outside 6..15 */
+    CUE_NO_BUDGET = 27       /* order: the budget of orders is 0 */
 };
 
 /* A returned number as text. */
@@ -106,6 +109,8 @@ static inline const char *cue_reason(uint32_t number)
     case CUE_LOG_FULL: return "log has no space for the next record";
     case CUE_BAD_DESCRIPTOR: return "bad type descriptor";
     case CUE_UNDESCRIBED: return "object not described";
+    case CUE_BAD_PLAN: return "not 1 to 8 sizes up to 65535 with a slot exponent of 6 to 15";
+    case CUE_NO_BUDGET: return "budget of orders is 0";
     default: return "no refusal has this number";
     }
 }
@@ -240,6 +245,17 @@ uint32_t cue_free_total(const uint8_t *image, size_t image_len, const uint64_t *
  * exception to unchanged bytes and values of 0: the set-up, the records before, what their calls have done to image and
  * table, and both values stand. */
 uint32_t cue_traffic(uint8_t *image, size_t image_len, uint64_t *table, size_t table_len, uint32_t slot_exponent, uint64_t state, uint64_t draws, uint8_t *log, size_t log_len, uint64_t *state_after, uint64_t *written);
+
+/* Which buffer to allocate first: an order of these sizes in which few objects are large-framed, so that few loads and stores
+ * read the table. It holds for a store that was just set up with this slot exponent, or whose objects were all freed, and for
+ * objects that are allocated one after the other, none freed in between. No image is read.
+ * Orders of the sizes' positions, counted from 0, are tried lexicographically, at most budget of them. order is the first with
+ * the fewest large-framed objects: its byte i, the lowest first, is the position of the object to allocate i-th, and bytes
+ * behind the last are 0. large is how many are large-framed then. tried is the lesser of budget and all orders, 1, 2, 6, 24,
+ * 120, 720, 5,040 or 40,320 for 1 to 8 sizes: where that is all of them, no order has fewer. floor is how many are large-framed
+ * wherever they stand, those with 17 + size > 2^s: no order has fewer, tried or not.
+ * Refusals, in order: 26 (no size or more than 8, a size above 65535, or a slot exponent outside 6..15), 27 (budget 0). */
+uint32_t cue_order(const uint32_t *sizes, size_t count, uint32_t slot_exponent, uint64_t budget, uint64_t *order, uint64_t *large, uint64_t *tried, uint64_t *floor);
 
 #ifdef __cplusplus
 }

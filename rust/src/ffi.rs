@@ -1,8 +1,8 @@
 //! The exports of `libcapi.a`, as `include/cueledger.h` has them.
 //!
 //! Each returns a [`Refusal`](crate::Refusal)'s number, 0 where the call is accepted; a refused call gives 0 for every value. Only
-//! `cue_traffic` also returns 23, and then both values. Image, table, log, descriptors and values must be valid for the call and must not
-//! overlap. No pointer is kept.
+//! `cue_traffic` also returns 23, and then both values. Image, table, log, descriptors, sizes and values must be valid for the call and must
+//! not overlap. No pointer is kept.
 
 #![allow(missing_docs)]
 
@@ -54,5 +54,15 @@ extern "C" {
         log_len: usize,
         state_after: *mut u64,
         written: *mut u64,
+    ) -> u32;
+    pub fn cue_order(
+        sizes: *const u32,
+        count: usize,
+        slot_exponent: u32,
+        budget: u64,
+        order: *mut u64,
+        large: *mut u64,
+        tried: *mut u64,
+        floor: *mut u64,
     ) -> u32;
 }

@@ -34,12 +34,14 @@
 mod blocks;
 pub mod descriptor;
 pub mod ffi;
+mod placement;
 mod pointer;
 mod refusal;
 mod store;
 mod width;
 
 pub use blocks::{Block, Blocks, Kind, UnsoundHeader};
+pub use placement::Placement;
 pub use pointer::Pointer;
 pub use refusal::Refusal;
 pub use store::{Distances, Store, Tally, Traffic};

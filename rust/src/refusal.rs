@@ -64,11 +64,15 @@ pub enum Refusal {
     BadDescriptor = 24,
     /// 25, type check: the object's type is not listed, or the object has fewer bytes than it is described with.
     Undescribed = 25,
+    /// 26, order: there is no size or more than 8, a size is above 65,535, or the slot exponent is outside 6..=15.
+    BadPlan = 26,
+    /// 27, order: the budget of orders is 0.
+    NoBudget = 27,
 }
 
 impl Refusal {
     /// Every refusal, in the order of its number.
-    pub const ALL: [Refusal; 21] = [
+    pub const ALL: [Refusal; 23] = [
         Refusal::BadExponent,
         Refusal::BadLength,
         Refusal::TooFewEntries,
@@ -90,9 +94,11 @@ impl Refusal {
         Refusal::WrongTotal,
         Refusal::BadDescriptor,
         Refusal::Undescribed,
+        Refusal::BadPlan,
+        Refusal::NoBudget,
     ];
 
-    /// The number that the exports return: 1 to 16, 20 to 22, 24 or 25. 17 to 19 are a call log's, and 23 is no refusal here but
+    /// The number that the exports return: 1 to 16, 20 to 22, or 24 to 27. 17 to 19 are a call log's, and 23 is no refusal here but
     /// [`Traffic::full`](crate::Traffic::full): what was recorded stands, and a refused call has changed nothing.
     ///
     /// ```
@@ -116,7 +122,7 @@ impl Refusal {
         let place = match number {
             1..=16 => number - 1,
             20..=22 => number - 4,
-            24..=25 => number - 5,
+            24..=27 => number - 5,
             _ => return None,
         };
         Some(Self::ALL[place as usize])
@@ -151,6 +157,8 @@ impl Refusal {
             Refusal::WrongTotal => "free total below 0 or above L - 16",
             Refusal::BadDescriptor => "bad type descriptor",
             Refusal::Undescribed => "object not described",
+            Refusal::BadPlan => "not 1 to 8 sizes up to 65535 with a slot exponent of 6 to 15",
+            Refusal::NoBudget => "budget of orders is 0",
         }
     }
 }

@@ -52,7 +52,7 @@ pub struct Traffic {
 const LOG_FULL: u32 = 23;
 
 // A number that is neither 0 nor a refusal's means that the archive is not the one this crate was written for.
-fn answer<T>(number: u32, value: T) -> Result<T, Refusal> {
+pub(crate) fn answer<T>(number: u32, value: T) -> Result<T, Refusal> {
     if number == 0 {
         return Ok(value);
     }
