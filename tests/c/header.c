@@ -76,14 +76,31 @@ static void expect_type(size_t types_len, uint64_t pointer, uint16_t type, uint3
     }
 }
 
+static const uint32_t sizes[] = {4, 20, 100, 65535, 0, 47, 48, 300, 1, 65536};
+
+/* place i is byte i, and all values are 0 where it is refused */
+static void expect_order(size_t from, size_t count, uint32_t s, uint64_t budget, uint32_t wanted, const uint64_t values[4])
+{
+    uint64_t order = 1, large = 1, tried = 1, least = 1;
+
+    expect("order", cue_order(sizes + from, count, s, budget, &order, &large, &tried, &least), wanted);
+    if (order != values[0] || large != values[1] || tried != values[2] || least != values[3]) {
+        printf("order: %#lx, large %lu, tried %lu, floor %lu, ", (unsigned long)order, (unsigned long)large, (unsigned long)tried, (unsigned long)least);
+        printf("not %#lx, %lu, %lu, %lu\n", (unsigned long)values[0], (unsigned long)values[1], (unsigned long)values[2], (unsigned long)values[3]);
+        failures++;
+    }
+}
+
 /* 17 to 19 are a call log's */
 static int returned(uint32_t number)
 {
-    return number <= CUE_TOO_LARGE || (number >= CUE_UNTERMINATED && number <= CUE_UNDESCRIBED);
+    return number <= CUE_TOO_LARGE || (number >= CUE_UNTERMINATED && number <= CUE_NO_BUDGET);
 }
 
 int main(void)
 {
+    static const uint64_t none[4] = {0, 0, 0, 0}, first[4] = {0x020100, 2, 1, 1}, best[4] = {0x010200, 1, 6, 1};
+    static const uint64_t alone[4] = {0, 1, 1, 1}, eight[4] = {UINT64_C(0x0706050403020100), 6, 1, 4};
     static const size_t lengths[] = {64, 127, 128, 129, 4095, 4096, 4097, LONGEST - 1, LONGEST};
     uint32_t s, number, other;
     uint64_t pointer;
@@ -127,8 +144,19 @@ int main(void)
     expect_traffic(6, 2, 31, CUE_LOG_FULL, UINT64_C(0x9E3779B97F4A7C15), 10);
     expect_traffic(6, 2, 32, CUE_ACCEPTED, UINT64_C(0x3C6EF372FE94F82A), 32);
 
+    expect_order(0, 3, 6, 1, CUE_ACCEPTED, first);
+    expect_order(0, 3, 6, UINT64_MAX, CUE_ACCEPTED, best);
+    expect_order(3, 1, 15, 1, CUE_ACCEPTED, alone);
+    expect_order(0, 8, 6, 1, CUE_ACCEPTED, eight);
+    expect_order(0, 0, 6, 1, CUE_BAD_PLAN, none);
+    expect_order(0, 9, 6, 1, CUE_BAD_PLAN, none);
+    expect_order(9, 1, 6, 1, CUE_BAD_PLAN, none);
+    expect_order(0, 3, 5, 1, CUE_BAD_PLAN, none);
+    expect_order(0, 3, 16, 0, CUE_BAD_PLAN, none);
+    expect_order(0, 3, 6, 0, CUE_NO_BUDGET, none);
+
     /* a reason of its own for each number, and one for all that no call returns */
-    for (number = CUE_ACCEPTED; number <= CUE_UNDESCRIBED + 1; number++)
+    for (number = CUE_ACCEPTED; number <= CUE_NO_BUDGET + 1; number++)
         for (other = CUE_ACCEPTED; other < number; other++)
             if ((strcmp(cue_reason(number), cue_reason(other)) == 0) != (!returned(number) && !returned(other))) {
                 printf("%u and %u: \"%s\" and \"%s\"\n", (unsigned)other, (unsigned)number, cue_reason(other), cue_reason(number));

@@ -1,9 +1,10 @@
-//! The library as a `Store`, as `Traffic` and as `Casts`, through the Rust wrapper and through the exports themselves.
+//! The library as a `Store`, as `Traffic`, as `Casts` and as `Orders`, through the Rust wrapper and through the exports themselves.
 
 use crate::casts::Casts;
+use crate::orders::Orders;
 use crate::store::{Answer, Call, Store, VALUES};
 use crate::traffic::{Asked, Traffic, FULL};
-use cueledger::{ffi, Pointer, Refusal, Width};
+use cueledger::{ffi, Placement, Pointer, Refusal, Width};
 
 /// Through the crate `cueledger`.
 #[derive(Clone, Copy)]
@@ -53,6 +54,13 @@ impl Casts for Library {
     fn has_type(&self, image: &mut [u8], table: &mut [u64], descriptors: &mut [u8], pointer: u64, wanted: u16) -> Answer {
         let yes = cueledger::Store::open(image, table).and_then(|store| store.has_type(descriptors, Pointer::from(pointer), wanted));
         yes.map(u64::from).map_err(Refusal::number).into()
+    }
+}
+
+impl Orders for Library {
+    fn order(&self, sizes: &mut [u32], slot_exponent: u32, budget: u64) -> Answer {
+        let found = Placement::find(sizes, slot_exponent, budget);
+        found.map(|Placement { order, large, tried, floor }| [u64::from_le_bytes(order), large, tried, floor]).map_err(Refusal::number).into()
     }
 }
 
@@ -138,5 +146,14 @@ impl Casts for Exports {
         // SAFETY: the three slices are valid and borrowed mutably for the call; the value is a local.
         let refusal = unsafe { ffi::cue_has_type(bytes, n, entries, m, descriptors.as_mut_ptr(), descriptors.len(), pointer, wanted, &mut yes) };
         Answer::new(refusal, [yes])
+    }
+}
+
+impl Orders for Exports {
+    fn order(&self, sizes: &mut [u32], slot_exponent: u32, budget: u64) -> Answer {
+        let [mut order, mut large, mut tried, mut floor] = [STALE; VALUES];
+        // SAFETY: the slice is valid and borrowed mutably for the call; the values are locals.
+        let refusal = unsafe { ffi::cue_order(sizes.as_mut_ptr(), sizes.len(), slot_exponent, budget, &mut order, &mut large, &mut tried, &mut floor) };
+        Answer::new(refusal, [order, large, tried, floor])
     }
 }

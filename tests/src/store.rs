@@ -174,12 +174,12 @@ impl Store for Model {
 #[cfg(test)]
 mod tests {
     use super::KINDS;
-    use crate::casts;
+    use crate::{casts, orders};
     use cueledger::Refusal;
 
     #[test]
     fn every_row_is_some_calls() {
-        let calls = || KINDS.iter().map(|kind| (kind.name, kind.rows)).chain([("has type", &casts::ROWS[..])]);
+        let calls = || KINDS.iter().map(|kind| (kind.name, kind.rows)).chain([("has type", &casts::ROWS[..]), ("order", &orders::ROWS)]);
         for refusal in Refusal::ALL {
             assert!(calls().any(|(_, rows)| rows.contains(&refusal.number())), "{refusal}");
         }
