@@ -12,6 +12,7 @@ mod heap;
 mod logs;
 mod measure;
 mod memory;
+mod orders;
 mod refused;
 mod releases;
 mod texts;
@@ -45,6 +46,7 @@ fn main() {
     heap::measure(&mut bench);
     tree::measure(&mut bench);
     casts::measure(&mut bench);
+    orders::measure(&mut bench);
     traffic::measure(&mut bench);
     logs::measure(&mut bench);
     memory::measure();
