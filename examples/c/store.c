@@ -18,6 +18,8 @@ static const uint8_t types[] = {
     CUE_RECORD(1, 30, 2), CUE_FIELD(4, 5), CUE_FIELD(16, 5),   /* type 1: a load buffer, with samples at 4 and 16 */
 };
 
+static const uint32_t sizes[] = {560, 2000, 500, 3000};         /* of four load buffers */
+
 static void report(const char *call, uint32_t number)
 {
     if (number == CUE_ACCEPTED)
@@ -29,7 +31,9 @@ static void report(const char *call, uint32_t number)
 int main(void)
 {
     uint64_t record, name, buffer, empty, moved, value, objects, live_bytes, free_bytes, overhead_bytes, total;
+    uint64_t places, large, tried, least;
     int64_t order, from_start, to_end;
+    int i;
 
     report("set up", cue_setup(STORE, SLOT_EXPONENT));
     report("allocate 10", cue_allocate(STORE, 10, 7, &record));
@@ -120,5 +124,18 @@ int main(void)
     printf("%" PRId64 " from the start, %" PRId64 " to the end\n", from_start, to_end);
     report("tally", cue_tally(STORE, &objects, &live_bytes, &free_bytes, &overhead_bytes));
     printf("objects %" PRIu64 ", live bytes %" PRIu64 ", free bytes %" PRIu64 ", overhead bytes %" PRIu64 "\n", objects, live_bytes, free_bytes, overhead_bytes);
+
+    /* the store is empty: in which order are the four buffers allocated best? */
+    report("as they are listed", cue_order(sizes, 4, SLOT_EXPONENT, 1, &places, &large, &tried, &least));
+    printf("%" PRIu64 " large-framed\n", large);
+    report("the best of all orders", cue_order(sizes, 4, SLOT_EXPONENT, 24, &places, &large, &tried, &least));
+    printf("%" PRIu64 " large-framed of at least %" PRIu64 ", %" PRIu64 " orders tried\n", large, least, tried);
+    for (i = 0; i < 4; i++) {
+        uint32_t size = sizes[places >> 8 * i & 0xFF];
+        report("allocate the next", cue_allocate(STORE, size, 1, &buffer));
+        printf("%" PRIu32 " bytes, %s\n", size, buffer >> 63 ? "small-framed" : "large-framed");
+    }
+    report("no order tried", cue_order(sizes, 4, SLOT_EXPONENT, 0, &places, &large, &tried, &least));
+    report("no buffers", cue_order(sizes, 0, SLOT_EXPONENT, 24, &places, &large, &tried, &least));
     return 0;
 }
