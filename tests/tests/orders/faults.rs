@@ -74,6 +74,14 @@ impl Asked<'_> {
         Answer::new(0, [Model.pack(&order), Model.large(self.sizes, &order, self.s), self.right.values[2], self.right.values[3]])
     }
 
+    /// The right answer, or where all orders are tried the one that is chosen of them.
+    fn of_all(&self, chosen: impl Fn(&[u32], Vec<Vec<usize>>) -> Vec<usize>) -> Answer {
+        match self.right.values[2] == all(self.sizes.len().min(MOST)) {
+            true => self.by(|sizes| chosen(sizes, by_heap(sizes.len()))),
+            false => self.right,
+        }
+    }
+
     /// How many orders are tried up to the found one.
     fn up_to_found(&self) -> u64 {
         let (mut order, mut tried) = (Model.first(self.sizes.len()), 1);
@@ -116,21 +124,21 @@ fn ascending(sizes: &[u32]) -> Vec<usize> {
     order
 }
 
-/// All orders by Heap's algorithm, and the first of the best in that sequence.
-fn by_heap(sizes: &[u32], s: u32) -> Vec<usize> {
-    fn heap(order: &mut [usize], count: usize, all: &mut Vec<Vec<usize>>) {
+/// All orders, by Heap's algorithm.
+fn by_heap(count: usize) -> Vec<Vec<usize>> {
+    fn heap(order: &mut [usize], count: usize, orders: &mut Vec<Vec<usize>>) {
         if count <= 1 {
-            return all.push(order.to_vec());
+            return orders.push(order.to_vec());
         }
-        heap(order, count - 1, all);
+        heap(order, count - 1, orders);
         for place in 0..count - 1 {
-            order.swap(if count % 2 == 0 { place } else { 0 }, count - 1);
-            heap(order, count - 1, all);
+            order.swap(if count.is_multiple_of(2) { place } else { 0 }, count - 1);
+            heap(order, count - 1, orders);
         }
     }
-    let mut all = Vec::new();
-    heap(&mut Model.first(sizes.len()), sizes.len(), &mut all);
-    all.into_iter().min_by_key(|order| Model.large(sizes, order, s)).unwrap()
+    let mut orders = Vec::new();
+    heap(&mut Model.first(count), count, &mut orders);
+    orders
 }
 
 rules! {
@@ -208,19 +216,17 @@ rules! {
     "no headers", GOOD => { fn end(&self, h: u64, size: u32) -> u64 { h + u64::from(size) } }
     "headers of 8 bytes", GOOD => { fn end(&self, h: u64, size: u32) -> u64 { h + 8 + u64::from(size) } }
     "sizes in 15 bits", GOOD => { fn end(&self, h: u64, size: u32) -> u64 { h + HEADER + u64::from(size & 0x7fff) } }
-    "places in 16 bits", GOOD => { fn behind(&self, e: u64) -> u64 { e & 0xffff } fn is_large(&self, s: u32, h: u64, e: u64) -> bool { frame_number(h, e & 0xffff) > s } }
+    "places in 16 bits", GOOD => { fn end(&self, h: u64, size: u32) -> u64 { (h + HEADER + u64::from(size)) & 0xffff } }
     "the frame of the body without its header", GOOD => { fn is_large(&self, s: u32, h: u64, e: u64) -> bool { frame_number(h + HEADER, e) > s } }
     "the frame without the imaginary byte", GOOD => { fn is_large(&self, s: u32, h: u64, e: u64) -> bool { frame_number(h, e - 1) > s } }
     "the frame with two imaginary bytes", GOOD => { fn is_large(&self, s: u32, h: u64, e: u64) -> bool { frame_number(h, e + 1) > s } }
     "the frame with a byte in front", GOOD => { fn is_large(&self, s: u32, h: u64, e: u64) -> bool { frame_number(h - 1, e) > s } }
-    "the frame of header and size without the header's bytes", GOOD => {
-        fn is_large(&self, s: u32, h: u64, e: u64) -> bool { frame_number(h, e - HEADER) > s }
-    }
+    "the frame of the size without its header", GOOD => { fn is_large(&self, s: u32, h: u64, e: u64) -> bool { frame_number(h, e - HEADER) > s } }
     "a frame number of s is large", GOOD => { fn is_large(&self, s: u32, h: u64, e: u64) -> bool { frame_number(h, e) >= s } }
     "a frame number of s + 1 is small", GOOD => { fn is_large(&self, s: u32, h: u64, e: u64) -> bool { frame_number(h, e) > s + 1 } }
     "large by size alone", GOOD => { fn is_large(&self, s: u32, h: u64, e: u64) -> bool { e - h >= 1 << s } }
-    "large by size where it does not start a frame", GOOD => {
-        fn is_large(&self, s: u32, h: u64, e: u64) -> bool { frame_number(h, e) > s && (e - h >= 1 << s || h % (1 << s) != 0) && e % (1 << s) != 0 }
+    "a header at a frame's start is small", GOOD => {
+        fn is_large(&self, s: u32, h: u64, e: u64) -> bool { frame_number(h, e) > s && !h.is_multiple_of(1 << s) }
     }
     "an object of no bytes is small", GOOD => { fn is_large(&self, s: u32, h: u64, e: u64) -> bool { e - h > HEADER && frame_number(h, e) > s } }
     "the next header behind the imaginary byte", GOOD => { fn behind(&self, e: u64) -> u64 { e + 1 } }
@@ -268,10 +274,7 @@ rules! {
     "at most 32,767 orders", GOOD => { fn may_try(&self, tried: u64, budget: u64) -> bool { tried < budget.min(32_767) } }
     "at most 40,319 orders", GOOD => { fn may_try(&self, tried: u64, budget: u64) -> bool { tried < budget.min(40_319) } }
     // ---- what is refused
-    "no sizes are good", &["no sizes", "several"] => {
-        fn count_is_good(&self, count: usize) -> bool { count <= MOST }
-        fn large(&self, sizes: &[u32], order: &[usize], s: u32) -> u64 { if sizes.is_empty() { 0 } else { Model.large(sizes, order, s) } }
-    }
+    "no sizes are good", &["no sizes", "several"] => { fn count_is_good(&self, count: usize) -> bool { count <= MOST } }
     "nine sizes are good", &["nine sizes", "several"] => {
         fn count_is_good(&self, count: usize) -> bool { (1..=MOST + 1).contains(&count) }
         fn may_try(&self, tried: u64, budget: u64) -> bool { tried < budget.min(40_320) }
@@ -281,7 +284,6 @@ rules! {
     "size 65,536", &["a size", "several"] => { fn size_is_good(&self, size: u32) -> bool { size <= LARGEST + 1 } }
     "sizes above", &["a size", "several"] => { fn size_is_good(&self, _: u32) -> bool { true } }
     "sizes in 16 bits", &["a size", "several"] => {
-        fn size_is_good(&self, _: u32) -> bool { true }
         fn found(&self, sizes: &[u32], s: u32, budget: u64) -> Result<[u64; 4], u32> {
             Model.found(&sizes.iter().map(|size| size & 0xffff).collect::<Vec<_>>(), s, budget)
         }
@@ -353,12 +355,16 @@ rules! {
             if budget == 0 && !self.exponent_is_good(s) { Err(27) } else { Model.refused(sizes, s, budget) }
         }
     }
-    "26 for the budget", &["budget"] => { fn refused(&self, sizes: &[u32], s: u32, budget: u64) -> Result<(), u32> { Model.refused(sizes, s, budget).map_err(|_| 26) } }
+    "26 for the budget", &["budget"] => {
+        fn refused(&self, sizes: &[u32], s: u32, budget: u64) -> Result<(), u32> { Model.refused(sizes, s, budget).map_err(|_| 26) }
+    }
     "27 for no sizes", &["no sizes", "several"] => {
         fn refused(&self, sizes: &[u32], s: u32, budget: u64) -> Result<(), u32> { if sizes.is_empty() { Err(27) } else { Model.refused(sizes, s, budget) } }
     }
     "1 for the exponent", &["exponent below", "exponent above", "several"] => {
-        fn refused(&self, sizes: &[u32], s: u32, budget: u64) -> Result<(), u32> { if self.exponent_is_good(s) { Model.refused(sizes, s, budget) } else { Err(1) } }
+        fn refused(&self, sizes: &[u32], s: u32, budget: u64) -> Result<(), u32> {
+            if self.exponent_is_good(s) { Model.refused(sizes, s, budget) } else { Err(1) }
+        }
     }
 }
 
@@ -370,7 +376,7 @@ const BEHIND: &[Fault] = &[
     (
         "the first best by another sequence",
         GOOD,
-        &Behind(|a| if a.right.accepted() && a.right.values[2] == all(a.sizes.len()) { a.by(|sizes| by_heap(sizes, a.s)) } else { a.right }),
+        &Behind(|a| a.of_all(|sizes, orders| orders.into_iter().min_by_key(|order| Model.large(sizes, order, a.s)).unwrap())),
     ),
     (
         "orders of sizes, equal ones once",
@@ -515,8 +521,8 @@ fn others_are_found() {
     are_found(BEHIND);
 }
 
-/// Other rules come to the same: frames by their numbers; the floor by the frames' length; the best of all orders, whatever their sequence,
-/// that is least; the order that is given where no object is large-framed anywhere.
+/// Other rules come to the same: frames by their numbers, and the floor by their length; the order as given, where no object is large-framed
+/// anywhere; of all orders in another sequence, the least of the best.
 #[test]
 fn what_is_no_fault_is_not_found() {
     struct Frames;
@@ -538,8 +544,9 @@ fn what_is_no_fault_is_not_found() {
             }
         }
     }
+    let least = Behind(|a| a.of_all(|sizes, orders| orders.into_iter().min_by_key(|order| (Model.large(sizes, order, a.s), order.clone())).unwrap()));
     let cases = cases();
-    for right in [&Frames as &dyn Orders, &NothingToTry, &Behind(|asked| asked.right)] {
+    for right in [&Frames as &dyn Orders, &NothingToTry, &least, &Behind(|asked| asked.right)] {
         if let Some(failure) = find(&cases, right).1 {
             panic!("{failure}");
         }
