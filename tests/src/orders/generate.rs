@@ -44,30 +44,31 @@ enum Sizes {
     Equal,
     /// Objects of whole quarters of a frame, so that many end where one starts.
     Quarters,
+    /// By turns one that does not fit a frame, and one that fits and takes half of it or more: much depends on the order.
+    Turns,
 }
 
-const SIZES: [(u64, Sizes); 5] = [(72, Sizes::Mixed), (4, Sizes::Small), (4, Sizes::Large), (5, Sizes::Equal), (15, Sizes::Quarters)];
-
-/// In which sequence they are given.
-#[derive(Clone, Copy)]
-enum Given {
-    AsMade,
-    /// In an order with the most large-framed objects.
-    Worst,
-    /// So that the last of all orders is a best one.
-    BestLast,
-}
-
-const GIVEN: [(u64, Given); 3] = [(64, Given::AsMade), (18, Given::Worst), (18, Given::BestLast)];
+const SIZES: [(u64, Sizes); 6] = [(64, Sizes::Mixed), (4, Sizes::Small), (4, Sizes::Large), (5, Sizes::Equal), (13, Sizes::Quarters), (10, Sizes::Turns)];
 
 /// Of more sizes it takes long to find a worst or best order.
 const ARRANGED: usize = 6;
+
+/// Sizes are made so many times for a best order with no other as good.
+const ATTEMPTS: usize = 5;
 
 struct Worst;
 
 impl Rules for Worst {
     fn is_better(&self, large: u64, best: u64) -> bool {
         large > best
+    }
+}
+
+struct LastBest;
+
+impl Rules for LastBest {
+    fn is_better(&self, large: u64, best: u64) -> bool {
+        large <= best
     }
 }
 
@@ -93,7 +94,7 @@ impl Generator {
     /// Of an object that fits one frame.
     fn small(&mut self) -> u32 {
         match self.random.below(8) {
-            0 => self.random.below(20) as u32,
+            0 => self.random.below(10) as u32,
             1 => self.frame - 17 - self.random.below(4) as u32,
             _ => self.random.below(u64::from(self.frame) - 16) as u32,
         }
@@ -123,6 +124,8 @@ impl Generator {
                 let size = quarters * u64::from(self.frame) / 4 - 16 + self.random.pick(&[0, 0, 0, 0, 0, 1]);
                 size.min(LARGEST.into()) as u32
             }
+            Sizes::Turns if earlier.len().is_multiple_of(2) => self.random.within(u64::from(self.frame) - 16, 2 * u64::from(self.frame) - 17) as u32,
+            Sizes::Turns => self.random.within(u64::from(self.frame) / 2 - 16, u64::from(self.frame) - 17) as u32,
             Sizes::Mixed | Sizes::Equal => match self.random.below(20) {
                 0..2 if !earlier.is_empty() => self.random.pick(earlier),
                 2 => self.random.pick(&[0, 1, self.frame - 18, self.frame - 17, self.frame - 16, self.frame - 15, LARGEST - 1, LARGEST]),
@@ -142,21 +145,32 @@ impl Generator {
         sizes
     }
 
-    fn arranged(&mut self, sizes: Vec<u32>) -> Vec<u32> {
-        let given = self.random.weighted(&GIVEN);
-        if !(1..=ARRANGED).contains(&sizes.len()) {
-            return sizes;
+    /// In an order with the most large-framed objects.
+    fn worst(&mut self, count: usize) -> Vec<u32> {
+        let sizes = self.sizes(count);
+        let (order, ..) = Worst.search(&sizes, self.s, u64::MAX);
+        order.iter().map(|&position| sizes[position]).collect()
+    }
+
+    /// So that the last of all orders is a best one; after some attempts at the latest, with others that are as good.
+    fn best_last(&mut self, count: usize) -> Vec<u32> {
+        let mut attempts = 0;
+        loop {
+            attempts += 1;
+            let sizes = self.sizes(count);
+            let (best, ..) = Model.search(&sizes, self.s, u64::MAX);
+            if attempts == ATTEMPTS || best == LastBest.search(&sizes, self.s, u64::MAX).0 {
+                return best.iter().rev().map(|&position| sizes[position]).collect();
+            }
         }
-        let (order, ..) = match given {
-            Given::AsMade => return sizes,
-            Given::Worst => Worst.search(&sizes, self.s, u64::MAX),
-            Given::BestLast => Model.search(&sizes, self.s, u64::MAX),
-        };
-        let mut sizes: Vec<_> = order.iter().map(|&position| sizes[position]).collect();
-        if matches!(given, Given::BestLast) {
-            sizes.reverse();
+    }
+
+    fn given(&mut self, count: usize) -> Vec<u32> {
+        match self.random.below(100) {
+            0..18 if (2..=ARRANGED).contains(&count) => self.worst(count),
+            18..36 if (2..=ARRANGED).contains(&count) => self.best_last(count),
+            _ => self.sizes(count),
         }
-        sizes
     }
 
     /// Not allowed: just above, or good in the low 16 bits.
@@ -204,8 +218,7 @@ pub fn case(seed: u64) -> Case {
     let slot_exponent = if random.percent(7) { random.pick(&EXPONENTS) } else { s };
     let mut generator = Generator { random, s, frame: 1 << s };
     let lent = generator.count();
-    let sizes = generator.sizes(lent);
-    let mut sizes = generator.arranged(sizes);
+    let mut sizes = generator.given(lent);
     if lent > 0 && generator.random.percent(if lent == MOST { 20 } else { 5 }) {
         generator.spoil(&mut sizes);
     }
