@@ -54,14 +54,17 @@ impl Case {
         Box::new(Failure { seed: None, case: self.clone(), what })
     }
 
+    /// The first size, lent or not, that is not as it was.
+    fn written(&self, sizes: &[u32]) -> Option<String> {
+        let at = (0..sizes.len()).find(|&at| sizes[at] != self.sizes[at])?;
+        Some(format!("wrote size {at}: {}, and it was {}", sizes[at], self.sizes[at]))
+    }
+
     /// The answer, for which no size may be written.
     pub fn answer(&self, orders: &dyn Orders) -> Result<Answer, Box<Failure>> {
         let mut sizes = self.sizes.clone();
         let answer = orders.order(&mut sizes[..self.lent], self.slot_exponent, self.budget);
-        match (0..sizes.len()).find(|&at| sizes[at] != self.sizes[at]) {
-            None => Ok(answer),
-            Some(at) => Err(self.failure(format!("{answer}; wrote size {at}: {}, and it was {}", sizes[at], self.sizes[at]))),
-        }
+        self.written(&sizes).map_or(Ok(answer), |what| Err(self.failure(format!("{answer}; {what}"))))
     }
 
     /// Whether this is the answer.
@@ -108,21 +111,14 @@ pub fn compare(expected: &dyn Orders, tested: &dyn Orders, cases: u64, seed: u64
 mod tests {
     use super::*;
 
-    struct Writes(usize);
-
-    impl Orders for Writes {
-        fn order(&self, sizes: &mut [u32], _: u32, _: u64) -> Answer {
-            // SAFETY: the case's buffer goes on behind what is lent.
-            unsafe { *sizes.as_mut_ptr().add(self.0) ^= 1 };
-            Answer::new(0, [])
-        }
-    }
-
     #[test]
     fn writes_to_and_beyond_the_sizes_are_seen() {
         let case = Case { sizes: vec![1; 6], lent: 4, slot_exponent: 6, budget: 1 };
+        assert_eq!(case.written(&case.sizes), None);
         for at in 0..6 {
-            assert!(case.answer(&Writes(at)).err().unwrap().what.contains(&format!("wrote size {at}:")));
+            let mut sizes = case.sizes.clone();
+            sizes[at] = 0;
+            assert_eq!(case.written(&sizes), Some(format!("wrote size {at}: 0, and it was 1")));
         }
     }
 

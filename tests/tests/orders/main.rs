@@ -87,7 +87,7 @@ fn golden_cases() {
     cases.iter().for_each(|(case, answer)| is_answered(case, *answer));
 }
 
-/// Every pair of sizes around one, two and three frames of 64 bytes, in every order and every budget.
+/// Every pair of sizes up to three frames of 64 bytes, with every budget that matters.
 #[test]
 fn every_pair_of_sizes() {
     // by the found order, and by how many are above the floor
