@@ -251,9 +251,9 @@ uint32_t cue_traffic(uint8_t *image, size_t image_len, uint64_t *table, size_t t
  * objects that are allocated one after the other, none freed in between. No image is read.
  * Orders of the sizes' positions, counted from 0, are tried lexicographically, at most budget of them. order is the first with
  * the fewest large-framed objects: its lowest byte is the position of the object to allocate first, the next byte that of the
- * second, and bytes behind the last are 0. large is how many are large-framed then. tried is the lesser of budget and all orders, 1, 2, 6, 24,
- * 120, 720, 5,040 or 40,320 for 1 to 8 sizes: where that is all of them, no order has fewer. floor is how many are large-framed
- * wherever they stand, those with 17 + size > 2^s: no order has fewer, tried or not.
+ * second, and bytes behind the last are 0. large is how many are large-framed then. tried is the lesser of budget and all
+ * orders, 1, 2, 6, 24, 120, 720, 5,040 or 40,320 for 1 to 8 sizes: where that is all of them, no order has fewer. floor is how
+ * many are large-framed wherever they stand, those with 17 + size > 2^s: no order has fewer, tried or not.
  * Refusals, in order: 26 (no size or more than 8, a size above 65535, or a slot exponent outside 6..15), 27 (budget 0). */
 uint32_t cue_order(const uint32_t *sizes, size_t count, uint32_t slot_exponent, uint64_t budget, uint64_t *order, uint64_t *large, uint64_t *tried, uint64_t *floor);
 
