@@ -109,7 +109,7 @@ static inline const char *cue_reason(uint32_t number)
     case CUE_LOG_FULL: return "log has no space for the next record";
     case CUE_BAD_DESCRIPTOR: return "bad type descriptor";
     case CUE_UNDESCRIBED: return "object not described";
-    case CUE_BAD_PLAN: return "not 1 to 8 sizes up to 65535 with a slot exponent of 6 to 15";
+    case CUE_BAD_PLAN: return "sizes or slot exponent out of range";
     case CUE_NO_BUDGET: return "budget of orders is 0";
     default: return "no refusal has this number";
     }

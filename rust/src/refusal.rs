@@ -157,7 +157,7 @@ impl Refusal {
             Refusal::WrongTotal => "free total below 0 or above L - 16",
             Refusal::BadDescriptor => "bad type descriptor",
             Refusal::Undescribed => "object not described",
-            Refusal::BadPlan => "not 1 to 8 sizes up to 65535 with a slot exponent of 6 to 15",
+            Refusal::BadPlan => "sizes or slot exponent out of range",
             Refusal::NoBudget => "budget of orders is 0",
         }
     }
