@@ -150,3 +150,10 @@ ordered r order large tried floor = record { returned = r; order = order; large 
 -- what C sees of the answer
 abbrev pub exportedPlacement : Placement → Ordered
 exportedPlacement p = ordered (p .row) (orderWord p) (p .large) (p .tried) (p .floor)
+
+-- each part of an answer in its place
+pub order-seen :
+    let p : Placement = record { row = 1; order = []; large = 2; tried = 3; floor = 4 } in
+    let o : Ordered = exportedPlacement p in
+    (o .returned ≡ 1) × (o .order ≡ orderWord p) × (o .large ≡ 2) × (o .tried ≡ 3) × (o .floor ≡ 4)
+order-seen = (refl, refl, refl, refl, refl)

@@ -1,5 +1,5 @@
 -- The claims on orders. Assumes nothing.
-use Prim.Native.Nat.{ℕ, _≤_, _<_, min}
+use Prim.Native.Nat.{ℕ, _≤_, _<_}
 use mathlib.Core.Path.{_≡_, refl, sym, ap, _∙_, subst}
 use mathlib.Core.Bool.{true, false}
 use mathlib.Core.List.{List}
@@ -11,11 +11,12 @@ use Rattle.block.specs.laws.Booleans.{byBool, and-both, true-false}
 use Rattle.placement.specs.declared.answer.Placement.{Placement}
 use Rattle.placement.specs.Orders.{orderAt, factorial, Before}
 use Rattle.placement.specs.Placement.{goodSizes, goodPlan, large, bestOrder, eightPlaces, found, refused, placement}
-use Rattle.placement.specs.Claims.{TriesAll, BadPlan, no-sizes, too-many, too-large, low-exponent, high-exponent, Refuses, RefusesInOrder, FirstBest, FindsFirstBest, NoneFewerAtAll, NoneUnderFloor}
+use Rattle.placement.specs.Claims.{TriesAll, BadPlan, no-sizes, too-many, too-large, low-exponent, high-exponent, Refuses, RefusesInOrder}
+use Rattle.placement.specs.Claims.{FirstBest, FindsFirstBest, NoneFewerAtAll, NoneUnderFloor}
 use Rattle.placement.specs.laws.Picks.{all-orders}
 use Rattle.placement.specs.laws.Arrangements.{every-order, only-orders, orders-ascend, orders-once, before-lower}
 use Rattle.placement.specs.laws.Counts.{floor-under}
-use Rattle.placement.specs.laws.Rows.{planned, plan-rest, size-most, size-above, Verdict, bad, unbudgeted, finds, verdict, tried-length, tried-at, best-is}
+use Rattle.placement.specs.laws.Rows.{planned, plan-rest, size-most, size-above, Verdict, bad, unbudgeted, finds, verdict, best-at}
 
 pub tries-all : TriesAll
 unfolding TriesAll
@@ -103,24 +104,20 @@ found-first-best : (s : ℕ) (sizes : List ℕ) (budget : ℕ) → 0 < budget �
 unfolding found
 found-first-best s sizes budget h =
     let n : ℕ = length sizes in
-    let b = best-is s sizes budget h in
-    let l : b .index < min budget (factorial n) = subst (λ (m : ℕ). b .index < m) (tried-length n budget) (b .inside) in
-    let e : bestOrder s sizes budget ≡ orderAt n (b .index) = sym (b .is) ∙ tried-at n budget (b .index) l in
+    let b = best-at s sizes budget h in
     record {
       tried-is = refl;
       floor-is = refl;
       index = b .index;
-      was-tried = l;
-      order-is = ap eightPlaces e;
-      large-is = ap (large s sizes) e;
-      none-fewer = λ i m.
-          subst (λ (o : List ℕ). large s sizes (bestOrder s sizes budget) ≤ large s sizes o) (tried-at n budget i m)
-          (b .least i (subst (λ (k : ℕ). i < k) (sym (tried-length n budget)) m));
+      was-tried = b .was-tried;
+      order-is = ap eightPlaces (b .is);
+      large-is = ap (large s sizes) (b .is);
+      none-fewer = b .none-fewer;
       first = λ order o w.
           let (i, m, q) = every-order n order o in
           let u : Before (orderAt n i) (orderAt n (b .index)) = subst (λ (x : List ℕ). Before x (orderAt n (b .index))) (sym q) w in
-          let v : i < b .index = before-lower n i (b .index) m (omega arith) u in
-          subst (λ (x : List ℕ). large s sizes (bestOrder s sizes budget) < large s sizes x) (tried-at n budget i (omega arith) ∙ q) (b .first i v);
+          subst (λ (x : List ℕ). large s sizes (bestOrder s sizes budget) < large s sizes x) q
+          (b .first i (before-lower n i (b .index) m (omega (arith, b .was-tried)) u));
     }
 
 pub finds-first-best : FindsFirstBest

@@ -1,23 +1,22 @@
 -- Turns of the two loops that pick an order by the digits of its number: one keeps its places, one counts its large-framed objects. Assumes nothing.
-use Prim.Native.Nat.{ℕ, zero, suc, _+_, _-_, _*_, _/_, _%_, _^_, _≤_, _<_}
+use Prim.Native.Nat.{ℕ, zero, suc, _+_, _-_, _*_, _/_, _%_, _≤_, _<_}
 use mathlib.Core.Path.{_≡_, sym, ap, _∙_, subst}
-use mathlib.Core.Bool.{true}
+use mathlib.Core.Bool.{true, not}
 use mathlib.Core.List.{List, [], _∷_, _++_}
 use native.Mathlib.Nat.{zero-add, suc-add, sub-zero, mod-lt}
 use native.Mathlib.Numerals.{add-one}
 use native.Mathlib.Omega.{arith}
-use lib.ListN.{length, getD, set, drop, replicate, List·getD-eq-default}
-use lib.Dec.{ltb}
+use lib.ListN.{length, getD, set, drop, replicate}
+use lib.Dec.{leb}
 use lib.Seq.{sets, sets-eq}
-use borrow.Author.Tests.{ltb-true, ltb-false}
+use Rattle.frame.specs.Tags.{wrapper}
 use Rattle.block.specs.Bytes.{decode, Bytes}
-use Rattle.block.specs.laws.Booleans.{byBool}
 use Rattle.placement.specs.Orders.{positions, without, orderAt, factorial}
 use Rattle.placement.specs.Placement.{goodPlan, largeAt, largeFrom, large, eightPlaces}
-use Rattle.placement.specs.laws.Positions.{positions-length, positions-at, stood, without-at, stood-most, positions-agree}
+use Rattle.placement.specs.laws.Positions.{positions-at, stood, without-at, stood-most, positions-agree}
 use Rattle.placement.specs.laws.Picks.{factorial-some, picked, order-picked, picked-none, picked-one, picked-length, digit-below, picked-agree}
-use Rattle.placement.specs.laws.Packed.{placeIn, removedFrom, place-is, removed-is, without-bytes, eight-packed}
-use Rattle.placement.specs.laws.Counts.{large-most, large-none, large-one}
+use Rattle.placement.specs.laws.Packed.{placeIn, removedFrom, place-is, removed-is, without-bytes, eight-bytes, eight-packed}
+use Rattle.placement.specs.laws.Counts.{bit-most, large-none, large-one}
 use Rattle.placement.specs.laws.Rows.{planned, size-most}
 
 -- where such a loop stands: `rest` holds the positions that are left, and P is known of what is still to be picked from them
@@ -30,14 +29,8 @@ pub record Picking (n rest left j : ℕ) (P : List ℕ → Type 0) : Type 0 wher
   pub known : (k : ℕ) → k < n - j → getD places k 0 < n
   pub is : P (picked (n - j) places left)
 
-positions-bytes : Bytes (positions 8)
-positions-bytes k =
-    byBool (ltb k 8)
-    (λ t. omega (arith, ltb-true k 8 t, positions-at 8 0 k (ltb-true k 8 t)))
-    (λ t. rw (List·getD-eq-default (positions 8) 0 {n = k} (omega (arith, ltb-false k 8 t, positions-length 8 0))) (omega arith))
-
 -- at first the whole order is to be picked
-pub begins : (n i : ℕ) (P : List ℕ → Type 0) → n ≤ 8 → i < factorial n → P (orderAt n i) → Picking n 0x0706050403020100 i 0 P
+begins : (n i : ℕ) (P : List ℕ → Type 0) → n ≤ 8 → i < factorial n → P (orderAt n i) → Picking n 0x0706050403020100 i 0 P
 begins n i P h l p =
     let e : orderAt n i ≡ picked n (positions 8) i =
     order-picked n i l ∙ sym (picked-agree n (positions 8) (positions n) i l (positions-agree n 8 h)) in
@@ -46,7 +39,7 @@ begins n i P h l p =
       below = rw (sub-zero n) l;
       places = positions 8;
       rest-is = eight-packed;
-      bytes = positions-bytes;
+      bytes = eight-bytes;
       known = λ k m. omega (arith, positions-at 8 0 k (omega arith));
       is = rw (sub-zero n) (subst P e p);
     }
@@ -70,11 +63,11 @@ module _ (n : ℕ) {rest left j : ℕ} {P : List ℕ → Type 0} (few : n ≤ 8)
   digit = omega (arith, picks)
 
   -- which holds an object's position
-  pub position : placeIn rest (left / f) < n
+  position : placeIn rest (left / f) < n
   position = rw (now .rest-is, place-is (left / f) (now .places) (now .bytes)) (now .known (left / f) picks)
 
   -- what is picked is known, and that it comes first of what was to be picked
-  pub goes-on : (Q : List ℕ → Type 0) → ((order : List ℕ) → P (placeIn rest (left / f) ∷ order) → Q order)
+  goes-on : (Q : List ℕ → Type 0) → ((order : List ℕ) → P (placeIn rest (left / f) ∷ order) → Q order)
       → Picking n (removedFrom rest (left / f)) (left % f) (j + 1) Q
   goes-on Q step =
       let m : ℕ = n - j - 1 in
@@ -136,7 +129,7 @@ placing-goes-on n i {order} {rest} {left} {j} few now h f is =
 -- The large-framed objects of an order.
 
 -- the count, with that of what is to be picked from h on, is that of the whole order
-abbrev pub Counting : (s : ℕ) (sizes : List ℕ) (i count h : ℕ) → List ℕ → Type 0
+abbrev Counting : (s : ℕ) (sizes : List ℕ) (i count h : ℕ) → List ℕ → Type 0
 Counting s sizes i count h o = count + largeFrom s sizes h o ≡ large s sizes (orderAt (length sizes) i)
 
 -- where the loop stands: the count and the header's place are small
@@ -145,9 +138,14 @@ pub record Counted (s : ℕ) (sizes : List ℕ) (i count h rest left j : ℕ) : 
   pub near : h ≤ 16 + 65551 * j
   pub picking : Picking (length sizes) rest left j (Counting s sizes i count h)
 
-pub counting-begins : (s : ℕ) (sizes : List ℕ) (i : ℕ) → goodPlan s sizes ≡ true → i < factorial (length sizes) → Counted s sizes i 0 16 0x0706050403020100 i 0
+pub counting-begins :
+    (s : ℕ) (sizes : List ℕ) (i : ℕ) → goodPlan s sizes ≡ true → i < factorial (length sizes) → Counted s sizes i 0 16 0x0706050403020100 i 0
 counting-begins s sizes i g l =
-    record { most = omega arith; near = omega arith; picking = begins (length sizes) i (Counting s sizes i 0 16) (planned s sizes g .few) l (zero-add (large s sizes (orderAt (length sizes) i))) }
+    record {
+      most = omega arith;
+      near = omega arith;
+      picking = begins (length sizes) i (Counting s sizes i 0 16) (planned s sizes g .few) l (zero-add (large s sizes (orderAt (length sizes) i)));
+    }
 
 -- what a turn knows: the digit picks an object of the list, whose size is in range and whose header stands low
 pub record Turn (s : ℕ) (sizes : List ℕ) (i count h rest left j f : ℕ) : Type 0 where
@@ -177,7 +175,7 @@ turn s sizes i {count} {h} {rest} {left} {j} g now l f is =
       low = omega (arith, now .near, w .few);
       next = λ size one e c.
           record {
-            most = omega (arith, now .most, large-most s h size);
+            most = omega (arith, now .most, bit-most (not (leb (wrapper h size) s)));
             near = omega (arith, now .near, in-range);
             picking = goes-on (length sizes) (w .few) (now .picking) l f is (Counting s sizes i (count + one) (h + 16 + size)) (step size one e c);
           };

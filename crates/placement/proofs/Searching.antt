@@ -10,7 +10,7 @@ use lib.Seq.{drop-cons, take-all}
 use borrow.Author.Tests.{leb-true, leb-false}
 use Rattle.block.specs.laws.Booleans.{byBool}
 use Rattle.placement.specs.Orders.{orders, orderAt, factorial}
-use Rattle.placement.specs.Placement.{large, leastFrom, firstLeast, bestOrder, found}
+use Rattle.placement.specs.Placement.{large, leastFrom, firstLeast, bestOrder}
 use Rattle.placement.specs.laws.Picks.{all-orders}
 use Rattle.placement.specs.laws.Least.{takes, keeps}
 use Rattle.placement.specs.laws.Rows.{tried-length, tried-at}

@@ -1,14 +1,14 @@
 -- Shifts of 64 bits that lose none. Assumes nothing.
-use Prim.Native.Nat.{ℕ, _+_, _*_, _/_, _%_, _^_, _≤_, _<_}
-use mathlib.Core.Path.{_≡_}
+use Prim.Native.Nat.{ℕ, _*_, _/_, _%_, _^_, _≤_, _<_}
+use mathlib.Core.Path.{_≡_, _∙_}
 use native.Mathlib.Nat.{mod-eq-of-lt, one-mul, lt-of-le-of-lt, mul-le-mul-right, div-le-self, div-add-mod'}
 use native.Mathlib.Omega.{arith}
-use lib.Pow.{pow-lt}
+use lib.Pow.{shl-exact}
 use Rattle.placement.specs.laws.Packed.{removedFrom}
 
 -- `1 << s`
 pub one-shl : (s : ℕ) → s < 64 → (1 * 2 ^ s) % 2 ^ 64 ≡ 2 ^ s
-one-shl s h = rw one-mul (mod-eq-of-lt (pow-lt h))
+one-shl s h = shl-exact {a = 1} 1 s 64 (omega arith) (omega arith) ∙ one-mul (2 ^ s)
 
 -- what stands behind a byte, one byte lower
 behind-most : (w b : ℕ) → w / 2 ^ b / 256 * 2 ^ b ≤ w / 2 ^ b * 2 ^ b

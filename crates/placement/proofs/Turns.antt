@@ -6,10 +6,11 @@ use mathlib.Core.List.{List}
 use native.Mathlib.Numerals.{add-one}
 use native.Mathlib.Omega.{arith}
 use lib.ListN.{length, getD, drop, drop-of-length-le}
+use lib.Dec.{ltb}
 use lib.Seq.{drop-cons}
 use borrow.Author.Tests.{lt-ltb, le-ltb, le-leb, lt-leb}
 use Rattle.placement.specs.Placement.{goodSizes, oversized, floorOf}
-use Rattle.placement.specs.laws.Counts.{oversized-most}
+use Rattle.placement.specs.laws.Counts.{bit-most}
 use Rattle.placement.proofs.Shifts.{one-shl}
 
 -- Good sizes: what is left to look at says what the whole list says.
@@ -35,30 +36,30 @@ pub fits-one : (s size : ℕ) → s < 64 → 17 + size ≤ (1 * 2 ^ s) % 2 ^ 64 
 fits-one s size h l = rw (le-ltb (2 ^ s) (17 + size) (omega (arith, one-shl s h)))
 
 -- where the loop stands: the count, with that of the sizes from i on, is that of all
-pub record Flooring (s : ℕ) (sizes : List ℕ) (count i : ℕ) : Type 0 where
+pub record FloorTo (s : ℕ) (sizes : List ℕ) (count i : ℕ) : Type 0 where
   pub inside : i ≤ length sizes
   pub most : count ≤ i
   pub is : count + floorOf s (drop i sizes) ≡ floorOf s sizes
 
-pub flooring-begins : (s : ℕ) (sizes : List ℕ) → Flooring s sizes 0 0
-flooring-begins s sizes = record { inside = omega arith; most = omega arith; is = omega arith }
+pub floor-begins : (s : ℕ) (sizes : List ℕ) → FloorTo s sizes 0 0
+floor-begins s sizes = record { inside = omega arith; most = omega arith; is = omega arith }
 
-floor-turn : (s : ℕ) (sizes : List ℕ) (i : ℕ) → i < length sizes → floorOf s (drop i sizes) ≡ oversized s (getD sizes i 0) + floorOf s (drop (i + 1) sizes)
+floor-one : (s : ℕ) (sizes : List ℕ) (i : ℕ) → i < length sizes → floorOf s (drop i sizes) ≡ oversized s (getD sizes i 0) + floorOf s (drop (i + 1) sizes)
 unfolding floorOf
-floor-turn s sizes i h = rw (add-one i, drop-cons sizes i 0 h)
+floor-one s sizes i h = rw (add-one i, drop-cons sizes i 0 h)
 
-pub flooring-goes-on : (s : ℕ) (sizes : List ℕ) {count i : ℕ} (one : ℕ) → Flooring s sizes count i → i < length sizes → one ≡ oversized s (getD sizes i 0)
-    → Flooring s sizes (count + one) (i + 1)
-flooring-goes-on s sizes {count} {i} one now h e =
+pub floor-goes-on : (s : ℕ) (sizes : List ℕ) {count i : ℕ} (one : ℕ) → FloorTo s sizes count i → i < length sizes → one ≡ oversized s (getD sizes i 0)
+    → FloorTo s sizes (count + one) (i + 1)
+floor-goes-on s sizes {count} {i} one now h e =
     record {
       inside = omega arith;
-      most = omega (arith, now .most, oversized-most s (getD sizes i 0));
-      is = omega (arith, now .is, floor-turn s sizes i h);
+      most = omega (arith, now .most, bit-most (ltb (2 ^ s) (17 + getD sizes i 0)));
+      is = omega (arith, now .is, floor-one s sizes i h);
     }
 
-floor-end : (s : ℕ) (sizes : List ℕ) (i : ℕ) → length sizes ≤ i → floorOf s (drop i sizes) ≡ 0
+floor-none : (s : ℕ) (sizes : List ℕ) (i : ℕ) → length sizes ≤ i → floorOf s (drop i sizes) ≡ 0
 unfolding floorOf
-floor-end s sizes i h = rw (drop-of-length-le sizes h)
+floor-none s sizes i h = rw (drop-of-length-le sizes h)
 
-pub flooring-ends : (s : ℕ) (sizes : List ℕ) (count i : ℕ) → Flooring s sizes count i → length sizes ≤ i → count ≡ floorOf s sizes
-flooring-ends s sizes count i now h = omega (arith, now .is, floor-end s sizes i h)
+pub floor-ends : (s : ℕ) (sizes : List ℕ) (count i : ℕ) → FloorTo s sizes count i → length sizes ≤ i → count ≡ floorOf s sizes
+floor-ends s sizes count i now h = omega (arith, now .is, floor-none s sizes i h)

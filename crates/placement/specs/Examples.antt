@@ -1,5 +1,5 @@
 -- Worked examples, computed: what is found at the ends of each rule, and what the claims say of one list of sizes. Assumes nothing.
-use Prim.Native.Nat.{ℕ, _≤_, _<_}
+use Prim.Native.Nat.{ℕ, _≤_, _<_, min}
 use mathlib.Core.Path.{_≡_, refl, sym, ap, _∙_, subst}
 use mathlib.Core.Bool.{Bool, true, false, _&&_}
 use mathlib.Core.List.{List, [], _∷_}
@@ -12,7 +12,7 @@ use Rattle.frame.specs.Tags.{wrapper}
 use Rattle.block.specs.Bytes.{decode, field}
 use Rattle.placement.specs.declared.answer.Placement.{Placement}
 use Rattle.placement.specs.Orders.{positionsFrom, without, startingWith, ordersOf, orders, orderAt, factorial, IsOrder, Before}
-use Rattle.placement.specs.Placement.{goodSizes, goodPlan, largeFrom, large, floorOf, leastFrom, firstLeast, bestOrder, eightPlaces, found, placement, orderWord}
+use Rattle.placement.specs.Placement.{goodSizes, goodPlan, largeFrom, large, floorOf, leastFrom, firstLeast, bestOrder, eightPlaces, found, refused, placement, orderWord}
 use Rattle.placement.specs.Claims.{TriesAll, BadPlan, RefusesInOrder, FindsFirstBest, NoneFewerAtAll, NoneUnderFloor}
 
 -- Answers.
@@ -21,6 +21,7 @@ use Rattle.placement.specs.Claims.{TriesAll, BadPlan, RefusesInOrder, Fi
 pub data Case : Type 0 where
   case : (s : ℕ) (sizes : List ℕ) (budget row : ℕ) (order : List ℕ) (large tried floor : ℕ) → Case
 
+-- two lists are the same
 same : List ℕ → List ℕ → Bool
 same [] [] = true
 same [] (y ∷ ys) = false
@@ -33,10 +34,12 @@ holds (case s sizes budget row order large tried floor) =
     let p : Placement = placement s sizes budget in
     eqb (p .row) row && (same (p .order) order && (eqb (p .large) large && (eqb (p .tried) tried && eqb (p .floor) floor)))
 
+-- of every case
 pub all : List Case → Bool
 all [] = true
 all (c ∷ cs) = holds c && all cs
 
+-- the ends of each rule
 pub cases : List Case
 cases =
     -- the ends of a slot, from address 16 on: e is 63 and 64
@@ -92,7 +95,7 @@ orders-of-three = refl
 
 -- The order as one number, place i in byte i.
 pub word-of :
-    orderWord (record { row = 0; order = 7 ∷ 6 ∷ 5 ∷ 4 ∷ 3 ∷ 2 ∷ 1 ∷ 0 ∷ []; large = 0; tried = 0; floor = 0 }) ≡ 0x0001020304050607
+    orderWord (record { row = 0; order = 1 ∷ 2 ∷ 3 ∷ 4 ∷ 5 ∷ 6 ∷ 7 ∷ 8 ∷ []; large = 0; tried = 0; floor = 0 }) ≡ 0x0807060504030201
 unfolding decode field
 word-of = refl
 
@@ -105,43 +108,59 @@ buffers = 40000 ∷ 20000 ∷ 12000 ∷ []
 abbrev best : List ℕ
 best = 1 ∷ 2 ∷ 0 ∷ []
 
--- what is computed of them, and of no sizes
+-- what is computed of them
 computed :
     (placement 15 buffers 6 ≡ record { row = 0; order = 1 ∷ 2 ∷ 0 ∷ 0 ∷ 0 ∷ 0 ∷ 0 ∷ 0 ∷ []; large = 1; tried = 6; floor = 1 })
-    × (placement 15 buffers 3 .row ≡ 0) × (placement 15 buffers 3 .tried ≡ 3) × (placement 15 buffers 3 .large ≡ 2)
-    × (placement 15 [] 6 .row ≡ 26) × (placement 15 buffers 0 .row ≡ 27) × (factorial 3 ≡ 6)
+    × (placement 15 buffers 3 .row ≡ 0) × (placement 15 buffers 3 .tried ≡ 3) × (placement 15 buffers 3 .large ≡ 2) × (factorial 3 ≡ 6)
 unfolding frameNumberIn frameNumber wrapper positionsFrom without startingWith ordersOf orders factorial goodSizes goodPlan largeFrom floorOf leastFrom firstLeast bestOrder found placement
-computed = (refl, refl, refl, refl, refl, refl, refl)
+computed = (refl, refl, refl, refl, refl)
 
--- No order has fewer than 1, by the search and by the floor; every order before the best has more; of the first three none has fewer than 2; the plan is good, and
--- no sizes are not; a refusal gives zeros.
+-- Of the orders: there are n!, each has one number, and lower numbers stand before higher ones. Of the rows: each by its condition alone, and a refusal gives
+-- zeros. Of the three buffers: one is large-framed in the best order, and none has fewer, by the search and by the floor; every order before it has more. Of the first three
+-- orders one is given, and none has fewer than its 2.
 pub claimed : TriesAll → RefusesInOrder → FindsFirstBest → NoneFewerAtAll → NoneUnderFloor
-    → ((order : List ℕ) → IsOrder 3 order → 1 ≤ large 15 buffers order)
-    × (floorOf 15 buffers ≡ 1)
-    × ((order : List ℕ) → IsOrder 3 order → floorOf 15 buffers ≤ large 15 buffers order)
+    → ((n : ℕ) → length (orders n) ≡ factorial n)
+    × ((n : ℕ) (order : List ℕ) → IsOrder n order → (i : ℕ) × (i < factorial n) × (orderAt n i ≡ order))
+    × ((n i j : ℕ) → i < factorial n → j < factorial n → orderAt n i ≡ orderAt n j → i ≡ j)
+    × ((n i j : ℕ) → i < j → j < factorial n → Before (orderAt n i) (orderAt n j))
+    × ((s : ℕ) (sizes : List ℕ) (budget : ℕ) → BadPlan s sizes → placement s sizes budget ≡ refused 26)
+    × ((s : ℕ) (sizes : List ℕ) → (BadPlan s sizes → ⊥) → placement s sizes 0 ≡ refused 27)
+    × ((s : ℕ) (sizes : List ℕ) (budget : ℕ) → (BadPlan s sizes → ⊥) → 0 < budget → placement s sizes budget .row ≡ 0)
+    × (BadPlan 15 buffers → ⊥)
+    × (min 6 (factorial 3) ≡ 6) × (large 15 buffers best ≡ 1) × (floorOf 15 buffers ≡ 1)
+    × ((order : List ℕ) → IsOrder 3 order → 1 ≤ large 15 buffers order)
+    × ((s : ℕ) (sizes order : List ℕ) → IsOrder (length sizes) order → floorOf s sizes ≤ large s sizes order)
     × ((order : List ℕ) → IsOrder 3 order → Before order best → 2 ≤ large 15 buffers order)
+    × ((i : ℕ) × (i < 3) × (placement 15 buffers 3 .order ≡ eightPlaces (orderAt 3 i)))
     × ((i : ℕ) → i < 3 → 2 ≤ large 15 buffers (orderAt 3 i))
-    × ((i j : ℕ) → i < j → j < 6 → Before (orderAt 3 i) (orderAt 3 j))
-    × (BadPlan 15 buffers → ⊥) × BadPlan 15 [] × (placement 15 buffers 0 .large ≡ 0)
 unfolding TriesAll RefusesInOrder FindsFirstBest NoneFewerAtAll NoneUnderFloor
 claimed tries refuses finds none-fewer none-under =
     let p = computed .0 in
     let row : placement 15 buffers 6 .row ≡ 0 = ap (λ (q : Placement). q .row) p in
     let tried : placement 15 buffers 6 .tried ≡ 6 = ap (λ (q : Placement). q .tried) p in
     let least : placement 15 buffers 6 .large ≡ 1 = ap (λ (q : Placement). q .large) p in
-    let all : factorial 3 ≡ 6 = computed .6 in
+    let all : factorial 3 ≡ 6 = computed .4 in
     let b = finds 15 buffers 6 row in
-    let found : List ℕ = orderAt 3 (b .index) in
-    let is-order : IsOrder 3 found = tries 3 .only (b .index) (omega (arith, b .was-tried, tried, all)) in
-    let is-best : found ≡ best = sym (take-at found _ 3 (is-order .length-is)) ∙ ap (take 3) (sym (b .order-is) ∙ ap (λ (q : Placement). q .order) p) in
-    let few = finds 15 buffers 3 (computed .1) in (
-      (λ order o. omega (arith, none-fewer 15 buffers 6 row (tried ∙ sym all) order o, least)),
-      sym (b .floor-is) ∙ ap (λ (q : Placement). q .floor) p,
-      none-under 15 buffers,
-      (λ order o w. omega (arith, b .first order o (subst (Before order) (sym is-best) w), least)),
-      (λ i l. omega (arith, few .none-fewer i (omega (arith, computed .2)), computed .3)),
-      (λ i j l h. tries 3 .ascending i j l (omega (arith, all))),
+    let few = finds 15 buffers 3 (computed .1) in
+    let is-order : IsOrder 3 (orderAt 3 (b .index)) = tries 3 .only (b .index) (omega (arith, b .was-tried, tried, all)) in
+    let is-best : orderAt 3 (b .index) ≡ best =
+    sym (take-at (orderAt 3 (b .index)) _ 3 (is-order .length-is)) ∙ ap (take 3) (sym (b .order-is) ∙ ap (λ (q : Placement). q .order) p) in
+    let zeros : (s : ℕ) (sizes : List ℕ) (budget r : ℕ) → placement s sizes budget .row ≡ r → 0 < r → placement s sizes budget ≡ refused r = λ s sizes budget r e h.
+    refuses s sizes budget .zeros (λ z. omega (arith, e, z)) ∙ ap refused e in (
+      (λ n. tries n .number),
+      (λ n. tries n .every),
+      (λ n. tries n .once),
+      (λ n. tries n .ascending),
+      (λ s sizes budget bad. zeros s sizes budget 26 (refuses s sizes budget .bad-plan .1 bad) (omega arith)),
+      (λ s sizes good. zeros s sizes 0 27 (refuses s sizes 0 .no-budget .1 (good, refl)) (omega arith)),
+      (λ s sizes budget good some. refuses s sizes budget .accepted .1 (good, some)),
       refuses 15 buffers 6 .accepted .0 row .0,
-      refuses 15 [] 6 .bad-plan .0 (computed .4),
-      ap (λ (q : Placement). q .large) (refuses 15 buffers 0 .zeros (λ e. omega (arith, e, computed .5))),
+      sym (b .tried-is) ∙ tried,
+      sym (b .large-is ∙ ap (large 15 buffers) is-best) ∙ least,
+      sym (b .floor-is) ∙ ap (λ (q : Placement). q .floor) p,
+      (λ order o. omega (arith, none-fewer 15 buffers 6 row (tried ∙ sym all) order o, least)),
+      none-under,
+      (λ order o w. omega (arith, b .first order o (subst (Before order) (sym is-best) w), least)),
+      (few .index, omega (arith, few .was-tried, computed .2), few .order-is),
+      (λ i l. omega (arith, few .none-fewer i (omega (arith, computed .2)), computed .3)),
     )

@@ -11,7 +11,7 @@ use super::packed::place;
 use super::packed::remove;
 use frame::same_frame;
 
-// A size, as addresses are.
+// A size in 64 bits, as addresses have.
 fn wide(size: u32) -> u64
     ensures { λ r. ⌜ r ≡ size ⌝ }
 {

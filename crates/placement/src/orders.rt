@@ -1,4 +1,4 @@
-// Orders of positions: the one that is tried as number i is made afresh from the digits of i.
+// Orders of positions: the one that is tried as number i is made afresh from the digits of i in the factorial number system.
 ghost use mathlib.Core.Path.{_≡_};
 ghost use Prim.Native.Nat.{_<_, _≤_};
 ghost use Rattle.placement.specs.Orders.{factorial, orderAt};

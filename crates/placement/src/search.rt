@@ -3,8 +3,9 @@ ghost use mathlib.Core.Path.{_≡_};
 ghost use mathlib.Core.Bool.{true};
 ghost use Prim.Native.Nat.{_<_, _≤_, min};
 ghost use lib.ListN.{length};
-ghost use Rattle.placement.specs.Orders.{factorial, orderAt};
-ghost use Rattle.placement.specs.Placement.{goodPlan, large, bestOrder, refused, placement};
+ghost use Rattle.placement.specs.Orders.{factorial};
+ghost use Rattle.placement.specs.Placement.{goodPlan, refused, placement};
+ghost use Rattle.placement.specs.laws.Rows.{BestFound};
 use super::answer::Best;
 use super::answer::Placement;
 use super::counting::large_of;
@@ -16,7 +17,7 @@ use super::plan::good_plan;
 // The number of the first best of the orders that are tried, and its large-framed objects.
 fn search(sizes: &[u32], s: u32, tried: u64) -> Best
     requires { ⌜ (goodPlan s (now sizes) ≡ true) × (0 < tried) × (tried ≤ factorial (length (now sizes))) ⌝ }
-    ensures { λ r. ⌜ (r .index < tried) × (orderAt (length (now (sizes .entry))) (r .index) ≡ bestOrder s (now (sizes .entry)) tried) × (r .large ≡ large s (now (sizes .entry)) (bestOrder s (now (sizes .entry)) tried)) ⌝ }
+    ensures { λ r. ⌜ BestFound s (now (sizes .entry)) tried r ⌝ }
 {
     let mut index: u64 = 0;
     let mut least = large_of(sizes, s, 0);

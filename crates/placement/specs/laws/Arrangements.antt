@@ -2,15 +2,16 @@
 use Prim.Native.Nat.{ℕ, zero, suc, _+_, _-_, _*_, _/_, _%_, _≤_, _<_}
 use mathlib.Core.Path.{_≡_, refl, sym, ap, _∙_, subst}
 use mathlib.Core.List.{List, [], _∷_}
-use native.Mathlib.Nat.{suc-mul, mod-lt, div-eq-of-lt-le, mod-eq-sub-div-mul, div-mul-le-self, le-div-iff-mul-le, mul-le-mul-right, div-add-mod', le-trans}
-use native.Mathlib.Numerals.{add-one}
+use native.Mathlib.Nat.{mod-lt, div-mul-le-self, le-div-iff-mul-le, div-add-mod', le-trans}
 use native.Mathlib.Omega.{arith}
+use lib.Arith.{digits-div, digits-mod, digits-lt}
 use lib.ListN.{length, getD}
 use lib.Dec.{ltb}
 use borrow.Author.Tests.{ltb-true, ltb-false}
 use Rattle.block.specs.laws.Booleans.{byBool}
 use Rattle.placement.specs.Orders.{positions, without, orderAt, factorial, IsOrder, Before, here, later}
-use Rattle.placement.specs.laws.Positions.{positions-length, positions-at, positions-rise, without-length, stood, without-at, stood-other, stood-most, stands-without, Rising, without-rises, rising-once}
+use Rattle.placement.specs.laws.Positions.{byOrder, positions-length, positions-at, positions-ascend, without-length, stood, without-at, stood-other, stood-most, stands-without}
+use Rattle.placement.specs.laws.Positions.{Ascending, without-ascends, ascending-once}
 use Rattle.placement.specs.laws.Picks.{factorial-some, factorial-zero, picked, order-picked, digit-below}
 
 -- the order arranges xs: its first is an element of xs, and the rest arranges the others
@@ -59,11 +60,9 @@ arranged-index _ _ (first k order xs h r) =
     let (i, l, e) = arranged-index order (without k xs) r in
     let n : ℕ = length (without k xs) in
     let f : ℕ = factorial n in
-    let d : (k * f + i) / f ≡ k = div-eq-of-lt-le f {m = k * f + i} (omega arith) (rw (add-one k, suc-mul k f) (omega arith)) in
-    let m : (k * f + i) % f ≡ i = mod-eq-sub-div-mul (k * f + i) f ∙ ap (λ (q : ℕ). k * f + i - q * f) d ∙ omega arith in
-    let u : k * f + i < suc n * f =
-    let t = mul-le-mul-right {m = suc k} {n = suc n} f (omega (arith, without-length k xs h)) in
-    omega (arith, suc-mul k f) in
+    let d : (k * f + i) / f ≡ k = digits-div k l in
+    let m : (k * f + i) % f ≡ i = digits-mod k l in
+    let u : k * f + i < suc n * f = digits-lt (let e = without-length k xs h in omega arith) l in
     let p : picked (suc n) xs (k * f + i) ≡ getD xs k 0 ∷ order =
     ap (λ (q : ℕ). getD xs q 0 ∷ picked n (without q xs) ((k * f + i) % f)) d
     ∙ ap (λ (q : ℕ). getD xs k 0 ∷ picked n (without k xs) q) m ∙ ap (λ (q : List ℕ). getD xs k 0 ∷ q) e in
@@ -101,22 +100,22 @@ arranged-stands _ _ (first k order xs h r) (suc i) l =
 
 -- the first of an order is none of the others
 head-other :
-    (k : ℕ) (order xs : List ℕ) → k < length xs → Rising xs → Arranges order (without k xs) → (i : ℕ) → i < length order
+    (k : ℕ) (order xs : List ℕ) → k < length xs → Ascending xs → Arranges order (without k xs) → (i : ℕ) → i < length order
     → getD xs k 0 ≡ getD order i 0 → ⊥
 head-other k order xs h r a i l e =
     let (q, u, f) = arranged-stands order (without k xs) a i l in
     let p : getD xs (stood k q) 0 ≡ getD xs k 0 = sym (without-at k xs q) ∙ f ∙ sym e in
-    stood-other k q (rising-once xs r (stood k q) k (omega (arith, stood-most k q, without-length k xs h)) h p)
+    stood-other k q (ascending-once xs r (stood k q) k (omega (arith, stood-most k q, without-length k xs h)) h p)
 
 arranged-once :
-    (order xs : List ℕ) → Arranges order xs → Rising xs → (i j : ℕ) → i < length order → j < length order
+    (order xs : List ℕ) → Arranges order xs → Ascending xs → (i j : ℕ) → i < length order → j < length order
     → getD order i 0 ≡ getD order j 0 → i ≡ j
 arranged-once _ _ none r i j hi hj e = absurd (omega arith)
 arranged-once _ _ (first k order xs h a) r zero zero hi hj e = refl
 arranged-once _ _ (first k order xs h a) r zero (suc j) hi hj e = absurd (head-other k order xs h r a j (omega arith) e)
 arranged-once _ _ (first k order xs h a) r (suc i) zero hi hj e = absurd (head-other k order xs h r a i (omega arith) (sym e))
 arranged-once _ _ (first k order xs h a) r (suc i) (suc j) hi hj e =
-    ap suc (arranged-once order (without k xs) a (without-rises k xs h r) i j (omega arith) (omega arith) e)
+    ap suc (arranged-once order (without k xs) a (without-ascends k xs h r) i j (omega arith) (omega arith) e)
 
 pub only-orders : (n i : ℕ) → i < factorial n → IsOrder n (orderAt n i)
 only-orders n i h =
@@ -129,7 +128,7 @@ only-orders n i h =
           let (q, u, e) = arranged-stands (orderAt n i) (positions n) a j (omega arith) in
           let k : q < n = subst (λ (p : ℕ). q < p) (positions-length n 0) u in
           omega (arith, e, positions-at n 0 q k);
-      once = λ j k hj hk e. arranged-once (orderAt n i) (positions n) a (positions-rise n) j k (omega arith) (omega arith) e;
+      once = λ j k hj hk e. arranged-once (orderAt n i) (positions n) a (positions-ascend n) j k (omega arith) (omega arith) e;
     }
 
 -- The orders ascend.
@@ -142,8 +141,8 @@ before-same : (a b : ℕ) (xs ys : List ℕ) → a ≡ b → Before xs ys → Be
 before-same a b xs ys e w = subst (λ (c : ℕ). Before (a ∷ xs) (c ∷ ys)) e (later a xs ys w)
 
 picked-before :
-    (n : ℕ) (xs : List ℕ) → length xs ≡ n → Rising xs → (i j : ℕ) → i < j → j < factorial n → Before (picked n xs i) (picked n xs j)
-unfolding picked Rising
+    (n : ℕ) (xs : List ℕ) → length xs ≡ n → Ascending xs → (i j : ℕ) → i < j → j < factorial n → Before (picked n xs i) (picked n xs j)
+unfolding picked Ascending
 picked-before zero xs e r i j l h = absurd (omega (arith, factorial-zero))
 picked-before (suc n) xs e r i j l h =
     let f : ℕ = factorial n in
@@ -155,7 +154,7 @@ picked-before (suc n) xs e r i j l h =
     let q : i / f ≡ j / f = omega (arith, ltb-false (i / f) (j / f) t) in
     let k : j / f < length xs = rw e dj in
     let s : i % f < j % f = omega (arith, div-add-mod' i f, div-add-mod' j f, ap (λ (x : ℕ). x * f) q) in
-    let w = picked-before n (without (j / f) xs) (omega (arith, without-length (j / f) xs k)) (without-rises (j / f) xs k r) (i % f) (j % f) s (mod-lt j (factorial-some n)) in
+    let w = picked-before n (without (j / f) xs) (omega (arith, without-length (j / f) xs k)) (without-ascends (j / f) xs k r) (i % f) (j % f) s (mod-lt j (factorial-some n)) in
     before-same (getD xs (i / f) 0) (getD xs (j / f) 0) _ _ (ap (λ (x : ℕ). getD xs x 0) q)
     (subst (λ (x : ℕ). Before (picked n (without x xs) (i % f)) (picked n (without (j / f) xs) (j % f))) (sym q) w))
 
@@ -163,7 +162,7 @@ pub orders-ascend : (n i j : ℕ) → i < j → j < factorial n → Before (orde
 orders-ascend n i j l h =
     subst (λ (o : List ℕ). Before o (orderAt n j)) (sym (order-picked n i (omega arith)))
     (subst (λ (o : List ℕ). Before (picked n (positions n) i) o) (sym (order-picked n j h))
-    (picked-before n (positions n) (positions-length n 0) (positions-rise n) i j l h))
+    (picked-before n (positions n) (positions-length n 0) (positions-ascend n) i j l h))
 
 -- no order stands before one that stands before it
 before-not : (xs ys : List ℕ) → Before xs ys → Before ys xs → ⊥
@@ -172,37 +171,24 @@ before-not _ _ (here a b xs ys l) (later _ _ _ w) = omega arith
 before-not _ _ (later a xs ys v) (here _ _ _ _ m) = omega arith
 before-not _ _ (later a xs ys v) (later _ _ _ w) = before-not xs ys v w
 
+before-itself : (xs : List ℕ) → Before xs xs → ⊥
+before-itself xs w = before-not xs xs w w
+
 -- so an order that stands before another has the lower number
 pub before-lower : (n i j : ℕ) → i < factorial n → j < factorial n → Before (orderAt n i) (orderAt n j) → i < j
 before-lower n i j h k w =
-    byBool (ltb i j)
-    (λ t. ltb-true i j t)
-    (λ t.
-    byBool (ltb j i)
-    (λ u. absurd (before-not (orderAt n i) (orderAt n j) w (orders-ascend n j i (ltb-true j i u) h)))
-    (λ u.
-    let e : i ≡ j = omega (arith, ltb-false i j t, ltb-false j i u) in
-    let v : Before (orderAt n j) (orderAt n j) = subst (λ (q : ℕ). Before (orderAt n q) (orderAt n j)) e w in
-    absurd (before-not (orderAt n j) (orderAt n j) v v)))
+    byOrder i j
+    (λ l. l)
+    (λ g. absurd (before-not (orderAt n i) (orderAt n j) w (orders-ascend n j i g h)))
+    (λ e. absurd (before-itself (orderAt n j) (subst (λ (q : ℕ). Before (orderAt n q) (orderAt n j)) e w)))
 
 -- and each order has one number
 pub orders-once : (n i j : ℕ) → i < factorial n → j < factorial n → orderAt n i ≡ orderAt n j → i ≡ j
 orders-once n i j h k e =
-    byBool (ltb i j)
-    (λ t. absurd (same (orders-ascend n i j (ltb-true i j t) k)))
-    (λ t.
-    byBool (ltb j i)
-    (λ u. absurd (same′ (orders-ascend n j i (ltb-true j i u) h)))
-    (λ u. omega (arith, ltb-false i j t, ltb-false j i u)))
-  where
-    itself : (xs : List ℕ) → Before xs xs → ⊥
-    itself xs w = before-not xs xs w w
-
-    same : Before (orderAt n i) (orderAt n j) → ⊥
-    same w = itself (orderAt n j) (subst (λ (o : List ℕ). Before o (orderAt n j)) e w)
-
-    same′ : Before (orderAt n j) (orderAt n i) → ⊥
-    same′ w = itself (orderAt n j) (subst (λ (o : List ℕ). Before (orderAt n j) o) e w)
+    byOrder i j
+    (λ l. absurd (before-itself (orderAt n j) (subst (λ (o : List ℕ). Before o (orderAt n j)) e (orders-ascend n i j l k))))
+    (λ g. absurd (before-itself (orderAt n j) (subst (λ (o : List ℕ). Before (orderAt n j) o) e (orders-ascend n j i g h))))
+    (λ d. d)
 
 -- Sums over an order.
 

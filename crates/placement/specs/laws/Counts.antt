@@ -1,7 +1,7 @@
 -- Large-framed objects, one by one, and the floor under them. Assumes nothing.
 use Prim.Native.Nat.{ℕ, suc, _+_, _*_, _/_, _^_, _≤_, _<_}
 use mathlib.Core.Path.{_≡_, refl, sym, ap, _∙_}
-use mathlib.Core.Bool.{true, false}
+use mathlib.Core.Bool.{Bool, true, false}
 use mathlib.Core.List.{List, [], _∷_}
 use native.Mathlib.Nat.{add-zero, lt-div-mul-add, div-mul-le-self}
 use native.Mathlib.Omega.{arith}
@@ -10,6 +10,7 @@ use lib.Dec.{leb, ltb}
 use lib.Pow.{pow-pos}
 use borrow.Author.Tests.{leb-true, ltb-true, eqb-true, eqb-false, le-leb}
 use Rattle.frame.specs.Frame.{sameFrame}
+use Rattle.frame.specs.Pointers.{bit}
 use Rattle.frame.specs.Tags.{wrapper, lastHeld}
 use Rattle.frame.specs.laws.Wrappers.{wrapper-iff}
 use Rattle.block.specs.laws.Booleans.{byBool}
@@ -30,11 +31,10 @@ large-here s h size e =
     (λ t. absurd (eqb-false (h / 2 ^ s) (lastHeld h size / 2 ^ s) e (wrapper-iff s h size .0 (leb-true (wrapper h size) s t))))
     (λ t. rw t)
 
-pub large-most : (s h size : ℕ) → largeAt s h size ≤ 1
-large-most s h size = byBool (leb (wrapper h size) s) (λ t. rw t (omega arith)) (λ t. rw t (omega arith))
-
-pub oversized-most : (s size : ℕ) → oversized s size ≤ 1
-oversized-most s size = byBool (ltb (2 ^ s) (17 + size)) (λ t. rw t (omega arith)) (λ t. rw t (omega arith))
+-- it counts once at most
+pub bit-most : (b : Bool) → bit b ≤ 1
+bit-most true = omega arith
+bit-most false = omega arith
 
 -- one that no slot holds is large-framed wherever it stands
 oversized-large : (s h size : ℕ) → oversized s size ≤ largeAt s h size

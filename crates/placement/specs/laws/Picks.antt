@@ -1,8 +1,8 @@
--- Orders by their numbers: the order tried as number i is picked by the digits of i. Assumes nothing.
-use Prim.Native.Nat.{ℕ, zero, suc, _+_, _-_, _*_, _/_, _%_, _≤_, _<_}
+-- Orders by their numbers: the order tried as number i is picked by the digits of i in the factorial number system. Assumes nothing.
+use Prim.Native.Nat.{ℕ, zero, suc, _+_, _-_, _*_, _/_, _%_, _<_}
 use mathlib.Core.Path.{_≡_, refl, sym, ap, _∙_}
 use mathlib.Core.List.{List, [], _∷_, _++_, map}
-use native.Mathlib.Nat.{suc-mul, mod-lt, zero-div, zero-mod, div-eq-of-lt-le, mod-eq-sub-div-mul, div-lt-iff-lt-mul}
+use native.Mathlib.Nat.{suc-mul, mod-lt, div-eq-of-lt-le, mod-eq-sub-div-mul, div-lt-iff-lt-mul}
 use native.Mathlib.Numerals.{add-one}
 use native.Mathlib.Omega.{arith}
 use lib.ListN.{length, getD, length-append, length-map, List·getD-append}
@@ -11,7 +11,7 @@ use lib.Seq.{getD-append-add}
 use borrow.Author.Tests.{ltb-true, ltb-false}
 use Rattle.block.specs.laws.Booleans.{byBool}
 use Rattle.placement.specs.Orders.{positions, without, startingWith, ordersOf, orders, orderAt, factorial}
-use Rattle.placement.specs.laws.Positions.{positions-length, Agree, agree-without}
+use Rattle.placement.specs.laws.Positions.{Agree, agree-without}
 
 pub factorial-some : (n : ℕ) → 0 < factorial n
 unfolding factorial
@@ -61,7 +61,7 @@ module _ (rest : ℕ → List (List ℕ)) (xs : List ℕ) (b : ℕ) (even : (k :
       ∙ ap (λ (j : ℕ). getD xs k 0 ∷ getD (rest k) j []) (sym m)
       ∙ ap (λ (q : ℕ). getD xs q 0 ∷ getD (rest q) (i % b) []) (sym d))
 
-pub orders-length : (n : ℕ) (xs : List ℕ) → length (ordersOf n xs) ≡ factorial n
+orders-length : (n : ℕ) (xs : List ℕ) → length (ordersOf n xs) ≡ factorial n
 unfolding ordersOf factorial
 orders-length zero xs = refl
 orders-length (suc n) xs = starting-length (λ k. ordersOf n (without k xs)) xs (factorial n) (λ k. orders-length n (without k xs)) (suc n)

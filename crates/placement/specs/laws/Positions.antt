@@ -10,6 +10,13 @@ use borrow.Author.Tests.{ltb-true, ltb-false}
 use Rattle.block.specs.laws.Booleans.{byBool}
 use Rattle.placement.specs.Orders.{positionsFrom, positions, without}
 
+-- by which of two numbers is the lower
+pub byOrder : {P : Type 0} (a b : ℕ) → (a < b → P) → (b < a → P) → (a ≡ b → P) → P
+byOrder a b l g e =
+    byBool (ltb a b)
+    (λ t. l (ltb-true a b t))
+    (λ t. byBool (ltb b a) (λ u. g (ltb-true b a u)) (λ u. e (omega (arith, ltb-false a b t, ltb-false b a u))))
+
 -- The positions of n objects.
 
 pub positions-length : (n from : ℕ) → length (positionsFrom n from) ≡ n
@@ -63,9 +70,9 @@ stood-other k m =
     (λ t. rw t (λ e. omega (arith, ltb-true m k t)))
     (λ t. rw t (λ e. omega (arith, ltb-false m k t)))
 
-stood-rises : (k a b : ℕ) → a < b → stood k a < stood k b
+stood-ascends : (k a b : ℕ) → a < b → stood k a < stood k b
 unfolding stood
-stood-rises k a b l =
+stood-ascends k a b l =
     byBool (ltb a k)
     (λ t. byBool (ltb b k) (λ u. rw (t, u) l) (λ u. rw (t, u) (omega arith)))
     (λ t. byBool (ltb b k) (λ u. absurd (omega (arith, ltb-false a k t, ltb-true b k u))) (λ u. rw (t, u) (omega arith)))
@@ -75,7 +82,9 @@ unfolding stood
 stood-most k m = byBool (ltb m k) (λ t. rw t (omega arith)) (λ t. rw t (omega arith))
 
 -- every element but element k stands in it
-pub stands-without : (k m : ℕ) (xs : List ℕ) → k < length xs → m < length xs → (m ≡ k → ⊥) → (q : ℕ) × (q < length (without k xs)) × (getD (without k xs) q 0 ≡ getD xs m 0)
+pub stands-without :
+    (k m : ℕ) (xs : List ℕ) → k < length xs → m < length xs → (m ≡ k → ⊥)
+    → (q : ℕ) × (q < length (without k xs)) × (getD (without k xs) q 0 ≡ getD xs m 0)
 stands-without k zero xs h l n = (0, omega (arith, without-length k xs h), without-below k xs 0 (omega arith))
 stands-without k (suc m) xs h l n =
     byBool (ltb (suc m) k)
@@ -84,31 +93,26 @@ stands-without k (suc m) xs h l n =
 
 -- Ascending lists.
 
-unfoldable pub Rising : List ℕ → Type 0
-Rising xs = (a b : ℕ) → a < b → b < length xs → getD xs a 0 < getD xs b 0
+unfoldable pub Ascending : List ℕ → Type 0
+Ascending xs = (a b : ℕ) → a < b → b < length xs → getD xs a 0 < getD xs b 0
 
-pub positions-rise : (n : ℕ) → Rising (positions n)
-unfolding Rising
-positions-rise n a b l h =
+pub positions-ascend : (n : ℕ) → Ascending (positions n)
+unfolding Ascending
+positions-ascend n a b l h =
     let k : b < n = rw (positions-length n 0) at h in
     omega (arith, positions-at n 0 a (omega arith), positions-at n 0 b k)
 
-pub without-rises : (k : ℕ) (xs : List ℕ) → k < length xs → Rising xs → Rising (without k xs)
-unfolding Rising
-without-rises k xs h r a b l m =
+pub without-ascends : (k : ℕ) (xs : List ℕ) → k < length xs → Ascending xs → Ascending (without k xs)
+unfolding Ascending
+without-ascends k xs h r a b l m =
     rw (without-at k xs a, without-at k xs b)
-    (r (stood k a) (stood k b) (stood-rises k a b l) (omega (arith, stood-most k b, without-length k xs h)))
+    (r (stood k a) (stood k b) (stood-ascends k a b l) (omega (arith, stood-most k b, without-length k xs h)))
 
 -- different places of an ascending list hold different numbers
-pub rising-once : (xs : List ℕ) → Rising xs → (a b : ℕ) → a < length xs → b < length xs → getD xs a 0 ≡ getD xs b 0 → a ≡ b
-unfolding Rising
-rising-once xs r a b h k e =
-    byBool (ltb a b)
-    (λ t. absurd (omega (arith, r a b (ltb-true a b t) k)))
-    (λ t.
-    byBool (ltb b a)
-    (λ u. absurd (omega (arith, r b a (ltb-true b a u) h)))
-    (λ u. omega (arith, ltb-false a b t, ltb-false b a u)))
+pub ascending-once : (xs : List ℕ) → Ascending xs → (a b : ℕ) → a < length xs → b < length xs → getD xs a 0 ≡ getD xs b 0 → a ≡ b
+unfolding Ascending
+ascending-once xs r a b h k e =
+    byOrder a b (λ l. absurd (omega (arith, r a b l k))) (λ g. absurd (omega (arith, r b a g h))) (λ d. d)
 
 -- Lists that begin alike.
 

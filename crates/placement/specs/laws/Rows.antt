@@ -1,21 +1,23 @@
 -- Row 26 test by test, the ways out of the search, and its order as bytes. Assumes nothing.
 use Prim.Native.Nat.{ℕ, zero, suc, _+_, _-_, _≤_, _<_, min}
-use mathlib.Core.Path.{_≡_, refl, sym, ap, _∙_, subst}
+use mathlib.Core.Path.{_≡_, sym, ap, _∙_, subst}
 use mathlib.Core.Bool.{true, false, _&&_}
 use mathlib.Core.List.{List, [], _∷_, _++_}
 use native.Mathlib.Omega.{arith}
-use lib.ListN.{length, getD, take, length-take, replicate, List·getD-eq-default}
+use lib.ListN.{length, getD, take, length-take, replicate}
 use lib.Dec.{leb, ltb}
 use lib.Seq.{getD-take}
-use borrow.Author.Tests.{ltb-true, ltb-false, leb-true, lt-ltb, le-ltb, le-leb, lt-leb, leb-false}
+use borrow.Author.Tests.{ltb-true, ltb-false, leb-true, lt-ltb, le-ltb, le-leb, leb-false}
 use Rattle.block.specs.Bytes.{Bytes}
 use Rattle.block.specs.Layout.{within, goodExponent}
-use Rattle.block.specs.laws.Booleans.{byBool, and-left, and-right, refuted}
+use Rattle.block.specs.laws.Booleans.{byBool, and-left, and-right}
+use Rattle.placement.specs.declared.answer.Best.{Best}
 use Rattle.placement.specs.Orders.{orders, orderAt, factorial}
-use Rattle.placement.specs.Placement.{goodSizes, goodPlan, large, bestOrder, found, eightPlaces, refused, placement}
+use Rattle.placement.specs.Placement.{goodSizes, goodPlan, large, firstLeast, bestOrder, found, refused, placement}
 use Rattle.placement.specs.laws.Picks.{factorial-some, all-orders}
 use Rattle.placement.specs.laws.Arrangements.{only-orders}
-use Rattle.placement.specs.laws.Least.{IsFirstLeast, first-least}
+use Rattle.placement.specs.laws.Least.{first-least}
+use Rattle.placement.specs.laws.Packed.{below-bytes}
 
 -- A plan.
 
@@ -99,11 +101,38 @@ tried-length n budget = length-take budget (orders n) ∙ ap (λ (k : ℕ). min 
 pub tried-at : (n budget i : ℕ) → i < min budget (factorial n) → getD (take budget (orders n)) i [] ≡ orderAt n i
 tried-at n budget i h = getD-take budget (orders n) i [] (omega arith)
 
--- the best of them
-pub best-is : (s : ℕ) (sizes : List ℕ) (budget : ℕ) → 0 < budget → IsFirstLeast (large s sizes) (take budget (orders (length sizes))) (bestOrder s sizes budget)
+-- the best of them, by its number: none of them has fewer, and those before it have more
+pub record BestAt (s : ℕ) (sizes : List ℕ) (budget : ℕ) : Type 0 where
+  pub index : ℕ
+  pub was-tried : index < min budget (factorial (length sizes))
+  pub is : bestOrder s sizes budget ≡ orderAt (length sizes) index
+  pub none-fewer :
+      (i : ℕ) → i < min budget (factorial (length sizes)) → large s sizes (bestOrder s sizes budget) ≤ large s sizes (orderAt (length sizes) i)
+  pub first : (i : ℕ) → i < index → large s sizes (bestOrder s sizes budget) < large s sizes (orderAt (length sizes) i)
+
+pub best-at : (s : ℕ) (sizes : List ℕ) (budget : ℕ) → 0 < budget → BestAt s sizes budget
 unfolding bestOrder
-best-is s sizes budget h =
-    first-least (large s sizes) (take budget (orders (length sizes))) (omega (arith, tried-length (length sizes) budget, factorial-some (length sizes)))
+best-at s sizes budget h =
+    let n : ℕ = length sizes in
+    let tried : List (List ℕ) = take budget (orders n) in
+    let b = first-least (large s sizes) tried (omega (arith, tried-length n budget, factorial-some n)) in
+    let l : b .index < min budget (factorial n) = subst (λ (m : ℕ). b .index < m) (tried-length n budget) (b .inside) in
+    record {
+      index = b .index;
+      was-tried = l;
+      is = sym (b .is) ∙ tried-at n budget (b .index) l;
+      none-fewer = λ i m.
+          subst (λ (o : List ℕ). large s sizes (firstLeast (large s sizes) tried) ≤ large s sizes o) (tried-at n budget i m)
+          (b .least i (subst (λ (k : ℕ). i < k) (sym (tried-length n budget)) m));
+      first = λ i m.
+          subst (λ (o : List ℕ). large s sizes (firstLeast (large s sizes) tried) < large s sizes o) (tried-at n budget i (omega arith)) (b .first i m);
+    }
+
+-- what the search over so many orders gives: the best one's number, and its large-framed objects
+pub record BestFound (s : ℕ) (sizes : List ℕ) (tried : ℕ) (best : Best) : Type 0 where
+  pub was-tried : best .index < tried
+  pub order-is : orderAt (length sizes) (best .index) ≡ bestOrder s sizes tried
+  pub large-is : best .large ≡ large s sizes (bestOrder s sizes tried)
 
 -- Every place of the answer is a byte.
 
@@ -117,22 +146,16 @@ append-bytes [] ys a b k = b k
 append-bytes (x ∷ xs) ys a b zero = a zero
 append-bytes (x ∷ xs) ys a b (suc k) = append-bytes xs ys (λ m. a (suc m)) b k
 
-order-bytes : (n i : ℕ) → n ≤ 8 → i < factorial n → Bytes (orderAt n i)
-order-bytes n i h l k =
-    let o = only-orders n i l in
-    byBool (ltb k n)
-    (λ t. omega (arith, o .below k (ltb-true k n t)))
-    (λ t. rw (List·getD-eq-default (orderAt n i) 0 {n = k} (omega (arith, o .length-is, ltb-false k n t))) (omega arith))
-
 found-bytes : (s : ℕ) (sizes : List ℕ) (budget : ℕ) → goodPlan s sizes ≡ true → 0 < budget → Bytes (found s sizes budget .order)
 unfolding found
 found-bytes s sizes budget g h =
-    let n : ℕ = length sizes in
-    let b = best-is s sizes budget h in
-    let l : b .index < min budget (factorial n) = subst (λ (m : ℕ). b .index < m) (tried-length n budget) (b .inside) in
-    let e : orderAt n (b .index) ≡ bestOrder s sizes budget = sym (tried-at n budget (b .index) l) ∙ b .is in
-    let bytes : Bytes (bestOrder s sizes budget) = subst Bytes e (order-bytes n (b .index) (planned s sizes g .few) (omega arith)) in
-    append-bytes (bestOrder s sizes budget) (replicate (8 - length (bestOrder s sizes budget)) 0) bytes (zeros-bytes (8 - length (bestOrder s sizes budget)))
+    let best : List ℕ = bestOrder s sizes budget in
+    let b = best-at s sizes budget h in
+    let o = only-orders (length sizes) (b .index) (omega (arith, b .was-tried)) in
+    let bytes : Bytes best =
+    subst Bytes (sym (b .is))
+    (below-bytes (orderAt (length sizes) (b .index)) (λ k l. omega (arith, o .below k (omega (arith, o .length-is)), planned s sizes g .few))) in
+    append-bytes best (replicate (8 - length best) 0) bytes (zeros-bytes (8 - length best))
 
 pub placement-bytes : (s : ℕ) (sizes : List ℕ) (budget : ℕ) → Bytes (placement s sizes budget .order)
 placement-bytes s sizes budget = by (verdict s sizes budget)

@@ -50,7 +50,7 @@ search-requires c κs =
 order-at-requires : tie.Need-order-at-requires
 order-at-requires c κs =
     let l = at-lesser c in
-    (planned _ _ (good (at-else l .before)) .few, omega (arith, c .search .ensures .0, tries l))
+    (planned _ _ (good (at-else l .before)) .few, omega (arith, c .search .ensures .was-tried, tries l))
 
 -- the parts of what is found
 makes : (s : ℕ) (sizes : List ℕ) (budget : ℕ) (order : List ℕ) (count tried floor : ℕ) → order ≡ eightPlaces (bestOrder s sizes budget)
@@ -66,8 +66,8 @@ returns-3 c =
     let l = at-lesser found-at in
     let e = at-else l in
     let best = best-lesser _ _ _ _ (tries l) in
-    makes _ _ _ _ _ _ _ (c .before .order-at .ensures ∙ ap eightPlaces (found-at .search .ensures .1 ∙ best))
-    (found-at .search .ensures .2 ∙ ap (large _ _) best) (tries l) (c .floor-of .ensures)
+    makes _ _ _ _ _ _ _ (c .before .order-at .ensures ∙ ap eightPlaces (found-at .search .ensures .order-is ∙ best))
+    (found-at .search .ensures .large-is ∙ ap (large _ _) best) (tries l) (c .floor-of .ensures)
     ∙ sym (placement-found _ _ _ (good (e .before)) (some e))
 
 pub order-spec : {M : Type 1} → statement M

@@ -1,7 +1,7 @@
 -- `placement::search::search`. Invariant: the best so far and the orders that are left have the first best of all that are tried (`Searching`). Measure: the
 -- orders that are left. Assumes nothing.
 use Prim.Native.Nat.{_-_}
-use mathlib.Core.Path.{_≡_, ap, _∙_}
+use mathlib.Core.Path.{ap, _∙_}
 use mathlib.Core.Logic.{⊎-elim}
 use native.Mathlib.Omega.{arith}
 use Rattle.placement.specs.Placement.{large}
@@ -34,7 +34,7 @@ returns : tie.Need-returns Inv-loop μ-loop
 returns c =
     let now = c .before .loop .inv in
     let is = searching-ends _ _ _ now (c .before .before .before .before .pre .2) (c .loop-test .left) in
-    (omega (arith, now .was-tried, now .inside), is, now .least-is ∙ ap (large _ _) is)
+    record { was-tried = omega (arith, now .was-tried, now .inside); order-is = is; large-is = now .least-is ∙ ap (large _ _) is }
 
 pub search-spec : {M : Type 1} → statement M
 search-spec =
