@@ -7,9 +7,8 @@ use native.Mathlib.Nat.{zero-add, suc-add, sub-zero, mod-lt}
 use native.Mathlib.Numerals.{add-one}
 use native.Mathlib.Omega.{arith}
 use lib.ListN.{length, getD, set, drop, replicate}
-use lib.Dec.{leb}
 use lib.Seq.{sets, sets-eq}
-use Rattle.frame.specs.Tags.{wrapper}
+use Rattle.frame.specs.Tags.{isSmall}
 use Rattle.block.specs.Bytes.{decode, Bytes}
 use Rattle.placement.specs.Orders.{positions, without, orderAt, factorial}
 use Rattle.placement.specs.Placement.{goodPlan, largeAt, largeFrom, large, eightPlaces}
@@ -175,7 +174,7 @@ turn s sizes i {count} {h} {rest} {left} {j} g now l f is =
       low = omega (arith, now .near, w .few);
       next = λ size one e c.
           record {
-            most = omega (arith, now .most, bit-most (not (leb (wrapper h size) s)));
+            most = omega (arith, now .most, bit-most (not (isSmall s h size)));
             near = omega (arith, now .near, in-range);
             picking = goes-on (length sizes) (w .few) (now .picking) l f is (Counting s sizes i (count + one) (h + 16 + size)) (step size one e c);
           };

@@ -1,4 +1,5 @@
--- The orders of n objects are all of them, each once, lexicographically: an order is a list whose elements are picked one by one. Assumes nothing.
+-- The orders of n objects are all of them, each once, lexicographically: an order is a list whose elements are picked one by one. In order: every order arranges
+-- the positions; so each has a number; what a number picks is an order; higher numbers stand behind lower ones; sums over an order. Assumes nothing.
 use Prim.Native.Nat.{ℕ, zero, suc, _+_, _-_, _*_, _/_, _%_, _≤_, _<_}
 use mathlib.Core.Path.{_≡_, refl, sym, ap, _∙_, subst}
 use mathlib.Core.List.{List, [], _∷_}
