@@ -5,7 +5,6 @@ use crate::print::NUMBER;
 use crate::print::heading;
 use crate::run::Call;
 use crate::run::Run;
-use placement::Placement;
 
 // Flag and tag number of the object of 10 bytes, whose header is at 16 and whose body is at 32.
 const TEN: u64 = 0x8010_0000_0000_0000;
@@ -383,96 +382,29 @@ pub fn types(run: Run) -> Run {
     run.has_type(78, TEN | 32, 1, 25, 0)
 }
 
-// Sizes of three load buffers.
-const BUFFERS: [u32; 9] = [40000, 20000, 12000, 0, 0, 0, 0, 0, 0];
-
-// An answer with an order.
-fn found(order: [u64; 8], large: u64, tried: u64, floor: u64) -> Placement {
-    Placement {
-        row: 0,
-        order,
-        large,
-        tried,
-        floor,
-    }
-}
-
-// A refusal.
-fn none(row: u32) -> Placement {
-    Placement {
-        row,
-        order: [0; 8],
-        large: 0,
-        tried: 0,
-        floor: 0,
-    }
-}
-
 // Orders of three load buffers, by budget; refusal 27.
 pub fn orders(run: Run) -> Run {
     heading(b"Cases: an order with few large frames, of 40000, 20000 and 12000 bytes with s = 15");
-    let run = run.order(BUFFERS, 3, 15, 6, found([1, 2, 0, 0, 0, 0, 0, 0], 1, 6, 1));
-    let run = run.order(BUFFERS, 3, 15, 3, found([0, 1, 2, 0, 0, 0, 0, 0], 2, 3, 1));
-    let run = run.order(BUFFERS, 3, 15, 4, found([1, 2, 0, 0, 0, 0, 0, 0], 1, 4, 1));
-    let run = run.order(
-        BUFFERS,
-        3,
-        15,
-        18446744073709551615,
-        found([1, 2, 0, 0, 0, 0, 0, 0], 1, 6, 1),
-    );
-    run.order(BUFFERS, 3, 15, 0, none(27))
+    let run = run.order(0, 3, 15, 6, 0, 0x201, 1, 6, 1);
+    let run = run.order(0, 3, 15, 3, 0, 0x2_0100, 2, 3, 1);
+    let run = run.order(0, 3, 15, 4, 0, 0x201, 1, 4, 1);
+    let run = run.order(0, 3, 15, 18446744073709551615, 0, 0x201, 1, 6, 1);
+    run.order(0, 3, 15, 0, 27, 0, 0, 0, 0)
 }
 
 // The ends of a slot, the last order of all, and eight sizes; refusal 26 in each way.
 pub fn other_orders(run: Run) -> Run {
     heading(b"Cases: an order with few large frames, of other sizes with s = 6");
-    let run = run.order(
-        [31, 0, 0, 0, 0, 0, 0, 0, 0],
-        1,
-        6,
-        1,
-        found([0, 0, 0, 0, 0, 0, 0, 0], 0, 1, 0),
-    );
-    let run = run.order(
-        [32, 0, 0, 0, 0, 0, 0, 0, 0],
-        1,
-        6,
-        1,
-        found([0, 0, 0, 0, 0, 0, 0, 0], 1, 1, 0),
-    );
-    let run = run.order(
-        [48, 0, 0, 0, 0, 0, 0, 0, 0],
-        1,
-        6,
-        1,
-        found([0, 0, 0, 0, 0, 0, 0, 0], 1, 1, 1),
-    );
-    let run = run.order(
-        [15, 179, 40, 268, 10, 0, 0, 0, 0],
-        5,
-        6,
-        120,
-        found([4, 3, 2, 1, 0, 0, 0, 0], 2, 120, 2),
-    );
-    let run = run.order(
-        [15, 179, 40, 268, 10, 0, 0, 0, 0],
-        5,
-        6,
-        119,
-        found([0, 1, 2, 3, 4, 0, 0, 0], 3, 119, 2),
-    );
-    let run = run.order(
-        [65, 220, 0, 90, 47, 12, 200, 31, 0],
-        8,
-        6,
-        40320,
-        found([2, 1, 5, 6, 4, 0, 7, 3], 4, 40320, 4),
-    );
-    let run = run.order([1, 1, 1, 1, 1, 1, 1, 1, 1], 9, 6, 1, none(26));
-    let run = run.order([0, 0, 0, 0, 0, 0, 0, 0, 0], 0, 6, 1, none(26));
-    let run = run.order([1, 65536, 0, 0, 0, 0, 0, 0, 0], 2, 6, 1, none(26));
-    let run = run.order([1, 0, 0, 0, 0, 0, 0, 0, 0], 1, 5, 1, none(26));
-    let run = run.order([1, 0, 0, 0, 0, 0, 0, 0, 0], 1, 16, 1, none(26));
-    run.order([0, 0, 0, 0, 0, 0, 0, 0, 0], 0, 6, 0, none(26))
+    let run = run.order(3, 1, 6, 1, 0, 0, 0, 1, 0);
+    let run = run.order(4, 1, 6, 1, 0, 0, 1, 1, 0);
+    let run = run.order(5, 1, 6, 1, 0, 0, 1, 1, 1);
+    let run = run.order(6, 5, 6, 120, 0, 0x102_0304, 2, 120, 2);
+    let run = run.order(6, 5, 6, 119, 0, 0x4_0302_0100, 3, 119, 2);
+    let run = run.order(11, 8, 6, 40320, 0, 0x0307_0004_0605_0102, 4, 40320, 4);
+    let run = run.order(3, 9, 6, 1, 26, 0, 0, 0, 0);
+    let run = run.order(3, 0, 6, 1, 26, 0, 0, 0, 0);
+    let run = run.order(18, 2, 6, 1, 26, 0, 0, 0, 0);
+    let run = run.order(3, 1, 5, 1, 26, 0, 0, 0, 0);
+    let run = run.order(3, 1, 16, 1, 26, 0, 0, 0, 0);
+    run.order(3, 0, 6, 0, 26, 0, 0, 0, 0)
 }

@@ -1,4 +1,6 @@
 // The calls of the store, each with its line and the answer that docs/FORMAT.md gives for it: the returned number, and the value.
+ghost use Prim.Native.Nat.{ℕ, _<_};
+ghost use lib.ListN.{getD};
 use crate::print::YES;
 use crate::print::answer;
 use crate::print::ends;
@@ -136,24 +138,43 @@ fn recorded(t: Traffic, number: u32, state: u64, written: u64) -> bool {
     }
 }
 
-// Searches for an order of the first so many sizes; of all where it asks for more.
-fn searched(sizes: &[u32], count: usize, s: u32, budget: u64) -> Placement {
-    if sizes.len() < count {
-        return placement::order(sizes, s, budget);
-    }
-    placement::order(&sizes[..count], s, budget)
-}
+// Sizes of load buffers: three, one each of 31, 32 and 48 bytes, five, eight, and one that is too large.
+const SIZES: [u32; 20] = [
+    40000,
+    20000,
+    12000,
+    31,
+    32,
+    48,
+    15,
+    179,
+    40,
+    268,
+    10,
+    65,
+    220,
+    0,
+    90,
+    47,
+    12,
+    200,
+    31,
+    65536,
+];
 
-// Whether two orders are the same, place by place.
-fn same_order(a: [u64; 8], b: [u64; 8]) -> bool {
-    let mut i = 0;
-    while i < 8 {
-        if a[i] != b[i] {
-            return false;
-        }
-        i += 1;
+// Searches for an order of so many sizes from there on; of none where there are not as many. Each place of the order is a byte.
+fn searched(from: usize, count: usize, s: u32, budget: u64) -> Placement
+    ensures { λ r. ⌜ ((k : ℕ) → getD (r .order) k 0 < 256) ⌝ }
+{
+    let sizes = SIZES;
+    if sizes.len() < from {
+        return placement::order(&sizes[..0], s, budget);
     }
-    true
+    if sizes.len() - from < count {
+        return placement::order(&sizes[..0], s, budget);
+    }
+    let end = from + count;
+    placement::order(&sizes[from..end], s, budget)
 }
 
 // Image and table, of which the first `bytes` and `entries` are lent; the last answer; how many calls were made, and how many answered as
@@ -257,26 +278,29 @@ impl Run {
         self.count(recorded(t, number, state, written))
     }
 
-    // Order, of the first so many sizes: the returned number, and the answer's four values.
+    // Order, of so many sizes from there on: the returned number, the order as a number, large-framed objects, orders tried and floor.
     pub fn order(
         self,
-        sizes: [u32; 9],
+        from: usize,
         count: usize,
         s: u32,
         budget: u64,
-        expected: Placement,
+        number: u32,
+        word: u64,
+        large: u64,
+        tried: u64,
+        floor: u64,
     ) -> Run {
-        let p = searched(&sizes, count, s, budget);
-        let found = p.order;
-        let wanted = expected.order;
+        let p = searched(from, count, s, budget);
+        let found = p.order_word();
         label(self.made);
         placed(p, count);
         self.count(
-            p.row == expected.row
-                && same_order(found, wanted)
-                && p.large == expected.large
-                && p.tried == expected.tried
-                && p.floor == expected.floor,
+            p.row == number
+                && found == word
+                && p.large == large
+                && p.tried == tried
+                && p.floor == floor,
         )
     }
 
