@@ -115,17 +115,22 @@ computed :
 unfolding frameNumberIn frameNumber wrapper positionsFrom without startingWith ordersOf orders factorial goodSizes goodPlan largeFrom floorOf leastFrom firstLeast bestOrder found placement
 computed = (refl, refl, refl, refl, refl)
 
--- Of the orders: there are n!, each has one number, and lower numbers stand before higher ones. Of the rows: each by its condition alone, and a refusal gives
--- zeros. Of the three buffers: one is large-framed in the best order, and none has fewer, by the search and by the floor; every order before it has more. Of the first three
--- orders one is given, and none has fewer than its 2.
+-- Of the orders: there are n!, each is one and has one number, and lower numbers stand before higher ones. Of the rows: each comes by its condition alone, and a
+-- refusal gives zeros. No tried order has fewer than the answer, with all tried no order has, and none is under the floor. Of the three buffers: one is large-framed in
+-- the best order, and none has fewer; every order before it has more. Of the first three orders one is given, and none has fewer than its 2.
 pub claimed : TriesAll → RefusesInOrder → FindsFirstBest → NoneFewerAtAll → NoneUnderFloor
     → ((n : ℕ) → length (orders n) ≡ factorial n)
+    × ((n i : ℕ) → i < factorial n → IsOrder n (orderAt n i))
     × ((n : ℕ) (order : List ℕ) → IsOrder n order → (i : ℕ) × (i < factorial n) × (orderAt n i ≡ order))
     × ((n i j : ℕ) → i < factorial n → j < factorial n → orderAt n i ≡ orderAt n j → i ≡ j)
     × ((n i j : ℕ) → i < j → j < factorial n → Before (orderAt n i) (orderAt n j))
     × ((s : ℕ) (sizes : List ℕ) (budget : ℕ) → BadPlan s sizes → placement s sizes budget ≡ refused 26)
     × ((s : ℕ) (sizes : List ℕ) → (BadPlan s sizes → ⊥) → placement s sizes 0 ≡ refused 27)
     × ((s : ℕ) (sizes : List ℕ) (budget : ℕ) → (BadPlan s sizes → ⊥) → 0 < budget → placement s sizes budget .row ≡ 0)
+    × ((s : ℕ) (sizes : List ℕ) (budget : ℕ) → placement s sizes budget .row ≡ 0 → (i : ℕ) → i < placement s sizes budget .tried
+    → placement s sizes budget .large ≤ large s sizes (orderAt (length sizes) i))
+    × ((s : ℕ) (sizes : List ℕ) (budget : ℕ) → placement s sizes budget .row ≡ 0 → placement s sizes budget .tried ≡ factorial (length sizes)
+    → (order : List ℕ) → IsOrder (length sizes) order → placement s sizes budget .large ≤ large s sizes order)
     × (BadPlan 15 buffers → ⊥)
     × (min 6 (factorial 3) ≡ 6) × (large 15 buffers best ≡ 1) × (floorOf 15 buffers ≡ 1)
     × ((order : List ℕ) → IsOrder 3 order → 1 ≤ large 15 buffers order)
@@ -148,12 +153,15 @@ claimed tries refuses finds none-fewer none-under =
     let zeros : (s : ℕ) (sizes : List ℕ) (budget r : ℕ) → placement s sizes budget .row ≡ r → 0 < r → placement s sizes budget ≡ refused r = λ s sizes budget r e h.
     refuses s sizes budget .zeros (λ z. omega (arith, e, z)) ∙ ap refused e in (
       (λ n. tries n .number),
+      (λ n. tries n .only),
       (λ n. tries n .every),
       (λ n. tries n .once),
       (λ n. tries n .ascending),
       (λ s sizes budget bad. zeros s sizes budget 26 (refuses s sizes budget .bad-plan .1 bad) (omega arith)),
       (λ s sizes good. zeros s sizes 0 27 (refuses s sizes 0 .no-budget .1 (good, refl)) (omega arith)),
       (λ s sizes budget good some. refuses s sizes budget .accepted .1 (good, some)),
+      (λ s sizes budget e. finds s sizes budget e .none-fewer),
+      none-fewer,
       refuses 15 buffers 6 .accepted .0 row .0,
       sym (b .tried-is) ∙ tried,
       sym (b .large-is ∙ ap (large 15 buffers) is-best) ∙ least,

@@ -31,7 +31,7 @@ unfoldable pub largeFrom : ℕ → List ℕ → ℕ → List ℕ → ℕ
 largeFrom s sizes h [] = 0
 largeFrom s sizes h (k ∷ order) = let size : ℕ = getD sizes k 0 in largeAt s h size + largeFrom s sizes (lastHeld h size) order
 
--- from address 16 on
+-- the large-framed objects of an order, the first header at address 16
 abbrev pub large : ℕ → List ℕ → List ℕ → ℕ
 large s sizes order = largeFrom s sizes 16 order
 
@@ -62,7 +62,7 @@ bestOrder s sizes budget = firstLeast (large s sizes) (take budget (orders (leng
 abbrev pub eightPlaces : List ℕ → List ℕ
 eightPlaces order = order ++ replicate (8 - length order) 0
 
--- what is found
+-- what is found for a good plan and a budget
 unfoldable pub found : ℕ → List ℕ → ℕ → Placement
 found s sizes budget =
     record {
