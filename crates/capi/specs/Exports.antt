@@ -12,6 +12,7 @@ use Rattle.store.specs.declared.measuring.Measurement.the-variants as measureme
 use Rattle.store.specs.declared.counting.Usage.{Usage}
 use Rattle.placement.specs.Placement.{orderWord}
 use Rattle.placement.specs.declared.answer.Placement.{Placement}
+use Rattle.overhead.specs.declared.answer.Report.{Report}
 use Rattle.workload.specs.Traffic.{trafficNumber, stateAfter, bytesWritten, LoggedOutcome, logged}
 use Rattle.workload.specs.declared.answer.Traffic.{Traffic}
 use Rattle.workload.specs.declared.answer.Traffic.the-variants as answer
@@ -157,3 +158,44 @@ pub order-seen :
     let o : Ordered = exportedPlacement p in
     (o .returned ≡ 1) × (o .order ≡ orderWord p) × (o .large ≡ 2) × (o .tried ≡ 3) × (o .floor ≡ 4)
 order-seen = (refl, refl, refl, refl, refl)
+
+-- What the export of overhead returns and gives: every value is 0 where it is refused.
+pub record Reported : Type 0 where
+  pub returned : ℕ
+  pub raw : ℕ
+  pub headed : ℕ
+  pub padded : ℕ
+  pub end : ℕ
+  pub headers-extra : ℕ
+  pub headers-over : ℕ
+  pub padded-extra : ℕ
+  pub padded-over : ℕ
+
+-- made of a returned number, four sums and two fractions
+abbrev pub reported : ℕ → ℕ → ℕ → ℕ → ℕ → ℕ → ℕ → ℕ → ℕ → Reported
+reported r raw headed padded end headers-extra headers-over padded-extra padded-over =
+    record {
+      returned = r;
+      raw = raw;
+      headed = headed;
+      padded = padded;
+      end = end;
+      headers-extra = headers-extra;
+      headers-over = headers-over;
+      padded-extra = padded-extra;
+      padded-over = padded-over;
+    }
+
+-- what C sees of the report
+abbrev pub exportedReport : Report → Reported
+exportedReport r =
+    reported (r .row) (r .raw) (r .headed) (r .padded) (r .end) (r .headers .extra) (r .headers .over) (r .padding .extra) (r .padding .over)
+
+-- each part of a report in its place
+pub report-seen :
+    let r : Report =
+    record { row = 1; raw = 2; headed = 3; padded = 4; end = 5; headers = record { extra = 6; over = 7 }; padding = record { extra = 8; over = 9 } } in
+    let l : Reported = exportedReport r in
+    (l .returned ≡ 1) × (l .raw ≡ 2) × (l .headed ≡ 3) × (l .padded ≡ 4) × (l .end ≡ 5) × (l .headers-extra ≡ 6) × (l .headers-over ≡ 7)
+    × (l .padded-extra ≡ 8) × (l .padded-over ≡ 9)
+report-seen = (refl, refl, refl, refl, refl, refl, refl, refl, refl)

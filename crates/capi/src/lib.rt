@@ -5,7 +5,8 @@ ghost use Rattle.store.specs.State.{state};
 ghost use Rattle.store.specs.Calls.{setUp, allocate, allocateFor, move, load, store, free, fill, copy, compare, copyText, releaseCue, freeTotal, tally, distances, hasType};
 ghost use Rattle.workload.specs.Traffic.{traffic};
 ghost use Rattle.placement.specs.Placement.{placement};
-ghost use Rattle.capi.specs.Exports.{left, leftBy, export, exported, answered, exportedAnswer, compared, exportedComparison, measured, exportedDistances, tallied, exportedUsage, loggedExport, exportedTraffic, ordered, exportedPlacement};
+ghost use Rattle.overhead.specs.Overhead.{report};
+ghost use Rattle.capi.specs.Exports.{left, leftBy, export, exported, answered, exportedAnswer, compared, exportedComparison, measured, exportedDistances, tallied, exportedUsage, loggedExport, exportedTraffic, ordered, exportedPlacement, reported, exportedReport};
 use store::Measurement;
 use store::Usage;
 use workload::Traffic;
@@ -308,4 +309,31 @@ pub extern "C" fn cue_order(
     *tried = p.tried;
     *floor = p.floor;
     p.row
+}
+
+// The report of the sizes: raw bytes go to `raw`, those with headers to `headed`, padded ones to `padded`, the end of padded blocks to `end`; then the two overheads.
+#[no_mangle]
+pub extern "C" fn cue_overhead(
+    sizes: &[u32],
+    raw: &mut u64,
+    headed: &mut u64,
+    padded: &mut u64,
+    end: &mut u64,
+    headers_extra: &mut u64,
+    headers_over: &mut u64,
+    padded_extra: &mut u64,
+    padded_over: &mut u64,
+) -> u32
+    ensures { λ r. ⌜ reported r (now (raw .exit)) (now (headed .exit)) (now (padded .exit)) (now (end .exit)) (now («headers_extra» .exit)) (now («headers_over» .exit)) (now («padded_extra» .exit)) (now («padded_over» .exit)) ≡ exportedReport (report (now (sizes .entry))) ⌝ }
+{
+    let r = overhead::report(sizes);
+    *raw = r.raw;
+    *headed = r.headed;
+    *padded = r.padded;
+    *end = r.end;
+    *headers_extra = r.headers.extra;
+    *headers_over = r.headers.over;
+    *padded_extra = r.padding.extra;
+    *padded_over = r.padding.over;
+    r.row
 }

@@ -5,6 +5,9 @@ use crate::print::NUMBER;
 use crate::print::heading;
 use crate::run::Call;
 use crate::run::Run;
+use crate::run::longest;
+use crate::run::sized;
+use crate::run::too_long;
 
 // Flag and tag number of the object of 10 bytes, whose header is at 16 and whose body is at 32.
 const TEN: u64 = 0x8010_0000_0000_0000;
@@ -407,4 +410,31 @@ pub fn other_orders(run: Run) -> Run {
     let run = run.order(3, 1, 5, 1, 26, 0, 0, 0, 0);
     let run = run.order(3, 1, 16, 1, 26, 0, 0, 0, 0);
     run.order(3, 0, 6, 0, 26, 0, 0, 0, 0)
+}
+
+// Overheads: none, of five load buffers, at the ends of each rule, and of the longest list; refusals 28 and 29.
+pub fn overheads(run: Run) -> Run {
+    heading(b"Cases: overhead of headers and of padded blocks, each over raw bytes");
+    let run = run.overhead(sized(0, 0), 0, 0, 0, 0, 0, 0, 0, 1);
+    let run = run.overhead(sized(0, 5), 0, 1160, 1240, 1232, 2048, 80, 72, 1160);
+    let run = run.overhead(sized(5, 1), 0, 1, 17, 16, 16, 16, 15, 1);
+    let run = run.overhead(sized(6, 1), 0, 16, 32, 16, 16, 16, 0, 16);
+    let run = run.overhead(sized(7, 1), 0, 17, 33, 32, 32, 16, 15, 17);
+    let run = run.overhead(sized(8, 1), 0, 65536, 65552, 65536, 65536, 16, 0, 65536);
+    let run = run.overhead(sized(9, 2), 0, 65537, 65569, 65552, 131072, 32, 15, 65537);
+    let run = run.overhead(
+        longest(65536),
+        0,
+        4294967296,
+        4296015872,
+        4294967296,
+        4294967296,
+        1048576,
+        0,
+        4294967296,
+    );
+    let run = run.overhead(too_long(1), 28, 0, 0, 0, 0, 0, 0, 0);
+    let run = run.overhead(too_long(0), 28, 0, 0, 0, 0, 0, 0, 0);
+    let run = run.overhead(sized(10, 2), 29, 0, 0, 0, 0, 0, 0, 0);
+    run.overhead(sized(12, 1), 29, 0, 0, 0, 0, 0, 0, 0)
 }

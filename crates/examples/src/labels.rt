@@ -1,5 +1,5 @@
 // The first column of each call's line: 32 places, in the order of the calls.
-pub const LABELS: [u8; 6976] = *b"set up                          \
+pub const LABELS: [u8; 7360] = *b"set up                          \
 10 bytes                        \
 20 bytes                        \
 32 bytes                        \
@@ -216,4 +216,16 @@ no size                         \
 a size of 65536                 \
 s = 5                           \
 s = 16                          \
-no size and no order            ";
+no size and no order            \
+no size                         \
+10, 20, 30, 100 and 1000 bytes  \
+1 byte                          \
+16 bytes                        \
+17 bytes                        \
+65536 bytes                     \
+1 and 65536 bytes               \
+65536 sizes of 65536 bytes      \
+65537 sizes of 1 byte           \
+65537 sizes of 0 bytes          \
+65536 bytes, and a size of 0    \
+a size of 65537                 ";

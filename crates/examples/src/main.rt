@@ -32,6 +32,7 @@ fn main() {
     let run = cases::totals(cases::cues(run));
     let run = cases::loads(cases::damaged(cases::spare_totals(run)));
     let run = cases::other_orders(cases::orders(cases::types(run)));
+    let run = cases::overheads(run);
     text(b"\n");
     decimal(run.made);
     text(b" calls, ");

@@ -1,6 +1,8 @@
 // What the program writes.
 use crate::labels::LABELS;
 use libc::STDOUT_FILENO;
+use overhead::Fraction;
+use overhead::Report;
 use placement::Placement;
 use store::Answer;
 use store::Comparison;
@@ -44,7 +46,7 @@ pub fn heading(t: &[u8]) {
 // The label of the call with this number, 0 the first.
 pub fn label(call: u64) {
     text(b"  ");
-    if call < 218 {
+    if call < 230 {
         let at = 32 * call as usize;
         let end = at + 32;
         text(&LABELS[at..end]);
@@ -52,7 +54,7 @@ pub fn label(call: u64) {
 }
 
 // Why a call was declined, by its number; 17 to 19 are a call log's.
-const REASONS: [u8; 1008] = *b"no reason known                     \
+const REASONS: [u8; 1080] = *b"no reason known                     \
 slot exponent outside 6 to 15       \
 image length outside 64 to 2^30     \
 table too short to set up           \
@@ -79,7 +81,9 @@ log has no space for the next record\
 bad type descriptor                 \
 object not described                \
 sizes or slot exponent out of range \
-budget of orders is 0               ";
+budget of orders is 0               \
+more than 65,536 sizes              \
+size outside 1 to 65,536            ";
 
 // Text without the blanks at its end.
 fn trimmed(t: &[u8]) {
@@ -98,7 +102,7 @@ fn refused(number: u32) {
     text(b"refused ");
     decimal(number as u64);
     text(b": ");
-    if number < 28 {
+    if number < 30 {
         let at = 36 * number as usize;
         let end = at + 36;
         trimmed(&REASONS[at..end]);
@@ -179,6 +183,33 @@ pub fn placed(p: Placement, count: usize) {
         decimal(p.tried);
         text(b", floor ");
         decimal(p.floor);
+    }
+}
+
+// A fraction, as it is.
+fn over(f: Fraction) {
+    decimal(f.extra);
+    text(b"/");
+    decimal(f.over);
+}
+
+// The answer of a report.
+pub fn reported(r: Report) {
+    if r.row != 0 {
+        refused(r.row);
+    } else {
+        text(b"raw ");
+        decimal(r.raw);
+        text(b", headed ");
+        decimal(r.headed);
+        text(b", padded ");
+        decimal(r.padded);
+        text(b", end ");
+        decimal(r.end);
+        text(b", overheads ");
+        over(r.headers);
+        text(b" and ");
+        over(r.padding);
     }
 }
 

@@ -8,8 +8,10 @@ use crate::print::label;
 use crate::print::load;
 use crate::print::order;
 use crate::print::placed;
+use crate::print::reported;
 use crate::print::text;
 use crate::print::usage;
+use overhead::Report;
 use placement::Placement;
 use std::num::wrapping_add_u64;
 use store::Answer;
@@ -18,7 +20,7 @@ use store::Refusal;
 use store::Usage;
 use workload::Traffic;
 
-// The calls but compare, distances, has type, order, tally and traffic, each with its arguments.
+// The calls but compare, distances, has type, order, overhead, tally and traffic, each with its arguments.
 pub enum Call {
     // Slot exponent.
     SetUp(u32),
@@ -177,6 +179,34 @@ fn searched(from: usize, count: usize, s: u32, budget: u64) -> Placement
     placement::order(&sizes[from..end], s, budget)
 }
 
+// Sizes to report on: of five load buffers, at the ends of each rule, and two out of range.
+const REPORTED: [u32; 13] = [10, 20, 30, 100, 1000, 1, 16, 17, 65536, 1, 65536, 0, 65537];
+
+// The report on so many of these sizes from there on; on none where there are not as many.
+pub fn sized(from: usize, count: usize) -> Report {
+    let sizes = REPORTED;
+    if sizes.len() < from {
+        return overhead::report(&sizes[..0]);
+    }
+    if sizes.len() - from < count {
+        return overhead::report(&sizes[..0]);
+    }
+    let end = from + count;
+    overhead::report(&sizes[from..end])
+}
+
+// The report on the longest list, of one size throughout.
+pub fn longest(size: u32) -> Report {
+    let sizes: [u32; 65536] = [size; 65536];
+    overhead::report(&sizes)
+}
+
+// The report on a list of one more.
+pub fn too_long(size: u32) -> Report {
+    let sizes: [u32; 65537] = [size; 65537];
+    overhead::report(&sizes)
+}
+
 // Image and table, of which the first `bytes` and `entries` are lent; the last answer; how many calls were made, and how many answered as
 // expected.
 pub struct Run {
@@ -301,6 +331,34 @@ impl Run {
                 && p.large == large
                 && p.tried == tried
                 && p.floor == floor,
+        )
+    }
+
+    // A report: the returned number, the sums, the extra bytes of headers and of padding, and what they are over.
+    pub fn overhead(
+        self,
+        r: Report,
+        number: u32,
+        raw: u64,
+        headed: u64,
+        padded: u64,
+        end: u64,
+        headers: u64,
+        padding: u64,
+        over: u64,
+    ) -> Run {
+        label(self.made);
+        reported(r);
+        self.count(
+            r.row == number
+                && r.raw == raw
+                && r.headed == headed
+                && r.padded == padded
+                && r.end == end
+                && r.headers.extra == headers
+                && r.headers.over == over
+                && r.padding.extra == padding
+                && r.padding.over == over,
         )
     }
 

@@ -1,0 +1,8 @@
+-- definitions
+pub mod Overhead
+-- claims
+pub mod Claims
+-- worked examples
+pub mod Examples
+-- laws
+pub mod laws
