@@ -24,7 +24,7 @@
  *   and then follows one field of each record that it enters. Each type, each field's type and each type entered is looked up
  *   by a walk from the list's start, 1.5 ns or so on a PC for each descriptor passed: 16 types, each a field of the next, take
  *   0.3 microseconds, 1,000 take 2 ms, and 65,536 take 10 s. Order grows with the orders that it tries and with the sizes: all
- *   40,320 orders of eight take 1.2 ms on a PC.
+ *   40,320 orders of eight take 1.2 ms on a PC. Overhead grows with the sizes: 65,536 take 0.2 ms.
  * - Stack, in bytes at most: the return address and all below it, without memmove and memset.
  *     cue_setup         48    cue_load     176    cue_copy        208
  *     cue_allocate     112    cue_store    176    cue_compare     224
@@ -32,6 +32,7 @@
  *     cue_move           8    cue_release  112    cue_tally        64
  *     cue_distances    160    cue_fill     160    cue_free_total    8
  *     cue_traffic      928    cue_has_type     208    cue_order    176
+ *     cue_overhead      64
  *   cue_has_type takes 32 more for each further type that it enters: the object's type is the first, that of a field in it the
  *   second. There are at most as many as descriptors in the list: 65,536 types, each a field of the next, take 2 MiB.
  *
@@ -49,9 +50,9 @@ extern "C" {
 #endif
 
 #define CUE_VERSION_MAJOR 1
-#define CUE_VERSION_MINOR 10
+#define CUE_VERSION_MINOR 11
 #define CUE_VERSION_PATCH 0
-#define CUE_VERSION "1.10.0"
+#define CUE_VERSION "1.11.0"
 
 /* 17 to 19 are a call log's (docs/FORMAT.md): the program replay prints them, and no function returns them. */
 enum cue_refusal {
@@ -79,7 +80,9 @@ enum cue_refusal {
     CUE_BAD_DESCRIPTOR = 24, /* has type: a descriptor of the list is bad: see cue_has_type */
     CUE_UNDESCRIBED = 25,    /* has type: the object's type is not listed, or described with more bytes than the object has */
     CUE_BAD_PLAN = 26,       /* order: not 1 to 8 sizes, a size above 65535, or a slot exponent outside 6..15 */
-    CUE_NO_BUDGET = 27       /* order: the budget of orders is 0 */
+    CUE_NO_BUDGET = 27,      /* order: the budget of orders is 0 */
+    CUE_TOO_MANY_SIZES = 28, /* overhead: more than 65,536 sizes */
+    CUE_BAD_SIZE = 29        /* overhead: a size outside 1..65,536 */
 };
 
 /* A returned number as text. */
@@ -111,6 +114,8 @@ static inline const char *cue_reason(uint32_t number)
     case CUE_UNDESCRIBED: return "object not described";
     case CUE_BAD_PLAN: return "sizes or slot exponent out of range";
     case CUE_NO_BUDGET: return "budget of orders is 0";
+    case CUE_TOO_MANY_SIZES: return "more than 65,536 sizes";
+    case CUE_BAD_SIZE: return "size outside 1 to 65,536";
     default: return "no refusal has this number";
     }
 }
@@ -256,6 +261,17 @@ uint32_t cue_traffic(uint8_t *image, size_t image_len, uint64_t *table, size_t t
  * many are large-framed wherever they stand, those with 17 + size > 2^s: no order has fewer, tried or not.
  * Refusals, in order: 26 (no size or more than 8, a size above 65535, or a slot exponent outside 6..15), 27 (budget 0). */
 uint32_t cue_order(const uint32_t *sizes, size_t count, uint32_t slot_exponent, uint64_t budget, uint64_t *order, uint64_t *large, uint64_t *tried, uint64_t *floor);
+
+/* What objects of these sizes take with this store's headers, and what they take in the padded blocks of baggy bounds, for
+ * those who compare the two. No image is read.
+ * raw is the sum of the sizes; with_headers has 16 bytes more for each. padded is the sum of the padded blocks: each is the
+ * lowest power of two not under the size, with a least block of 16 bytes. end is where the last of them ends when they go, in
+ * the list's order from 0, each to the lowest multiple of its own padded size not before the previous end: the gaps are
+ * end - padded bytes. Both overheads are fractions left unreduced: headers_extra, with_headers - raw, over headers_over, and
+ * padded_extra, padded - raw without the gaps, over padded_over. What they are over is raw; for an empty list, whose sums are
+ * all 0, it is 1. raw, padded and end are at most 2^32, with_headers at most 2^32 + 2^20.
+ * Refusals, in order: 28 (more than 65,536 sizes), 29 (a size outside 1..65,536). */
+uint32_t cue_overhead(const uint32_t *sizes, size_t count, uint64_t *raw, uint64_t *with_headers, uint64_t *padded, uint64_t *end, uint64_t *headers_extra, uint64_t *headers_over, uint64_t *padded_extra, uint64_t *padded_over);
 
 #ifdef __cplusplus
 }

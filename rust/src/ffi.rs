@@ -65,4 +65,16 @@ extern "C" {
         tried: *mut u64,
         floor: *mut u64,
     ) -> u32;
+    pub fn cue_overhead(
+        sizes: *const u32,
+        count: usize,
+        raw: *mut u64,
+        with_headers: *mut u64,
+        padded: *mut u64,
+        end: *mut u64,
+        headers_extra: *mut u64,
+        headers_over: *mut u64,
+        padded_extra: *mut u64,
+        padded_over: *mut u64,
+    ) -> u32;
 }

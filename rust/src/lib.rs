@@ -34,6 +34,7 @@
 mod blocks;
 pub mod descriptor;
 pub mod ffi;
+mod overhead;
 mod placement;
 mod pointer;
 mod refusal;
@@ -41,6 +42,7 @@ mod store;
 mod width;
 
 pub use blocks::{Block, Blocks, Kind, UnsoundHeader};
+pub use overhead::{Fraction, Overhead};
 pub use placement::Placement;
 pub use pointer::Pointer;
 pub use refusal::Refusal;

@@ -68,11 +68,15 @@ pub enum Refusal {
     BadPlan = 26,
     /// 27, order: the budget of orders is 0.
     NoBudget = 27,
+    /// 28, overhead: there are more than 65,536 sizes.
+    TooManySizes = 28,
+    /// 29, overhead: a size is outside 1..=65,536.
+    BadSize = 29,
 }
 
 impl Refusal {
     /// Every refusal, in the order of its number.
-    pub const ALL: [Refusal; 23] = [
+    pub const ALL: [Refusal; 25] = [
         Refusal::BadExponent,
         Refusal::BadLength,
         Refusal::TooFewEntries,
@@ -96,9 +100,11 @@ impl Refusal {
         Refusal::Undescribed,
         Refusal::BadPlan,
         Refusal::NoBudget,
+        Refusal::TooManySizes,
+        Refusal::BadSize,
     ];
 
-    /// The number that the exports return: 1 to 16, 20 to 22, or 24 to 27. 17 to 19 are a call log's, and 23 is no refusal here but
+    /// The number that the exports return: 1 to 16, 20 to 22, or 24 to 29. 17 to 19 are a call log's, and 23 is no refusal here but
     /// [`Traffic::full`](crate::Traffic::full): what was recorded stands, and a refused call has changed nothing.
     ///
     /// ```
@@ -122,7 +128,7 @@ impl Refusal {
         let place = match number {
             1..=16 => number - 1,
             20..=22 => number - 4,
-            24..=27 => number - 5,
+            24..=29 => number - 5,
             _ => return None,
         };
         Some(Self::ALL[place as usize])
@@ -159,6 +165,8 @@ impl Refusal {
             Refusal::Undescribed => "object not described",
             Refusal::BadPlan => "sizes or slot exponent out of range",
             Refusal::NoBudget => "budget of orders is 0",
+            Refusal::TooManySizes => "more than 65,536 sizes",
+            Refusal::BadSize => "size outside 1 to 65,536",
         }
     }
 }
