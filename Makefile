@@ -2,7 +2,7 @@
 SHELL = bash
 .SHELLFLAGS = -euo pipefail -c
 .DELETE_ON_ERROR:
-.PHONY: run replay log_is_named traffic test lib bench install clean help
+.PHONY: run replay log_is_named traffic report sizes_are_named test lib bench install clean help
 
 PREFIX = /usr/local
 DESTDIR =
@@ -22,7 +22,7 @@ run:
 	}
 	@target/bin/examples
 
-# proving is told on standard error: standard output has the answers alone, or the log
+# proving is told on standard error: standard output has the answers alone, the log or the report
 replay: log_is_named target/bin/replay
 	@target/bin/replay <"$$LOG"
 
@@ -33,6 +33,12 @@ traffic: export STATE := $(STATE)
 traffic: export DRAWS := $(DRAWS)
 traffic: target/bin/traffic
 	@target/bin/traffic "$$STATE" "$$DRAWS"
+
+report: sizes_are_named $(archive)
+	@cargo run --offline --locked --release --quiet --manifest-path rust/Cargo.toml --example overhead -- "$$SIZES"
+
+sizes_are_named:
+	@[ -n "$${SIZES:-}" ] || { echo 'usage: make report SIZES=file' >&2; exit 2; }
 
 $(programs): target/bin/%: $(sources)
 	@echo 'Proving the store and the program `$*`: a few minutes the first time, seconds afterwards.' >&2
@@ -45,8 +51,8 @@ test:
 lib: $(archive)
 
 $(archive): $(sources)
-	@echo 'Proving the exports: a few minutes the first time, seconds afterwards.'
-	@.ci/prove staticlib capi
+	@echo 'Proving the exports: a few minutes the first time, seconds afterwards.' >&2
+	@.ci/prove staticlib capi >&2
 
 bench: $(archive) target/bin/replay
 	@cd bench && cargo run --offline --release --quiet
@@ -70,6 +76,7 @@ help:
 	@echo 'make run      prove the store, then run its main job, the program `examples`'
 	@echo 'make replay   make the calls of the log LOG=file again, and print their answers'
 	@echo 'make traffic  write the log of a repeatable load, from STATE=$(STATE), of DRAWS=$(DRAWS)'
+	@echo 'make report   the overheads of headers and of padded blocks, over the sizes in SIZES=file'
 	@echo 'make test     all tests: .ci/run, which ends in `N passed, 0 failed`'
 	@echo 'make lib      prove the exports and write $(archive), for C and Rust'
 	@echo 'make bench    measure the library and `replay` against models in Rust'
