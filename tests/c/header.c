@@ -91,16 +91,34 @@ static void expect_order(size_t from, size_t count, uint32_t s, uint64_t budget,
     }
 }
 
+/* the four sums, then extra and over twice; all are 0 where it is refused */
+static void expect_overhead(const uint32_t *list, size_t count, uint32_t wanted, const uint64_t values[8])
+{
+    uint64_t got[8] = {2, 2, 2, 2, 2, 2, 2, 2};
+    int i;
+
+    expect("overhead", cue_overhead(list, count, &got[0], &got[1], &got[2], &got[3], &got[4], &got[5], &got[6], &got[7]), wanted);
+    for (i = 0; i < 8; i++)
+        if (got[i] != values[i]) {
+            printf("overhead of %lu sizes: value %d is %lu, not %lu\n", (unsigned long)count, i, (unsigned long)got[i], (unsigned long)values[i]);
+            failures++;
+        }
+}
+
 /* 17 to 19 are a call log's */
 static int returned(uint32_t number)
 {
-    return number <= CUE_TOO_LARGE || (number >= CUE_UNTERMINATED && number <= CUE_NO_BUDGET);
+    return number <= CUE_TOO_LARGE || (number >= CUE_UNTERMINATED && number <= CUE_BAD_SIZE);
 }
 
 int main(void)
 {
     static const uint64_t none[4] = {0, 0, 0, 0}, first[4] = {0x020100, 2, 1, 1}, best[4] = {0x010200, 1, 6, 1};
     static const uint64_t alone[4] = {0, 1, 1, 1}, eight[4] = {UINT64_C(0x0706050403020100), 6, 1, 4};
+    static const uint64_t refused[8] = {0}, empty[8] = {0, 0, 0, 0, 0, 1, 0, 1}, largest[8] = {65535, 65551, 65536, 65536, 16, 65535, 1, 65535};
+    static const uint64_t three[8] = {124, 172, 176, 256, 48, 124, 52, 124}; /* blocks of 16, 32 and 128 bytes */
+    static const uint64_t full[8] = {65536, 1114112, 1048576, 1048576, 1048576, 65536, 983040, 65536};
+    static uint32_t ones[65537];
     static const size_t lengths[] = {64, 127, 128, 129, 4095, 4096, 4097, LONGEST - 1, LONGEST};
     uint32_t s, number, other;
     uint64_t pointer;
@@ -155,8 +173,20 @@ int main(void)
     expect_order(0, 3, 16, 0, CUE_BAD_PLAN, none);
     expect_order(0, 3, 6, 0, CUE_NO_BUDGET, none);
 
+    for (i = 0; i < 65537; i++)
+        ones[i] = 1;
+    expect_overhead(sizes, 0, CUE_ACCEPTED, empty);
+    expect_overhead(sizes, 3, CUE_ACCEPTED, three);
+    expect_overhead(sizes + 3, 1, CUE_ACCEPTED, largest);
+    expect_overhead(ones, 65536, CUE_ACCEPTED, full);
+    expect_overhead(ones, 65537, CUE_TOO_MANY_SIZES, refused);
+    expect_overhead(sizes, 5, CUE_BAD_SIZE, refused);
+    ones[0] = 65537;
+    expect_overhead(ones, 65536, CUE_BAD_SIZE, refused);
+    expect_overhead(ones, 65537, CUE_TOO_MANY_SIZES, refused);
+
     /* a reason of its own for each number, and one for all that no call returns */
-    for (number = CUE_ACCEPTED; number <= CUE_NO_BUDGET + 1; number++)
+    for (number = CUE_ACCEPTED; number <= CUE_BAD_SIZE + 1; number++)
         for (other = CUE_ACCEPTED; other < number; other++)
             if ((strcmp(cue_reason(number), cue_reason(other)) == 0) != (!returned(number) && !returned(other))) {
                 printf("%u and %u: \"%s\" and \"%s\"\n", (unsigned)other, (unsigned)number, cue_reason(other), cue_reason(number));

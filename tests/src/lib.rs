@@ -6,7 +6,8 @@
 //! `shrink` shortens one that fails; `driver` puts them together. `distances` says what a pointer's distances have to do with other
 //! calls' answers, `empties` which pointers lead to objects of no bytes, `totals` has the limits of the free total, `single_pass` is
 //! another model of release, `commuting` tries two frees or releases in either order, `log` the call log, `traffic` the repeatable load,
-//! `casts` the type check before a cast and `orders` the order with few large frames, each with its own model, generator and counters.
+//! `casts` the type check before a cast, `orders` the order with few large frames and `overheads` the overhead report, each with its own
+//! model, generator and counters.
 
 pub mod case;
 pub mod casts;
@@ -20,6 +21,7 @@ pub mod library;
 pub mod log;
 pub mod model;
 pub mod orders;
+pub mod overheads;
 pub mod random;
 pub mod seen;
 pub mod shrink;

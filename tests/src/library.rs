@@ -1,10 +1,12 @@
-//! The library as a `Store`, as `Traffic`, as `Casts` and as `Orders`, through the Rust wrapper and through the exports themselves.
+//! The library as a `Store`, as `Traffic`, as `Casts`, as `Orders` and as `Overheads`, through the Rust wrapper and through the exports
+//! themselves.
 
 use crate::casts::Casts;
 use crate::orders::Orders;
+use crate::overheads::{self, Overheads};
 use crate::store::{Answer, Call, Store, VALUES};
 use crate::traffic::{Asked, Traffic, FULL};
-use cueledger::{ffi, Placement, Pointer, Refusal, Width};
+use cueledger::{ffi, Overhead, Placement, Pointer, Refusal, Width};
 
 /// Through the crate `cueledger`.
 #[derive(Clone, Copy)]
@@ -61,6 +63,15 @@ impl Orders for Library {
     fn order(&self, sizes: &mut [u32], slot_exponent: u32, budget: u64) -> Answer {
         let found = Placement::find(sizes, slot_exponent, budget);
         found.map(|Placement { order, large, tried, floor }| [u64::from_le_bytes(order), large, tried, floor]).map_err(Refusal::number).into()
+    }
+}
+
+impl Overheads for Library {
+    fn overhead(&self, sizes: &mut [u32]) -> overheads::Answer {
+        let values = |Overhead { raw, with_headers, padded, end, headers, padding }| {
+            [raw, with_headers, padded, end, headers.extra, headers.over, padding.extra, padding.over]
+        };
+        Overhead::of(sizes).map(values).map_err(Refusal::number).into()
     }
 }
 
@@ -155,5 +166,52 @@ impl Orders for Exports {
         // SAFETY: the slice is valid and borrowed mutably for the call; the values are locals.
         let refusal = unsafe { ffi::cue_order(sizes.as_mut_ptr(), sizes.len(), slot_exponent, budget, &mut order, &mut large, &mut tried, &mut floor) };
         Answer::new(refusal, [order, large, tried, floor])
+    }
+}
+
+/// Values that stand between others, which no call may write.
+struct Between([u64; 2 * overheads::VALUES + 1]);
+
+impl Between {
+    fn new() -> Between {
+        Between([STALE; 2 * overheads::VALUES + 1])
+    }
+
+    fn lent(&mut self) -> [*mut u64; overheads::VALUES] {
+        let first = self.0.as_mut_ptr();
+        std::array::from_fn(|nth| first.wrapping_add(2 * nth + 1))
+    }
+
+    fn values(&self) -> [u64; overheads::VALUES] {
+        assert!(self.0.iter().step_by(2).all(|&other| other == STALE), "written beside the values: {:x?}", self.0);
+        std::array::from_fn(|nth| self.0[2 * nth + 1])
+    }
+}
+
+impl Overheads for Exports {
+    fn overhead(&self, sizes: &mut [u32]) -> overheads::Answer {
+        let mut between = Between::new();
+        let [raw, with_headers, padded, end, headers_extra, headers_over, padded_extra, padded_over] = between.lent();
+        // SAFETY: the slice is valid and borrowed mutably for the call; the values are a local's, each another one.
+        let refusal = unsafe {
+            let (first, count) = (sizes.as_mut_ptr(), sizes.len());
+            ffi::cue_overhead(first, count, raw, with_headers, padded, end, headers_extra, headers_over, padded_extra, padded_over)
+        };
+        overheads::Answer::new(refusal, between.values())
+    }
+}
+
+#[cfg(test)]
+mod tests {
+    use super::*;
+
+    #[test]
+    fn writes_beside_the_values_are_seen() {
+        for at in 0..2 * overheads::VALUES + 1 {
+            let mut between = Between::new();
+            between.0[at] = 1;
+            let seen = std::panic::catch_unwind(|| between.values());
+            assert_eq!(seen.is_err(), at % 2 == 0, "{at}");
+        }
     }
 }

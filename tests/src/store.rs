@@ -7,7 +7,7 @@ use std::fmt;
 /// The last row of the refusal table: the highest number that a call answers.
 pub const ROWS: usize = Refusal::ALL[Refusal::ALL.len() - 1] as usize;
 
-/// The most values that a call answers: tally's.
+/// The most values that a call on a store answers: tally's.
 pub const VALUES: usize = 4;
 
 #[derive(Clone, Copy, Debug, PartialEq, Eq)]
@@ -97,15 +97,15 @@ impl<P: Copy> Call<P> {
 /// What a call answers: the refusal's number, 0 where it is accepted, and its values, 0 where it has none. A negative one
 /// stands in two's complement.
 #[derive(Clone, Copy, Debug, PartialEq, Eq)]
-pub struct Answer {
+pub struct Answer<const N: usize = VALUES> {
     pub refusal: u32,
-    pub values: [u64; VALUES],
+    pub values: [u64; N],
 }
 
-impl Answer {
-    pub fn new<const N: usize>(refusal: u32, given: [u64; N]) -> Answer {
-        let mut values = [0; VALUES];
-        values[..N].copy_from_slice(&given);
+impl<const N: usize> Answer<N> {
+    pub fn new<const GIVEN: usize>(refusal: u32, given: [u64; GIVEN]) -> Answer<N> {
+        let mut values = [0; N];
+        values[..GIVEN].copy_from_slice(&given);
         Answer { refusal, values }
     }
 
@@ -114,13 +114,13 @@ impl Answer {
     }
 }
 
-impl fmt::Display for Answer {
+impl<const N: usize> fmt::Display for Answer<N> {
     fn fmt(&self, f: &mut fmt::Formatter<'_>) -> fmt::Result {
         match self.refusal {
             0 => write!(f, "accepted")?,
             number => write!(f, "refusal {number}")?,
         }
-        let given = VALUES - self.values.iter().rev().take_while(|&&value| value == 0).count();
+        let given = N - self.values.iter().rev().take_while(|&&value| value == 0).count();
         self.values[..given].iter().try_for_each(|value| write!(f, ", {value:#018x}"))
     }
 }
@@ -131,8 +131,8 @@ impl From<Result<u64, u32>> for Answer {
     }
 }
 
-impl<const N: usize> From<Result<[u64; N], u32>> for Answer {
-    fn from(result: Result<[u64; N], u32>) -> Answer {
+impl<const N: usize, const GIVEN: usize> From<Result<[u64; GIVEN], u32>> for Answer<N> {
+    fn from(result: Result<[u64; GIVEN], u32>) -> Answer<N> {
         match result {
             Ok(values) => Answer::new(0, values),
             Err(refusal) => Answer::new(refusal, []),
@@ -174,12 +174,13 @@ impl Store for Model {
 #[cfg(test)]
 mod tests {
     use super::KINDS;
-    use crate::{casts, orders};
+    use crate::{casts, orders, overheads};
     use cueledger::Refusal;
 
     #[test]
     fn every_row_is_some_calls() {
-        let calls = || KINDS.iter().map(|kind| (kind.name, kind.rows)).chain([("has type", &casts::ROWS[..]), ("order", &orders::ROWS)]);
+        let others = [("has type", &casts::ROWS[..]), ("order", &orders::ROWS), ("overhead", &overheads::ROWS)];
+        let calls = || KINDS.iter().map(|kind| (kind.name, kind.rows)).chain(others);
         for refusal in Refusal::ALL {
             assert!(calls().any(|(_, rows)| rows.contains(&refusal.number())), "{refusal}");
         }

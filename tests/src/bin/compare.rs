@@ -6,6 +6,7 @@ use cueledger_tests::commuting::either_order;
 use cueledger_tests::driver::{compare, RUNNING};
 use cueledger_tests::library::{Exports, Library};
 use cueledger_tests::orders;
+use cueledger_tests::overheads;
 use cueledger_tests::random::fresh_seed;
 use cueledger_tests::store::Model;
 use cueledger_tests::traffic;
@@ -124,6 +125,21 @@ fn main() {
         }
         Ok(seen) => {
             println!("order: {seen}");
+            if calls >= 1_000_000 && !seen.missing().is_empty() {
+                println!("never occurred: {:?}", seen.missing());
+                exit(1);
+            }
+        }
+    }
+    // and a list of sizes for every twenty-five calls, a tenth of them through the wrapper
+    let result = overheads::case::compare(&Model, &Exports, cases, seed);
+    match result.and_then(|seen| overheads::case::compare(&Model, &Library, cases.div_ceil(10), seed).map(|_| seen)) {
+        Err(failure) => {
+            println!("{failure}");
+            exit(1);
+        }
+        Ok(seen) => {
+            println!("overhead: {seen}");
             if calls >= 1_000_000 && !seen.missing().is_empty() {
                 println!("never occurred: {:?}", seen.missing());
                 exit(1);
