@@ -32,6 +32,7 @@ int main(void)
 {
     uint64_t record, name, buffer, empty, moved, value, objects, live_bytes, free_bytes, overhead_bytes, total;
     uint64_t places, large, tried, least;
+    uint64_t raw, with_headers, padded, end, headers_extra, headers_over, padded_extra, padded_over;
     int64_t order, from_start, to_end;
     int i;
 
@@ -137,5 +138,13 @@ int main(void)
     }
     report("no order tried", cue_order(sizes, 4, SLOT_EXPONENT, 0, &places, &large, &tried, &least));
     report("no buffers", cue_order(sizes, 0, SLOT_EXPONENT, 24, &places, &large, &tried, &least));
+
+    /* what the four buffers take here, and what they would take in padded blocks */
+#define REPORT &raw, &with_headers, &padded, &end, &headers_extra, &headers_over, &padded_extra, &padded_over
+    report("overheads", cue_overhead(sizes, 4, REPORT));
+    printf("%" PRIu64 " bytes, with headers %" PRIu64 ", overhead %" PRIu64 "/%" PRIu64 "\n", raw, with_headers, headers_extra, headers_over);
+    printf("padded %" PRIu64 ", overhead %" PRIu64 "/%" PRIu64 ", end reached %" PRIu64 "\n", padded, padded_extra, padded_over, end);
+    report("overheads of no buffers", cue_overhead(sizes, 0, REPORT));
+    printf("%" PRIu64 "/%" PRIu64 " and %" PRIu64 "/%" PRIu64 "\n", headers_extra, headers_over, padded_extra, padded_over);
     return 0;
 }
