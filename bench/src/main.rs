@@ -13,6 +13,7 @@ mod logs;
 mod measure;
 mod memory;
 mod orders;
+mod overheads;
 mod refused;
 mod releases;
 mod texts;
@@ -47,6 +48,7 @@ fn main() {
     tree::measure(&mut bench);
     casts::measure(&mut bench);
     orders::measure(&mut bench);
+    overheads::measure(&mut bench);
     traffic::measure(&mut bench);
     logs::measure(&mut bench);
     memory::measure();
