@@ -36,8 +36,9 @@ struct Looked<'a> {
     answer: Answer,
     /// Which reasons there are to refuse it.
     reasons: [bool; REASONS.len()],
-    /// The padded blocks, where it is accepted.
+    /// The padded blocks, where it is accepted; and the end that they reach when the least is first.
     padded: Vec<Padded>,
+    ascending: u64,
 }
 
 fn is_good(size: u32) -> bool {
@@ -126,13 +127,6 @@ impl Looked<'_> {
         })
     }
 
-    /// The end of the blocks, sorted so that the least is first.
-    fn end_ascending(&self) -> u64 {
-        let mut blocks: Vec<_> = self.padded.iter().map(|padded| padded.block).collect();
-        blocks.sort_unstable();
-        Model.end(&blocks)
-    }
-
     /// Whether the next size, not lent, is good.
     fn next_is_good(&self) -> bool {
         is_good(self.case.sizes[self.count()])
@@ -191,8 +185,8 @@ const BY_CASE: [ByCase; 61] = [
     ("gaps, and none before the last", |q| q.any(|padded| padded.gap > 0) && q.padded.last().is_some_and(|padded| padded.gap == 0)),
     ("gaps nearly as large as the blocks", |q| q.some() && 10 * q.end() > 19 * q.in_blocks()),
     ("a block that would fit an earlier gap", |q| q.fits_earlier_gap()),
-    ("nearer in ascending order", |q| q.accepted() && q.end_ascending() < q.end()),
-    ("farther in ascending order", |q| q.accepted() && q.end_ascending() > q.end()),
+    ("nearer in ascending order", |q| q.accepted() && q.ascending < q.end()),
+    ("farther in ascending order", |q| q.accepted() && q.ascending > q.end()),
     // overheads
     ("headers over 100 %", |q| q.some() && q.with_headers() > 2 * q.raw()),
     ("headers under 100 %", |q| q.some() && q.with_headers() < 2 * q.raw()),
@@ -224,7 +218,9 @@ impl Seen {
                 end = place + block;
             }
         }
-        self.add(&Looked { case, answer, reasons: case.reasons(), padded });
+        let mut blocks: Vec<_> = padded.iter().map(|padded| padded.block).collect();
+        blocks.sort_unstable();
+        self.add(&Looked { case, answer, reasons: case.reasons(), padded, ascending: Model.end(&blocks) });
     }
 
     fn add(&mut self, looked: &Looked<'_>) {
