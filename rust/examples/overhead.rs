@@ -100,7 +100,7 @@ fn report(count: usize, report: Overhead) -> String {
         plain("padded, end reached", report.end),
     ];
     format!(
-        "{}\nPadded: each object in a block of the lowest power of two not under its size, 16 at least, as baggy bounds have it.\n\
+        "{}\nPadded: the blocks of baggy bounds, each the lowest power of two not under its object's size, with a least block of 16 bytes.\n\
          End reached: the blocks in the list's order from 0, each at the lowest multiple of its own size not before the previous end.\n",
         table(&rows)
     )

@@ -57,7 +57,7 @@ fn from_file(list: &[u8]) -> Ended {
 }
 
 const BELOW: &str = "
-Padded: each object in a block of the lowest power of two not under its size, 16 at least, as baggy bounds have it.
+Padded: the blocks of baggy bounds, each the lowest power of two not under its object's size, with a least block of 16 bytes.
 End reached: the blocks in the list's order from 0, each at the lowest multiple of its own size not before the previous end.
 ";
 

@@ -290,14 +290,10 @@ rules! {
     "no sizes are refused", GOOD => { fn count_is_good(&self, count: usize) -> bool { (1..=MOST).contains(&count) } }
     "65,537 sizes are good", &["65,537 sizes", "several"] => { fn count_is_good(&self, count: usize) -> bool { count <= MOST + 1 } }
     "any number of sizes is good", &["more sizes", "65,537 sizes", "several"] => { fn count_is_good(&self, _: usize) -> bool { true } }
-    "size 0 is good", &["size 0", "several"] => {
-        fn size_is_good(&self, size: u32) -> bool { size <= LARGEST }
-    }
+    "size 0 is good", &["size 0", "several"] => { fn size_is_good(&self, size: u32) -> bool { size <= LARGEST } }
     "size 65,537 is good", ABOVE => { fn size_is_good(&self, size: u32) -> bool { (1..=LARGEST + 1).contains(&size) } }
     "sizes above are good", ABOVE => { fn size_is_good(&self, size: u32) -> bool { size > 0 } }
-    "sizes signed", ABOVE => {
-        fn size_is_good(&self, size: u32) -> bool { size != 0 && size as i32 <= LARGEST as i32 }
-    }
+    "sizes signed", ABOVE => { fn size_is_good(&self, size: u32) -> bool { size != 0 && size as i32 <= LARGEST as i32 } }
     "sizes without their sign", ABOVE => { fn size_is_good(&self, size: u32) -> bool { (1..=LARGEST).contains(&(size & 0x7fff_ffff)) } }
     "size 1 is refused", GOOD => { fn size_is_good(&self, size: u32) -> bool { (2..=LARGEST).contains(&size) } }
     "size 65,536 is refused", GOOD => { fn size_is_good(&self, size: u32) -> bool { (1..LARGEST).contains(&size) } }
@@ -362,16 +358,6 @@ const BEHIND: &[Fault] = &[
     ("extra padding in 16 bits", GOOD, &Behind(|a| a.with(PADDED_EXTRA, |v| v[PADDED_EXTRA] & 0xffff))),
     // ---- the end
     ("into gaps where they fit", GOOD, &Behind(|a| a.with_end(into_gaps))),
-    (
-        "the end in order of sizes",
-        GOOD,
-        &Behind(|a| {
-            let mut sizes = a.sizes.to_vec();
-            sizes.sort_unstable();
-            let end = a.asked(&sizes).values[END];
-            a.with(END, |_| end)
-        }),
-    ),
     // ---- overheads
     ("gaps in the padded overhead", GOOD, &Behind(|a| a.with(PADDED_EXTRA, |v| v[END] - v[RAW]))),
     ("the gaps for the padded overhead", GOOD, &Behind(|a| a.with(PADDED_EXTRA, |v| v[END] - v[PADDED]))),
