@@ -24,7 +24,7 @@
  *   and then follows one field of each record that it enters. Each type, each field's type and each type entered is looked up
  *   by a walk from the list's start, 1.5 ns or so on a PC for each descriptor passed: 16 types, each a field of the next, take
  *   0.3 microseconds, 1,000 take 2 ms, and 65,536 take 10 s. Order grows with the orders that it tries and with the sizes: all
- *   40,320 orders of eight take 1.2 ms on a PC. Overhead grows with the sizes: 65,536 take 0.2 ms.
+ *   40,320 orders of eight take 1.2 ms on a PC. Overhead grows with the number of sizes: 65,536 take 0.2 ms.
  * - Stack, in bytes at most: the return address and all below it, without memmove and memset.
  *     cue_setup         48    cue_load     176    cue_copy        208
  *     cue_allocate     112    cue_store    176    cue_compare     224

@@ -195,7 +195,8 @@ exportedReport r =
 pub report-seen :
     let r : Report =
     record { row = 1; raw = 2; headed = 3; padded = 4; end = 5; headers = record { extra = 6; over = 7 }; padding = record { extra = 8; over = 9 } } in
-    let l : Reported = exportedReport r in
-    (l .returned ≡ 1) × (l .raw ≡ 2) × (l .headed ≡ 3) × (l .padded ≡ 4) × (l .end ≡ 5) × (l .headers-extra ≡ 6) × (l .headers-over ≡ 7)
+    let l : Reported = reported 1 2 3 4 5 6 7 8 9 in
+    (exportedReport r ≡ l)
+    × (l .returned ≡ 1) × (l .raw ≡ 2) × (l .headed ≡ 3) × (l .padded ≡ 4) × (l .end ≡ 5) × (l .headers-extra ≡ 6) × (l .headers-over ≡ 7)
     × (l .padded-extra ≡ 8) × (l .padded-over ≡ 9)
-report-seen = (refl, refl, refl, refl, refl, refl, refl, refl, refl)
+report-seen = (refl, refl, refl, refl, refl, refl, refl, refl, refl, refl)

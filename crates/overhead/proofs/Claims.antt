@@ -8,7 +8,7 @@ use lib.ListN.{length}
 use Rattle.overhead.specs.declared.answer.Fraction.{Fraction}
 use Rattle.overhead.specs.declared.answer.Report.{Report}
 use Rattle.overhead.specs.Overhead.{goodSizes, padded, headed, total, sums, fraction, reportOf, refused, report}
-use Rattle.overhead.specs.Claims.{BadSize, no-bytes, too-large, Refuses, RefusesInOrder, Summed, SumsExactly, Fits, NoneOverflows, Overheads, ExtraOverRaw}
+use Rattle.overhead.specs.Claims.{BadSize, no-bytes, too-large, Zeros, Refuses, RefusesInOrder, Summed, SumsExactly, Fits, NoneOverflows, Overheads, ExtraOverRaw}
 use Rattle.overhead.specs.laws.Totals.{bounded, headed-total, raw-padded, raw-some, sums-ordered, all-placed, placed-once}
 use Rattle.overhead.specs.laws.Rows.{size-good, size-bad, Verdict, long, bad, good, verdict, fraction-some}
 
@@ -17,6 +17,9 @@ use Rattle.overhead.specs.laws.Rows.{size-good, size-bad, Verdict, long,
 good-not-bad : (sizes : List ℕ) → goodSizes sizes ≡ true → BadSize sizes → ⊥
 good-not-bad sizes g (no-bytes k h e) = omega (arith, size-good sizes g k h .0)
 good-not-bad sizes g (too-large k h l) = omega (arith, size-good sizes g k h .1)
+
+refusal-zeros : (n : ℕ) → Zeros (refused n)
+refusal-zeros n = record { raw = refl; headed = refl; padded = refl; end = refl; headers = (refl, refl); padding = (refl, refl) }
 
 pub refuses-in-order : RefusesInOrder
 unfolding RefusesInOrder reportOf
@@ -29,7 +32,7 @@ refuses-in-order sizes = by (verdict sizes)
           too-long = ((λ e. l), λ h. r);
           bad-size = ((λ e. absurd (omega (arith, r, e))), λ q. absurd (omega (arith, l, q .0)));
           accepted = ((λ e. absurd (omega (arith, r, e))), λ q. absurd (omega (arith, l, q .0)));
-          zeros = λ n. p ∙ ap refused (sym r);
+          zeros = λ n. subst Zeros (sym p) (refusal-zeros _);
         }
     by (bad l g p) =
         let r : report sizes .row ≡ 29 = ap (λ (q : Report). q .row) p in
@@ -37,7 +40,7 @@ refuses-in-order sizes = by (verdict sizes)
           too-long = ((λ e. absurd (omega (arith, r, e))), λ h. absurd (omega (arith, l, h)));
           bad-size = ((λ e. (l, size-bad sizes g)), λ q. r);
           accepted = ((λ e. absurd (omega (arith, r, e))), λ q. absurd (q .1 (size-bad sizes g)));
-          zeros = λ n. p ∙ ap refused (sym r);
+          zeros = λ n. subst Zeros (sym p) (refusal-zeros _);
         }
     by (good l g p) =
         let r : report sizes .row ≡ 0 = ap (λ (q : Report). q .row) p in
@@ -49,7 +52,9 @@ refuses-in-order sizes = by (verdict sizes)
         }
 
 -- What is said of every accepted list is shown of its sums.
-accepted-by : (P : Report → Type 0) (sizes : List ℕ) → (length sizes ≤ 65536 → goodSizes sizes ≡ true → P (reportOf (sums sizes))) → report sizes .row ≡ 0 → P (report sizes)
+accepted-by :
+    (P : Report → Type 0) (sizes : List ℕ) → (length sizes ≤ 65536 → goodSizes sizes ≡ true → P (reportOf (sums sizes))) → report sizes .row ≡ 0
+    → P (report sizes)
 accepted-by P sizes of e = by (verdict sizes)
   where
     by : Verdict sizes → P (report sizes)

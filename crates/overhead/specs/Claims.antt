@@ -5,7 +5,7 @@ use mathlib.Core.Logic.{_↔_}
 use mathlib.Core.List.{List, [], _∷_}
 use lib.ListN.{length, getD}
 use Rattle.overhead.specs.declared.answer.Report.{Report}
-use Rattle.overhead.specs.Overhead.{total, refused, report}
+use Rattle.overhead.specs.Overhead.{total, report}
 
 -- The rows.
 
@@ -14,12 +14,21 @@ pub data BadSize (sizes : List ℕ) : Type 0 where
   no-bytes : (k : ℕ) → k < length sizes → getD sizes k 0 ≡ 0 → BadSize sizes
   too-large : (k : ℕ) → k < length sizes → 65536 < getD sizes k 0 → BadSize sizes
 
--- 28 comes exactly for a list that is too long, 29 exactly for another one with a size out of range, and no other number; a refusal gives 0 for every value
+-- every value is 0
+pub record Zeros (answer : Report) : Type 0 where
+  pub raw : answer .raw ≡ 0
+  pub headed : answer .headed ≡ 0
+  pub padded : answer .padded ≡ 0
+  pub end : answer .end ≡ 0
+  pub headers : (answer .headers .extra ≡ 0) × (answer .headers .over ≡ 0)
+  pub padding : (answer .padding .extra ≡ 0) × (answer .padding .over ≡ 0)
+
+-- 28 comes exactly for a list that is too long, 29 exactly for another one with a size out of range, and no other number; a refusal gives zeros
 pub record Refuses (sizes : List ℕ) : Type 0 where
   pub too-long : (report sizes .row ≡ 28) ↔ (65536 < length sizes)
   pub bad-size : (report sizes .row ≡ 29) ↔ ((length sizes ≤ 65536) × BadSize sizes)
   pub accepted : (report sizes .row ≡ 0) ↔ ((length sizes ≤ 65536) × (BadSize sizes → ⊥))
-  pub zeros : (report sizes .row ≡ 0 → ⊥) → report sizes ≡ refused (report sizes .row)
+  pub zeros : (report sizes .row ≡ 0 → ⊥) → Zeros (report sizes)
 
 unfoldable pub RefusesInOrder : Type 0
 RefusesInOrder = (sizes : List ℕ) → Refuses sizes

@@ -10,7 +10,7 @@ use lib.Pow.{pow-mono}
 use borrow.Author.Tests.{leb-true, leb-false}
 use Rattle.block.specs.laws.Booleans.{byBool}
 use Rattle.overhead.specs.declared.answer.Report.{Report}
-use Rattle.overhead.specs.Overhead.{goodSizes, doubledIn, padded, endFrom, total, sums, fraction, reportOf, refused, report}
+use Rattle.overhead.specs.Overhead.{goodSizes, doubledIn, padded, endFrom, total, sums, fraction, reportOf, report}
 use Rattle.overhead.specs.Claims.{BadSize, RefusesInOrder, LowestPower, LowestMultiple, Placed, none, next, SumsExactly, NoneOverflows, ExtraOverRaw}
 
 -- Reports.
@@ -85,6 +85,11 @@ pub reports : T (all cases)
 unfolding holds all cases goodSizes doubledIn padded endFrom total sums fraction reportOf report
 reports = tt
 
+-- A sum has each size once.
+pub sum-of-three : (a b c : ℕ) → total (λ size. size) (a ∷ b ∷ c ∷ []) ≡ a + (b + (c + 0))
+unfolding total
+sum-of-three a b c = refl
+
 -- Powers and multiples, by the words of the claims alone.
 
 -- of 1 byte the lowest power is our least
@@ -99,6 +104,10 @@ power-of-100 p l =
     byBool (leb n 6)
     (λ t. let low = pow-mono {i = n} {j = 6} (leb-true n 6 t) in absurd (omega (arith, l .covers, e)))
     (λ t. let high = pow-mono {i = 7} {j = n} (leb-false n 6 t) in omega (arith, e, most))
+
+-- of 64 bytes it is 64
+pub power-of-64 : (p : ℕ) → LowestPower 64 p → p ≡ 64
+power-of-64 p l = omega (arith, l .covers, l .lowest 6 (omega arith) (omega arith))
 
 -- the lowest multiple of 128 from 129 on is 256, and from 128 on 128
 pub multiple-from-129 : (at : ℕ) → LowestMultiple 128 129 at → at ≡ 256
@@ -121,16 +130,19 @@ first-block from size sizes bytes end (next _ _ _ p at rest _ power multiple pla
 nothing-placed : (from bytes end : ℕ) → Placed from [] bytes end → (bytes ≡ 0) × (end ≡ from)
 nothing-placed from bytes end (none _) = (refl, refl)
 
--- Of the rows: each comes by its condition alone, and a refusal gives zeros. Of an accepted list: raw bytes are the sum of the sizes, headers 16 bytes for each; padded bytes and
--- end are those of blocks placed one behind the other from 0 on, and of nothing else; they fit 33 bits; the extra bytes with the raw ones are all bytes, and stand over
--- raw bytes, or over 1 for an empty list.
+-- Of the rows: each comes by its condition alone, and a refusal gives zeros. Of an accepted list: raw bytes are the sum of the sizes, headers 16 bytes
+-- for each; padded bytes and end are those of blocks placed one behind the other from 0 on, and of nothing else; they fit 33 bits; the extra bytes with
+-- the raw ones are all bytes, and stand over raw bytes, or over 1 for an empty list.
 pub claimed : RefusesInOrder → SumsExactly → NoneOverflows → ExtraOverRaw
-    → ((sizes : List ℕ) → 65536 < length sizes → report sizes ≡ refused 28)
-    × ((sizes : List ℕ) → length sizes ≤ 65536 → BadSize sizes → report sizes ≡ refused 29)
+    → ((sizes : List ℕ) → 65536 < length sizes → report sizes .row ≡ 28)
+    × ((sizes : List ℕ) → length sizes ≤ 65536 → BadSize sizes → report sizes .row ≡ 29)
     × ((sizes : List ℕ) → length sizes ≤ 65536 → (BadSize sizes → ⊥) → report sizes .row ≡ 0)
     × ((sizes : List ℕ) → report sizes .row ≡ 28 → 65536 < length sizes)
     × ((sizes : List ℕ) → report sizes .row ≡ 29 → (length sizes ≤ 65536) × BadSize sizes)
     × ((sizes : List ℕ) → report sizes .row ≡ 0 → (length sizes ≤ 65536) × (BadSize sizes → ⊥))
+    × ((sizes : List ℕ) → (report sizes .row ≡ 0 → ⊥)
+    → (report sizes .raw ≡ 0) × (report sizes .headed ≡ 0) × (report sizes .padded ≡ 0) × (report sizes .end ≡ 0)
+    × (report sizes .headers .extra ≡ 0) × (report sizes .headers .over ≡ 0) × (report sizes .padding .extra ≡ 0) × (report sizes .padding .over ≡ 0))
     × ((sizes : List ℕ) → report sizes .row ≡ 0 → report sizes .raw ≡ total (λ size. size) sizes)
     × ((sizes : List ℕ) → report sizes .row ≡ 0 → report sizes .headed ≡ report sizes .raw + 16 * length sizes)
     × ((size : ℕ) (sizes : List ℕ) → report (size ∷ sizes) .row ≡ 0
@@ -148,25 +160,26 @@ pub claimed : RefusesInOrder → SumsExactly → NoneOverflows → ExtraOverRaw
     × (report [] .row ≡ 0 → (report [] .headers ≡ record { extra = 0; over = 1 }) × (report [] .padding ≡ record { extra = 0; over = 1 }))
     × ((sizes : List ℕ) → report sizes .row ≡ 0 → (0 < report sizes .headers .over) × (0 < report sizes .padding .over))
 unfolding RefusesInOrder SumsExactly NoneOverflows ExtraOverRaw
-claimed refuses summed fit over =
-    let zeros : (sizes : List ℕ) (r : ℕ) → report sizes .row ≡ r → 0 < r → report sizes ≡ refused r = λ sizes r e h.
-    refuses sizes .zeros (λ z. omega (arith, e, z)) ∙ ap refused e in (
-      (λ sizes l. zeros sizes 28 (refuses sizes .too-long .1 l) (omega arith)),
-      (λ sizes l b. zeros sizes 29 (refuses sizes .bad-size .1 (l, b)) (omega arith)),
-      (λ sizes l n. refuses sizes .accepted .1 (l, n)),
-      (λ sizes. refuses sizes .too-long .0),
-      (λ sizes. refuses sizes .bad-size .0),
-      (λ sizes. refuses sizes .accepted .0),
-      (λ sizes e. summed sizes e .raw-is),
-      (λ sizes e. summed sizes e .headed-is),
-      (λ size sizes e. first-block 0 size sizes _ _ (summed (size ∷ sizes) e .placed)),
-      (λ e. nothing-placed 0 _ _ (summed [] e .placed)),
-      (λ sizes e. summed sizes e .only),
-      (λ sizes e. summed sizes e .gaps),
-      (λ sizes e. let f = fit sizes e in (f .raw, f .headed, f .padded, f .end)),
-      (λ sizes e. over sizes e .headers),
-      (λ sizes e. over sizes e .padding),
-      (λ sizes e. over sizes e .over-raw),
-      (λ e. over [] e .empty refl),
-      (λ sizes e. over sizes e .over-some),
-    )
+claimed refuses summed fit over = (
+  (λ sizes. refuses sizes .too-long .1),
+  (λ sizes l b. refuses sizes .bad-size .1 (l, b)),
+  (λ sizes l n. refuses sizes .accepted .1 (l, n)),
+  (λ sizes. refuses sizes .too-long .0),
+  (λ sizes. refuses sizes .bad-size .0),
+  (λ sizes. refuses sizes .accepted .0),
+  (λ sizes n.
+      let z = refuses sizes .zeros n in
+      (z .raw, z .headed, z .padded, z .end, z .headers .0, z .headers .1, z .padding .0, z .padding .1)),
+  (λ sizes e. summed sizes e .raw-is),
+  (λ sizes e. summed sizes e .headed-is),
+  (λ size sizes e. first-block 0 size sizes _ _ (summed (size ∷ sizes) e .placed)),
+  (λ e. nothing-placed 0 _ _ (summed [] e .placed)),
+  (λ sizes e. summed sizes e .only),
+  (λ sizes e. summed sizes e .gaps),
+  (λ sizes e. let f = fit sizes e in (f .raw, f .headed, f .padded, f .end)),
+  (λ sizes e. over sizes e .headers),
+  (λ sizes e. over sizes e .padding),
+  (λ sizes e. over sizes e .over-raw),
+  (λ e. over [] e .empty refl),
+  (λ sizes e. over sizes e .over-some),
+)

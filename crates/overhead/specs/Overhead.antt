@@ -12,8 +12,8 @@ use Rattle.overhead.specs.declared.answer.Report.{Report}
 -- What is taken.
 
 -- row 28 asks for at most 65,536 sizes
-abbrev pub few : List ℕ → Bool
-few sizes = leb (length sizes) 65536
+abbrev pub goodCount : List ℕ → Bool
+goodCount sizes = leb (length sizes) 65536
 
 -- a size is 1 to 65,536
 abbrev pub goodSize : ℕ → Bool
@@ -89,4 +89,4 @@ refused row =
 
 -- the answer: 28, then 29
 unfoldable pub report : List ℕ → Report
-report sizes = cond (few sizes) (cond (goodSizes sizes) (reportOf (sums sizes)) (refused 29)) (refused 28)
+report sizes = cond (goodCount sizes) (cond (goodSizes sizes) (reportOf (sums sizes)) (refused 29)) (refused 28)

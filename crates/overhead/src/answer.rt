@@ -1,6 +1,6 @@
 // What the report says.
 
-// Extra bytes over raw bytes, left unreduced.
+// A fraction, left unreduced: the extra bytes, its numerator, over raw bytes, its denominator.
 pub struct Fraction {
     pub extra: u64,
     pub over: u64,

@@ -120,20 +120,20 @@ extern "C" {
     fn munmap(at: *mut u32, length: usize) -> i32;
 }
 
-/// Counts that are good in the low 32 bits, of sizes in pages that nobody touches.
+/// Counts that are good in the low 32 bits, of sizes in pages that nobody may read.
 #[test]
 fn counts_of_more_than_32_bits() {
     const COUNT: usize = (1 << 32) + 3;
     const LENGTH: usize = COUNT * size_of::<u32>();
-    const READ: i32 = 1;
+    const NO_ACCESS: i32 = 0;
     const PRIVATE_ANONYMOUS_UNRESERVED: i32 = 0x4022;
-    // SAFETY: new pages, of zeros.
-    let first = unsafe { mmap(std::ptr::null_mut(), LENGTH, READ, PRIVATE_ANONYMOUS_UNRESERVED, -1, 0) };
+    // SAFETY: new pages.
+    let first = unsafe { mmap(std::ptr::null_mut(), LENGTH, NO_ACCESS, PRIVATE_ANONYMOUS_UNRESERVED, -1, 0) };
     assert!(first as isize != -1, "no address space for {LENGTH} bytes");
     for count in [1 << 32, COUNT] {
         let mut values = [1; 8];
         let [raw, with_headers, padded, end, headers_extra, headers_over, padded_extra, padded_over] = &mut values;
-        // SAFETY: the pages hold so many sizes, and they are only read; the values are locals.
+        // SAFETY: no size of a list that is too long is read; the values are locals.
         let refusal =
             unsafe { cueledger::ffi::cue_overhead(first, count, raw, with_headers, padded, end, headers_extra, headers_over, padded_extra, padded_over) };
         assert_eq!((refusal, values), (28, [0; 8]));

@@ -29,7 +29,8 @@ good-tail size sizes e = and-right (goodSize size) (goodSizes sizes) e
 -- Bounds.
 
 total-most :
-    (f : ℕ → ℕ) (c : ℕ) → ((size : ℕ) → size ≤ 65536 → f size ≤ c) → (sizes : List ℕ) → goodSizes sizes ≡ true → total f sizes ≤ length sizes * c
+    (f : ℕ → ℕ) (c : ℕ) → ((size : ℕ) → size ≤ 65536 → f size ≤ c) → (sizes : List ℕ) → goodSizes sizes ≡ true
+    → total f sizes ≤ length sizes * c
 unfolding total
 total-most f c h [] g = omega arith
 total-most f c h (size ∷ sizes) g =
@@ -117,7 +118,8 @@ all-placed (size ∷ sizes) from =
     (all-placed sizes (blockEnd (padded size) from))
 
 -- in one way alone
-pub placed-once : (from : ℕ) (sizes : List ℕ) (bytes end : ℕ) → Placed from sizes bytes end → (bytes ≡ total padded sizes) × (end ≡ endFrom from sizes)
+pub placed-once :
+    (from : ℕ) (sizes : List ℕ) (bytes end : ℕ) → Placed from sizes bytes end → (bytes ≡ total padded sizes) × (end ≡ endFrom from sizes)
 unfolding total endFrom
 placed-once from [] bytes end (none _) = (refl, refl)
 placed-once from (size ∷ sizes) bytes end (next _ _ _ p at rest _ power multiple placed) =
