@@ -1,6 +1,6 @@
 -- The claims on the report. Assumes nothing.
 use Prim.Native.Nat.{ℕ, _+_, _≤_, _<_}
-use mathlib.Core.Path.{_≡_, refl, sym, ap, _∙_, subst}
+use mathlib.Core.Path.{_≡_, refl, sym, ap, subst}
 use mathlib.Core.Bool.{true}
 use mathlib.Core.List.{List, [], _∷_}
 use native.Mathlib.Omega.{arith}
@@ -9,7 +9,7 @@ use Rattle.overhead.specs.declared.answer.Fraction.{Fraction}
 use Rattle.overhead.specs.declared.answer.Report.{Report}
 use Rattle.overhead.specs.Overhead.{goodSizes, padded, headed, total, sums, fraction, reportOf, refused, report}
 use Rattle.overhead.specs.Claims.{BadSize, no-bytes, too-large, Zeros, Refuses, RefusesInOrder, Summed, SumsExactly, Fits, NoneOverflows, Overheads, ExtraOverRaw}
-use Rattle.overhead.specs.laws.Totals.{bounded, headed-total, raw-padded, raw-some, sums-ordered, all-placed, placed-once}
+use Rattle.overhead.specs.laws.Totals.{sums-fit, headed-total, raw-padded, raw-some, sums-ordered, all-placed, placed-once}
 use Rattle.overhead.specs.laws.Rows.{size-good, size-bad, Verdict, long, bad, good, verdict, fraction-some}
 
 -- Rows 28 and 29.
@@ -69,10 +69,8 @@ sums-exactly sizes =
     (λ l g. record { raw-is = refl; headed-is = headed-total sizes; placed = all-placed sizes 0; only = placed-once 0 sizes; gaps = sums-ordered sizes (sums sizes) refl .2 })
 
 pub none-overflows : NoneOverflows
-unfolding NoneOverflows reportOf sums
-none-overflows sizes =
-    accepted-by Fits sizes
-    (λ l g. let b = bounded sizes l g in record { raw = b .raw; headed = b .headed-most; padded = b .padded-most; end = b .end })
+unfolding NoneOverflows
+none-overflows sizes = accepted-by Fits sizes (sums-fit sizes)
 
 -- Fractions: the extra bytes with the raw ones are all bytes.
 

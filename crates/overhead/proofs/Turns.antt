@@ -11,10 +11,10 @@ use lib.ListN.{length, getD, drop, drop-of-length-le}
 use lib.Pow.{shl-exact}
 use lib.Seq.{drop-cons}
 use Rattle.overhead.specs.declared.answer.Sums.{Sums}
-use Rattle.overhead.specs.Overhead.{goodSize, goodSizes, padded, blockStart, blockEnd, endFrom, headed, total, sums}
+use Rattle.overhead.specs.Overhead.{goodSize, goodSizes, padded, blockStart, blockEnd, endFrom, headed, total, sums, reportOf}
 use Rattle.overhead.specs.Claims.{LowestPower}
 use Rattle.overhead.specs.laws.Padding.{half-at-most, lowest-power, one-power, padded-some}
-use Rattle.overhead.specs.laws.Totals.{good-head, good-tail, end-least, bounded}
+use Rattle.overhead.specs.laws.Totals.{good-head, good-tail, end-least, sums-fit}
 
 -- Padded blocks.
 
@@ -99,16 +99,17 @@ pub record Turn (size p raw headers blocks end : ℕ) : Type 0 where
 module _ (sizes : List ℕ) (few : length sizes ≤ 65536) (good : goodSizes sizes ≡ true)
     {raw headers blocks end i : ℕ} (now : Summing sizes raw headers blocks end i) (h : i < length sizes) where
   pub turn : (size p : ℕ) → size ≡ getD sizes i 0 → p ≡ padded (getD sizes i 0) → Turn size p raw headers blocks end
+  unfolding reportOf sums
   turn size p e pads =
-      let b = bounded sizes few good in
+      let f = sums-fit sizes few good in
       let t = total-turn padded sizes i h in
       record {
         most = omega (arith, good-head (getD sizes i 0) (drop (i + 1) sizes) (good-left sizes i h (now .good)) .1);
         some = omega (arith, padded-some (getD sizes i 0));
-        raw-fits = omega (arith, b .raw, now .raw-is, total-turn (λ size. size) sizes i h);
-        headed-fits = omega (arith, b .headed-most, now .headed-is, total-turn headed sizes i h);
-        padded-fits = omega (arith, b .padded-most, now .padded-is, t);
-        end-fits = omega (arith, b .end, now .end-is, end-least (drop i sizes) end, t);
+        raw-fits = omega (arith, f .raw, now .raw-is, total-turn (λ size. size) sizes i h);
+        headed-fits = omega (arith, f .headed, now .headed-is, total-turn headed sizes i h);
+        padded-fits = omega (arith, f .padded, now .padded-is, t);
+        end-fits = omega (arith, f .end, now .end-is, end-least (drop i sizes) end, t);
       }
 
   pub summing-goes-on :

@@ -27,7 +27,7 @@ bad-behind : (size : ℕ) (sizes : List ℕ) → BadSize sizes → BadSize (size
 bad-behind size sizes (no-bytes k h e) = no-bytes (suc k) (omega arith) e
 bad-behind size sizes (too-large k h l) = too-large (suc k) (omega arith) l
 
--- or one is not
+-- where not all are good, one is out of range
 pub size-bad : (sizes : List ℕ) → goodSizes sizes ≡ false → BadSize sizes
 unfolding goodSizes
 size-bad [] g = let z : _≡_ {A = ℕ} 0 1 = cc in absurd (omega arith)

@@ -1,5 +1,5 @@
 -- Sums over the sizes: their bounds, and padded blocks placed one after the other. Assumes nothing.
-use Prim.Native.Nat.{ℕ, suc, _+_, _*_, _^_, _≤_, _<_}
+use Prim.Native.Nat.{ℕ, suc, _+_, _*_, _≤_, _<_}
 use mathlib.Core.Path.{_≡_, refl, sym, ap, _∙_, subst}
 use mathlib.Core.Bool.{true}
 use mathlib.Core.List.{List, [], _∷_}
@@ -10,8 +10,8 @@ use lib.Dec.{leb}
 use borrow.Author.Tests.{leb-true}
 use Rattle.block.specs.laws.Booleans.{and-left, and-right}
 use Rattle.overhead.specs.declared.answer.Sums.{Sums}
-use Rattle.overhead.specs.Overhead.{goodSize, goodSizes, padded, blockStart, blockEnd, endFrom, headed, total, sums}
-use Rattle.overhead.specs.Claims.{LowestMultiple, Placed, none, next}
+use Rattle.overhead.specs.Overhead.{goodSize, goodSizes, padded, blockStart, blockEnd, endFrom, headed, total, sums, reportOf}
+use Rattle.overhead.specs.Claims.{LowestMultiple, Placed, none, next, Fits}
 use Rattle.overhead.specs.laws.Padding.{lowest-power, one-power, padded-most, padded-some, padded-divides, lowest-multiple, one-multiple}
 
 -- Good sizes, taken apart.
@@ -64,19 +64,14 @@ end-least [] from = omega arith
 end-least (size ∷ sizes) from =
     omega (arith, lowest-multiple (padded size) from (padded-some size) .after, end-least sizes (blockEnd (padded size) from))
 
--- what the sums over a list that is taken are at most
-pub record Bounded (sizes : List ℕ) : Type 0 where
-  pub raw : total (λ size. size) sizes ≤ 2 ^ 32
-  pub headed-most : total headed sizes ≤ 2 ^ 32 + 2 ^ 20
-  pub padded-most : total padded sizes ≤ 2 ^ 32
-  pub end : endFrom 0 sizes ≤ 2 ^ 32
-
-pub bounded : (sizes : List ℕ) → length sizes ≤ 65536 → goodSizes sizes ≡ true → Bounded sizes
-bounded sizes l g =
+-- the sums over a list that is taken fit
+pub sums-fit : (sizes : List ℕ) → length sizes ≤ 65536 → goodSizes sizes ≡ true → Fits (reportOf (sums sizes))
+unfolding reportOf sums
+sums-fit sizes l g =
     record {
       raw = omega (arith, total-most (λ size. size) 65536 (λ size h. h) sizes g);
-      headed-most = omega (arith, total-most headed 65552 (λ size h. omega arith) sizes g);
-      padded-most = omega (arith, total-most padded 65536 padded-most sizes g);
+      headed = omega (arith, total-most headed 65552 (λ size h. omega arith) sizes g);
+      padded = omega (arith, total-most padded 65536 padded-most sizes g);
       end = omega (arith, end-most sizes 0 0 g (omega arith));
     }
 
