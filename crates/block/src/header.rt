@@ -8,7 +8,7 @@ use super::bytes::{read2, read4, write2, write4};
 use std::num::wrapping_sub_u64;
 
 // A block header's fields.
-#[derive(Drop)]
+#[derive(Clone, Copy)]
 pub struct Header {
     pub extent: u64,
     pub kind: u64,
@@ -18,14 +18,14 @@ pub struct Header {
 }
 
 // What stands at a place: a sound header, or none.
-#[derive(Drop)]
+#[derive(Clone, Copy)]
 pub enum Examined {
     Sound(Header),
     Unsound,
 }
 
 // The object at a place: its raw size in bytes, or none.
-#[derive(Drop)]
+#[derive(Clone, Copy)]
 pub enum Object {
     Size(u64),
     None,

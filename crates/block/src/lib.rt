@@ -1,5 +1,7 @@
 // The image of the object store, block by block: little-endian fields, runs of bytes and texts, the superblock, block headers, and the walks over the
 // blocks.
+#![tactic(auto)]
+
 pub mod bytes;
 pub mod header;
 pub mod order;

@@ -6,7 +6,7 @@ ghost use Rattle.block.specs.laws.Order.{big_field, compare_runs, compare_after}
 use super::bytes::{read1, read8};
 
 // By their first differing byte, unsigned.
-#[derive(Drop)]
+#[derive(Clone, Copy)]
 pub enum Ordering {
     Less,
     Equal,

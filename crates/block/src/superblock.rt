@@ -7,7 +7,7 @@ ghost use Rattle.block.specs.laws.Superblock.{opened};
 use super::bytes::{read2, read4, write2, write4};
 
 // What an image's superblock says: the slot exponent, or that it is not as laid out.
-#[derive(Drop)]
+#[derive(Clone, Copy)]
 pub enum Opened {
     Exponent(u32),
     Bad,

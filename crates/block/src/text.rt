@@ -6,7 +6,7 @@ ghost use Rattle.block.specs.laws.Text.{any_zero};
 use super::bytes::read1;
 
 // A text's length in bytes, its zero byte not counted; or that no zero byte ends it.
-#[derive(Drop)]
+#[derive(Clone, Copy)]
 pub enum Text {
     Ends(u64),
     Endless,

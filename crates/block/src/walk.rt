@@ -5,7 +5,7 @@ ghost use Rattle.block.specs.Walk.{first_fit, walk_to, count_blocks};
 use super::header::{Examined, examine};
 
 // How the search for room ends: at a free block that is long enough, at an unsound header, or at the image's end.
-#[derive(Drop)]
+#[derive(Clone, Copy)]
 pub enum Fit {
     At(u64),
     Unsound(u64),
@@ -13,14 +13,14 @@ pub enum Fit {
 }
 
 // How the walk to a block ends: at it, with the place of the block before it (0 where there is none), or not.
-#[derive(Drop)]
+#[derive(Clone, Copy)]
 pub enum Met {
     After(u64),
     Lost,
 }
 
 // The blocks, counted: live objects, and in bytes the sum of their raw sizes, the sum of the free blocks' extents, and the overhead.
-#[derive(Drop)]
+#[derive(Clone, Copy)]
 pub struct Counts {
     pub objects: u64,
     pub live: u64,
@@ -29,7 +29,7 @@ pub struct Counts {
 }
 
 // What a count of the blocks finds: all of them, or an unsound header.
-#[derive(Drop)]
+#[derive(Clone, Copy)]
 pub enum Counted {
     Counts(Counts),
     Unsound,

@@ -1,5 +1,7 @@
 // The library as C sees it. Each function returns the refusal's number, 0 where the call is accepted; every value
 // given through a pointer is 0 where it is refused. The one exception is 23, a full log: what was done and given stands.
+#![tactic(auto)]
+
 ghost use Rattle.std.specs.Prelude.{◌≡◌};
 ghost use Rattle.store.specs.State.{state};
 ghost use Rattle.store.specs.Calls.{set_up, allocate, allocate_for, move, load, store, free, fill, copy, compare, copy_text, release_cue, free_total, tally, distances, has_type};

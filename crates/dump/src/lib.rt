@@ -1,4 +1,6 @@
 // A dump of the frame table, as bytes. An image is bytes already.
+#![tactic(auto)]
+
 ghost use Rattle.std.specs.Prelude.{◌≡◌, ◌*◌, length};
 ghost use Rattle.dump.specs.Dump.{table_bytes};
 

@@ -1,5 +1,7 @@
 // The store at work: a story of four load buffers, then the cases of docs/FORMAT.md. Each call has its expected answer beside it, and the
 // last line counts how many gave it.
+#![tactic(auto)]
+
 mod cases;
 mod labels;
 mod print;

@@ -1,4 +1,6 @@
 // Frame arithmetic: frames, tagged pointers, wrapper frames and their table entries.
+#![tactic(auto)]
+
 mod number;
 mod parts;
 mod tag;

@@ -5,7 +5,7 @@ ghost use Rattle.frame.specs.Pointers.{unpack, pack, InRange, good_tag, moved};
 ghost use Rattle.frame.specs.laws.Pointers.{reach_of};
 
 // A pointer's parts: the top bit, set for a small-framed object; 15 bits; 48 bits.
-#[derive(Drop)]
+#[derive(Clone, Copy)]
 pub struct Pointer {
     pub flag: bool,
     pub tag: u64,
@@ -13,14 +13,14 @@ pub struct Pointer {
 }
 
 // Where a move leads.
-#[derive(Drop)]
+#[derive(Clone, Copy)]
 pub enum Moved {
     To(Pointer),
     Outside,
 }
 
 // The exponent of the slot or frame that a pointer may move in, where its tag number is in range.
-#[derive(Drop)]
+#[derive(Clone, Copy)]
 pub enum Reach {
     Within(u32),
     BadTag,

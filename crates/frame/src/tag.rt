@@ -9,7 +9,7 @@ use crate::number::{frame_number, frame_start, same_frame};
 use crate::parts::Pointer;
 
 // The pointer to an object, with its table entry where it is large-framed.
-#[derive(Drop)]
+#[derive(Clone, Copy)]
 pub enum Tagged {
     Small(Pointer),
     Large(Pointer, usize),

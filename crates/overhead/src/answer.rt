@@ -1,14 +1,14 @@
 // What the report says.
 
 // A fraction, left unreduced: the extra bytes, its numerator, over raw bytes, its denominator.
-#[derive(Drop)]
+#[derive(Clone, Copy)]
 pub struct Fraction {
     pub extra: u64,
     pub over: u64,
 }
 
 // Exact sums over the sizes, in bytes: raw, with headers, padded, and the end that padded blocks reach.
-#[derive(Drop)]
+#[derive(Clone, Copy)]
 pub struct Sums {
     pub raw: u64,
     pub headed: u64,
@@ -17,7 +17,7 @@ pub struct Sums {
 }
 
 // The sums, and the overheads of headers and of padding. The row is 0, or the number of a refusal: all others are 0 then.
-#[derive(Drop)]
+#[derive(Clone, Copy)]
 pub struct Report {
     pub row: u32,
     pub raw: u64,

@@ -1,4 +1,6 @@
 // The overhead of headers and of padded blocks over a list of sizes.
+#![tactic(auto)]
+
 mod answer;
 mod padding;
 mod reporting;

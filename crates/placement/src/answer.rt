@@ -5,7 +5,7 @@ ghost use Rattle.placement.specs.Placement.{order_word};
 
 // The first best order (place i holds the position of the object that comes as number i; unused places are 0), its large-framed objects, the orders
 // tried, and the floor. The row is 0, or the number of a refusal: all others are 0 then.
-#[derive(Drop)]
+#[derive(Clone, Copy)]
 pub struct Placement {
     pub row: u32,
     pub order: [u64; 8],
@@ -33,7 +33,7 @@ impl Placement {
 }
 
 // The order of that number, from 0, is the best so far, with so many large-framed objects.
-#[derive(Drop)]
+#[derive(Clone, Copy)]
 pub struct Best {
     pub index: u64,
     pub large: u64,

@@ -1,4 +1,6 @@
 // An order of objects with few large frames.
+#![tactic(auto)]
+
 mod answer;
 mod counting;
 mod orders;

@@ -2,9 +2,9 @@
 use Rattle.std.specs.Prelude.{ℕ, ◌≡◌, List, replicate}
 use Rattle.store.specs.State.{State, state}
 use Rattle.store.specs.Calls.{set_up}
-use Rattle.log.specs.Run.{run_over}
-use Rattle.log.specs.Text.{ascii, printed}
-use Rattle.log.specs.Examples.{sample, sample_lines}
+use Rattle.call_log.specs.Run.{run_over}
+use Rattle.call_log.specs.Text.{ascii, printed}
+use Rattle.call_log.specs.Examples.{sample, sample_lines}
 
 -- an image of 8,192 bytes and its table, set up at the slot exponent 8
 abbrev pub fresh_store : State

@@ -1,4 +1,6 @@
 // Runs a recorded call log from standard input, and prints the answers. `replay [IMAGE [TABLE]]`: files for a dump.
+#![tactic(auto)]
+
 mod file;
 
 ghost use Rattle.std.specs.Prelude.{◌≤◌, ◌≡◌, length, take};
@@ -30,7 +32,7 @@ fn answered(log: &[u8], text: &mut [u8]) -> Run
     let mut image = [0u8; 8192];
     let mut table = [0u64; 768];
     store::set_up(&mut image, &mut table, 8);
-    let bytes = log::replay(&mut image, &mut table, log, text);
+    let bytes = call_log::replay(&mut image, &mut table, log, text);
     let mut entries = [0u8; 6144];
     dump::put_entries(&mut entries, &table);
     Run {

@@ -14,7 +14,7 @@ use block::walk::{Fit, first_fit};
 use frame::{Tagged, tag_object};
 
 // Where a new object goes: the place of the block that is taken, and the object's pointer with its entry.
-#[derive(Drop)]
+#[derive(Clone, Copy)]
 pub enum Site {
     At(u64, Tagged),
     Refused(Refusal),

@@ -4,7 +4,7 @@ ghost use Rattle.store.specs.State.{refusal_number, returned, value};
 ghost use Rattle.store.specs.laws.Refusals.{given};
 
 // Why a call was declined: document 01's rows, then document 02's, in their order.
-#[derive(Drop)]
+#[derive(Clone, Copy)]
 pub enum Refusal {
     BadExponent,
     BadLength,
@@ -30,7 +30,7 @@ pub enum Refusal {
 }
 
 // A number, 0 where a call has none to give; or why there is none.
-#[derive(Drop)]
+#[derive(Clone, Copy)]
 pub enum Answer {
     Accepted(u64),
     Refused(Refusal),

@@ -9,7 +9,7 @@ use crate::opening::opening;
 use block::order::{Ordering, compare_runs};
 
 // How the left bytes stand to the right ones; or why they were not compared.
-#[derive(Drop)]
+#[derive(Clone, Copy)]
 pub enum Comparison {
     Ordered(Ordering),
     Refused(Refusal),

@@ -8,7 +8,7 @@ use crate::opening::opening;
 use block::walk::{Counted, count_blocks};
 
 // Live objects, live bytes, free bytes and overhead bytes; or why there are none.
-#[derive(Drop)]
+#[derive(Clone, Copy)]
 pub enum Usage {
     Counts(u64, u64, u64, u64),
     Refused(Refusal),

@@ -1,4 +1,6 @@
 // The calls of the object store, on one lent image of bytes and one lent frame table.
+#![tactic(auto)]
+
 mod access;
 mod allocation;
 mod answer;

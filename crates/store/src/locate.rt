@@ -12,7 +12,7 @@ use frame::{Pointer, entry_index};
 
 // The object that a tag leads to, its header's place, base and raw size in bytes; and how far the pointer's address is past the base, and the end past the
 // address.
-#[derive(Drop)]
+#[derive(Clone, Copy)]
 pub struct Reading {
     pub header: u64,
     pub base: u64,
@@ -22,7 +22,7 @@ pub struct Reading {
 }
 
 // What reading a tag answers.
-#[derive(Drop)]
+#[derive(Clone, Copy)]
 pub enum Found {
     At(Reading),
     Refused(Refusal),

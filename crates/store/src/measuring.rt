@@ -10,7 +10,7 @@ use crate::opening::opening;
 use frame::Pointer;
 
 // The signed distances from the start and to the end; or why they were not measured.
-#[derive(Drop)]
+#[derive(Clone, Copy)]
 pub enum Measurement {
     Distances(i64, i64),
     Refused(Refusal),

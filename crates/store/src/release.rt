@@ -18,7 +18,7 @@ use block::walk::{Met, walk_to};
 use frame::Pointer;
 
 // What a free does: the object's header place, and from where to where the free block then reaches.
-#[derive(Drop)]
+#[derive(Clone, Copy)]
 pub enum Release {
     Merges(u64, u64, u64),
     Refused(Refusal),

@@ -1,7 +1,7 @@
 -- Words that are numbers, and words that are none; the program's store. By computation. Assumes nothing.
 use Rattle.std.specs.Prelude.{◌-◌, ◌^◌, ◌≡◌, refl, true, false, List, [], ◌∷◌, length}
 use Prim.Native.String.{String}
-use Rattle.log.specs.Text.{ascii}
+use Rattle.call_log.specs.Text.{ascii}
 use Rattle.traffic.specs.Number.{all_digits, value_from, number_from, number_of}
 use Rattle.traffic.specs.Program.{blank, is_full}
 use Rattle.workload.specs.declared.answer.Traffic.TheVariants.{Done, LogFull}

@@ -1,5 +1,7 @@
 // Writes the log of a repeatable workload to standard output: `traffic [STATE [DRAWS [IMAGE [TABLE]]]]`, the last two files for a
 // dump.
+#![tactic(auto)]
+
 mod file;
 mod number;
 mod recording;
@@ -10,7 +12,7 @@ use number::{Number, read_number};
 use recording::recorded;
 
 // What the arguments ask for: the generator's state and the number of draws.
-#[derive(Drop)]
+#[derive(Clone, Copy)]
 enum Request {
     Run(u64, u64),
     Malformed,

@@ -9,7 +9,7 @@ use workload::Traffic;
 
 // The bytes of log that a workload has written, and whether the log has no space for its next record. The image and the
 // table's entries that it leaves, 8 bytes for each entry.
-#[derive(Drop)]
+#[derive(Clone, Copy)]
 pub struct Written {
     pub bytes: usize,
     pub full: bool,

@@ -13,11 +13,11 @@ use Rattle.store.specs.declared.answer.Answer.{Answer}
 use Rattle.store.specs.declared.answer.Answer.TheVariants.{Accepted, Refused}
 use Rattle.store.proofs.Claims.{refusals_keep, shapes_kept}
 use Rattle.history.specs.History.{begun, all_admitted}
-use Rattle.log.specs.Records.{Records, records}
-use Rattle.log.specs.Run.{answers, left_by, run_of}
-use Rattle.log.specs.Written.{log_of}
-use Rattle.log.specs.declared.record.Call.{Call}
-use Rattle.log.proofs.Claims.{logs_read_back}
+use Rattle.call_log.specs.Records.{Records, records}
+use Rattle.call_log.specs.Run.{answers, left_by, run_of}
+use Rattle.call_log.specs.Written.{log_of}
+use Rattle.call_log.specs.declared.record.Call.{Call}
+use Rattle.call_log.proofs.Claims.{logs_read_back}
 use Rattle.workload.specs.Traffic.{traffic_number, state_after, bytes_written, Progress, Ended, draws_from, started, answer_of, LoggedOutcome, logged_by, after_set_up, traffic}
 use Rattle.workload.specs.Claims.{calls_made, log_written, all_asked, Recorded, Counted, EqualFresh, RunsAgain, AllRepeatable, Untouched, RefusedSetUp, Shaped, StayShaped}
 use Rattle.workload.proofs.Premise.{load-made, load_shaped}

@@ -8,8 +8,8 @@ use Rattle.store.specs.Calls.{set_up}
 use Rattle.store.specs.declared.answer.Answer.{Answer}
 use Rattle.store.specs.declared.answer.Answer.TheVariants.{Accepted, Refused}
 use Rattle.store.specs.declared.answer.Refusal.{Refusal}
-use Rattle.log.specs.Run.{made}
-use Rattle.log.specs.Written.{record_of}
+use Rattle.call_log.specs.Run.{made}
+use Rattle.call_log.specs.Written.{record_of}
 use Rattle.workload.specs.Generator.{advanced, drawn}
 use Rattle.workload.specs.Choice.{choice_of, call_of, pointers_after}
 use Rattle.workload.specs.Traffic.{Progress, next_choice, next_call, has_space, recorded, Ended, draws_from, started, logged, logged_by, after_set_up, traffic}

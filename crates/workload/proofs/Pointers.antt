@@ -4,7 +4,7 @@ use Rattle.std.proofs.Common.{◌≡◌, ℕ, suc, ◌+◌, ◌-◌, ◌<◌, �
 use lib.Seq.{paste, paste-zero, paste-suc, take-paste, drop-paste}
 use Rattle.store.specs.State.{State, returned, value}
 use Rattle.store.specs.laws.Refusals.{refused_some}
-use Rattle.log.specs.Run.{made}
+use Rattle.call_log.specs.Run.{made}
 use Rattle.store.specs.declared.answer.Answer.{Answer}
 use Rattle.store.specs.declared.answer.Answer.TheVariants.{Accepted, Refused}
 use Rattle.workload.specs.Choice.{call_of, remove_at, joined, pointers_after, HasRoom}

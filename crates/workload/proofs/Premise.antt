@@ -19,12 +19,12 @@ use Rattle.history.specs.Release.{answers}
 use Rattle.history.specs.laws.Lists.{after_none, after_first, admitted_none, admitted-first, Reached, reached_itself, reached_next}
 use Rattle.history.specs.laws.Plain.{AllPlain, length-answers, Owner, owner_at, owner_small, owner_inside, Held, held_none, allocate_held, declined_held, store_held, free_held}
 use Rattle.history.proofs.Theorem.{reached_holds}
-use Rattle.log.specs.Run as run
-use Rattle.log.specs.Run.{asked, made}
-use Rattle.log.specs.Written.{recordable, all_recordable}
-use Rattle.log.specs.laws.Run as laws
-use Rattle.log.specs.laws.Written.{allocate-recordable, free-recordable, store-recordable, all_recordable_none, all_recordable-first}
-use Rattle.log.specs.declared.record.Call.{Call}
+use Rattle.call_log.specs.Run as run
+use Rattle.call_log.specs.Run.{asked, made}
+use Rattle.call_log.specs.Written.{recordable, all_recordable}
+use Rattle.call_log.specs.laws.Run as laws
+use Rattle.call_log.specs.laws.Written.{allocate-recordable, free-recordable, store-recordable, all_recordable_none, all_recordable-first}
+use Rattle.call_log.specs.declared.record.Call.{Call}
 use Rattle.workload.specs.Generator.{advanced, drawn}
 use Rattle.workload.specs.Choice.{call_of, remove_at, joined, pointers_after}
 use Rattle.workload.specs.Traffic.{Progress, next_choice, next_call, has_space, recorded, draws_from, calls_from, started}

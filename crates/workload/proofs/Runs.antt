@@ -4,11 +4,11 @@ use Rattle.std.proofs.Common.{◌≡◌, ℕ, zero, suc, ◌+◌, ◌*◌, ◌<�
 use Rattle.block.specs.Bytes.{put}
 use Rattle.block.specs.laws.Booleans.{by_bool}
 use Rattle.block.specs.laws.Writes.{length-put, take-put-end, drop-put_above}
-use Rattle.log.specs.Run.{left_by}
-use Rattle.log.specs.Written.{record_of, log_of}
-use Rattle.log.specs.laws.Run.{left_none, left-first}
-use Rattle.log.specs.laws.Written.{log_none, log_first}
-use Rattle.log.specs.declared.record.Call.{Call}
+use Rattle.call_log.specs.Run.{left_by}
+use Rattle.call_log.specs.Written.{record_of, log_of}
+use Rattle.call_log.specs.laws.Run.{left_none, left-first}
+use Rattle.call_log.specs.laws.Written.{log_none, log_first}
+use Rattle.call_log.specs.declared.record.Call.{Call}
 use Rattle.workload.specs.Traffic.{Progress, next_choice, next_call, has_space, recorded, draws_from, calls_from}
 use Rattle.workload.specs.Claims.{stepped}
 use Rattle.workload.proofs.Draws.{draws_none, draws_next, draws_full}

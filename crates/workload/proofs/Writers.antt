@@ -3,9 +3,9 @@ use Rattle.std.proofs.Common.{◌≡◌, ℕ, ◌+◌, ◌≤◌, List, ◌++◌
 use Rattle.block.specs.Bytes.{encode, put}
 use Rattle.block.specs.laws.Fields.{length-encode}
 use Rattle.block.specs.laws.Writes.{put-append}
-use Rattle.log.specs.Written.{record_of}
-use Rattle.log.specs.laws.Written.{allocate_record, free_record_lem, store_record}
-use Rattle.log.specs.declared.record.Call.TheVariants.{Allocate, Free, Store}
+use Rattle.call_log.specs.Written.{record_of}
+use Rattle.call_log.specs.laws.Written.{allocate_record, free_record_lem, store_record}
+use Rattle.call_log.specs.declared.record.Call.TheVariants.{Allocate, Free, Store}
 use Rattle.workload.specs.Choice.{call_of}
 use Rattle.workload.specs.declared.choosing.Choice.{Choice}
 use Rattle.workload.specs.declared.choosing.Choice.TheVariants as choice

@@ -2,8 +2,8 @@
 use Rattle.std.specs.Prelude.{ℕ, ◌+◌, ◌/◌, ◌%◌, ◌<◌, Bool, cond, List, [], ◌∷◌, ◌++◌, length, take, drop, ◌==◌, nat_lt, slice_index_or}
 use Rattle.store.specs.declared.answer.Answer.{Answer}
 use Rattle.store.specs.declared.answer.Answer.TheVariants.{Accepted, Refused}
-use Rattle.log.specs.declared.record.Call.{Call}
-use Rattle.log.specs.declared.record.Call.TheVariants as call
+use Rattle.call_log.specs.declared.record.Call.{Call}
+use Rattle.call_log.specs.declared.record.Call.TheVariants as call
 use Rattle.workload.specs.declared.choosing.Choice.{Choice}
 use Rattle.workload.specs.declared.choosing.Choice.TheVariants.{Allocate, Free, Store}
 

@@ -7,11 +7,11 @@ use Rattle.store.specs.Claims.{KeepsShape}
 use Rattle.store.specs.Step as store
 use Rattle.history.specs.History.{begun, after, all_admitted}
 use Rattle.history.specs.Release as history
-use Rattle.log.specs.Records.{records}
-use Rattle.log.specs.Written.{log_of}
-use Rattle.log.specs.Run.{asked, Answered, answers, run_over}
-use Rattle.log.specs.declared.record.Call.{Call}
-use Rattle.log.specs.declared.record.Call.TheVariants.{Allocate, Free, Move, Load, Store, Fill, Copy}
+use Rattle.call_log.specs.Records.{records}
+use Rattle.call_log.specs.Written.{log_of}
+use Rattle.call_log.specs.Run.{asked, Answered, answers, run_over}
+use Rattle.call_log.specs.declared.record.Call.{Call}
+use Rattle.call_log.specs.declared.record.Call.TheVariants.{Allocate, Free, Move, Load, Store, Fill, Copy}
 use Rattle.workload.specs.Generator.{advanced}
 use Rattle.workload.specs.Traffic.{traffic_number, state_after, bytes_written, draws_from, started, LoggedOutcome, traffic, calls_from}
 

@@ -10,10 +10,10 @@ use Rattle.store.specs.State.{state}
 use Rattle.store.specs.Calls.{set_up_checks, fresh, set_up, opening, entry_holds, fit_answer, taken_extent, allocate_checks, carved, noted, allocate_for, header_place, verified, leads_back, located, in_body, accessed, store_checks, store, merge_end, merge_start, released, free_checks, released_at, total_fits, totalled, free_release, merged, freed, free}
 use Rattle.store.specs.declared.answer.Answer.TheVariants as answer
 use Rattle.store.specs.declared.answer.Refusal.TheVariants.{BadExponent, BadLength, TooFewEntries, NoSpace}
-use Rattle.log.specs.Records.{field_bytes}
-use Rattle.log.specs.Written.{encode_all, fields_of, record_of, log_of}
-use Rattle.log.specs.declared.record.Call.{Call}
-use Rattle.log.specs.declared.record.Call.TheVariants as call
+use Rattle.call_log.specs.Records.{field_bytes}
+use Rattle.call_log.specs.Written.{encode_all, fields_of, record_of, log_of}
+use Rattle.call_log.specs.declared.record.Call.{Call}
+use Rattle.call_log.specs.declared.record.Call.TheVariants as call
 use Rattle.workload.specs.Generator.{advanced, xor_right, xor_left, drawn}
 use Rattle.workload.specs.Choice.{allocates, choice_of, remove_at, pointers_after}
 use Rattle.workload.specs.Traffic.{recorded, draws_from, LoggedOutcome, logged, traffic}

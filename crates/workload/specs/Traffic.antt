@@ -5,9 +5,9 @@ use Rattle.store.specs.State.{State, Outcome, refusal_number}
 use Rattle.store.specs.Calls.{set_up}
 use Rattle.store.specs.declared.answer.Answer.{Answer}
 use Rattle.store.specs.declared.answer.Answer.TheVariants as setting
-use Rattle.log.specs.Run.{made}
-use Rattle.log.specs.Written.{record_of}
-use Rattle.log.specs.declared.record.Call.{Call}
+use Rattle.call_log.specs.Run.{made}
+use Rattle.call_log.specs.Written.{record_of}
+use Rattle.call_log.specs.declared.record.Call.{Call}
 use Rattle.workload.specs.Generator.{advanced, drawn}
 use Rattle.workload.specs.Choice.{choice_of, call_of, pointers_after}
 use Rattle.workload.specs.declared.answer.Traffic.{Traffic}

@@ -3,7 +3,7 @@ ghost use Rattle.std.specs.Prelude.{◌≡◌, ◌≤◌, length, take};
 ghost use Rattle.workload.specs.Choice.{position, allocates, choice_of};
 
 // An allocation of so many bytes; a free of the pointer in a position, with that pointer; a store of a byte at a pointer.
-#[derive(Drop)]
+#[derive(Clone, Copy)]
 pub enum Choice {
     Allocate(u32),
     Free(usize, u64),

@@ -1,4 +1,6 @@
 // A repeatable workload for acceptance: a generator, the calls that its draws make, and their log.
+#![tactic(auto)]
+
 mod answer;
 mod choosing;
 mod drawing;

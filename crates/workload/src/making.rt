@@ -2,7 +2,7 @@
 ghost use Rattle.std.specs.Prelude.{◌≡◌, ◌<◌, ◌≤◌, length, take};
 ghost use Rattle.store.specs.State.{state};
 ghost use Rattle.store.specs.Calls.{allocate};
-ghost use Rattle.log.specs.Run.{made};
+ghost use Rattle.call_log.specs.Run.{made};
 ghost use Rattle.workload.specs.Choice.{call_of, joined, HasRoom, pointers_after};
 
 use crate::choosing::Choice;

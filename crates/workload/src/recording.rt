@@ -1,8 +1,8 @@
 // Writing the record of the call that a draw asks for.
 ghost use Rattle.std.specs.Prelude.{◌≡◌, ◌+◌, ◌≤◌, ◌++◌, length};
 ghost use Rattle.block.specs.Bytes.{encode, put};
-ghost use Rattle.log.specs.Written.{record_of};
-ghost use Rattle.log.specs.declared.record.Call.TheVariants as call;
+ghost use Rattle.call_log.specs.Written.{record_of};
+ghost use Rattle.call_log.specs.declared.record.Call.TheVariants as call;
 ghost use Rattle.workload.specs.Choice.{call_of};
 
 use crate::choosing::Choice;

@@ -4,8 +4,8 @@ use native.Mathlib.Omega.{arith}
 use lib.ListN.{length-take}
 use borrow.Author.Rules.{rules}
 use Rattle.store.specs.State.{State, Outcome}
-use Rattle.log.specs.Run.{run_over}
-use Rattle.log.specs.Text.{printed}
+use Rattle.call_log.specs.Run.{run_over}
+use Rattle.call_log.specs.Text.{printed}
 use Rattle.dump.specs.Dump.{table_bytes}
 use Rattle.replay.proofs.answered.Statement.{statement}
 use Rattle.replay.proofs.answered.Tie as tie

@@ -1,0 +1,13 @@
+// A recorded call log: its records, running them, and the text of their answers.
+#![tactic(auto)]
+
+mod calls;
+mod reader;
+mod record;
+mod running;
+mod text;
+
+pub use calls::make;
+pub use reader::{Reader, read};
+pub use record::{Call, Fault, Next};
+pub use running::replay;
