@@ -1,0 +1,28 @@
+use Rattle.std.proofs.Common.{◌≡◌, ◌-◌, ◌≤◌, length, take, drop, sym, refl, arith, rules}
+use Rattle.block.specs.Bytes.{put}
+use Rattle.block.specs.laws.Writes.{put_nil}
+use Rattle.block.proofs.Runs.{down_turn}
+use Rattle.block.proofs.bytes.copy_down.Goals as goal
+
+pub loop-i-init : goal.loop-i-init
+loop-i-init c = (omega arith, refl, sym (put_nil _ _))
+
+pub loop-i-smaller : goal.loop-i-smaller
+loop-i-smaller c = omega (arith, c.part-k.ensures.2 (omega arith))
+
+pub loop-i-preserved : goal.loop-i-preserved
+loop-i-preserved c =
+    (
+      omega arith,
+      omega arith,
+      rw c.copy_part.ensures (down_turn _ _ _ _ c.args.n _ _ (omega arith) (omega arith) (omega arith) c.loop-i.invariant.2),
+    )
+
+pub returns : goal.returns
+returns c =
+    let l = c.loop-i in
+    let e : l.i ≡ c.args.n = omega arith in
+    rw e at l.invariant.2
+
+pub copy_part-requires : goal.copy_part-requires
+copy_part-requires c = (omega arith, omega arith, omega arith)

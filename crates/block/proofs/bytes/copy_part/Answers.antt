@@ -1,0 +1,6 @@
+-- `block::bytes::copy_part`: what was gathered is scattered. Assumes nothing.
+use Rattle.std.proofs.Common.{rules}
+use Rattle.block.proofs.bytes.copy_part.Goals as goal
+
+pub returns : goal.returns
+returns c = cc

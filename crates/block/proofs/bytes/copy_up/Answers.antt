@@ -1,0 +1,31 @@
+use Rattle.std.proofs.Common.{◌≡◌, ◌+◌, ◌-◌, ◌≤◌, length, take, drop, sym, refl, ◌∙◌, add-zero, arith, rules}
+use native.Mathlib.Nat.{sub-zero}
+use Rattle.block.specs.Bytes.{put}
+use Rattle.block.specs.laws.Writes.{put_nil}
+use Rattle.block.proofs.Runs.{up_turn}
+use Rattle.block.proofs.bytes.copy_up.Goals as goal
+
+pub loop-i-init : goal.loop-i-init
+loop-i-init c =
+    let e : c.args.n - c.args.n ≡ 0 = omega arith in
+    (omega arith, refl, rw e (sym (put_nil _ _)))
+
+pub loop-i-smaller : goal.loop-i-smaller
+loop-i-smaller c = omega (arith, c.part-k.ensures.2 (omega arith))
+
+pub loop-i-preserved : goal.loop-i-preserved
+loop-i-preserved c =
+    (
+      omega arith,
+      omega arith,
+      rw c.copy_part.ensures (up_turn _ _ _ _ c.args.n _ _ (omega arith) (omega arith) (omega arith) (omega arith) c.loop-i.invariant.2),
+    )
+
+pub returns : goal.returns
+returns c =
+    let l = c.loop-i in
+    let e : l.i ≡ 0 = omega arith in
+    l.invariant.2 ∙ rw e (simp (add-zero, sub-zero))
+
+pub copy_part-requires : goal.copy_part-requires
+copy_part-requires c = (omega arith, omega arith, omega arith)

@@ -1,0 +1,11 @@
+-- `block::order::same_words`. Invariant: the runs stand to each other as they do after their first i bytes. Measure: the bytes left. Assumes nothing.
+use Rattle.std.proofs.Common.{◌≡◌, ◌-◌, ◌≤◌, sym, refl, ◌∙◌, arith}
+use Rattle.block.specs.Bytes.{Bytes}
+use Rattle.block.specs.laws.Order.{same_big, compare_runs, compare_after, compare-start, compare_turn}
+use Rattle.block.proofs.order.same_words.Given as goal
+
+abbrev pub invariant-loop-i : goal.invariant-loop-i
+invariant-loop-i l = (l.i ≤ l.n) × (compare_runs l.image l.a l.b l.n ≡ compare_after l.image l.a l.b l.n l.i)
+
+abbrev pub decreases-loop-i : goal.decreases-loop-i
+decreases-loop-i l = l.n - l.i

@@ -1,0 +1,7 @@
+-- `block::superblock::stored_total` reads the last field. Assumes nothing.
+use Rattle.block.specs.laws.Total.{total_bound}
+use Rattle.std.proofs.Common.{rules}
+use Rattle.block.proofs.superblock.stored_total.Goals as goal
+
+pub returns : goal.returns
+returns c = (c.read4.ensures, rw c.read4.ensures (total_bound _ (λ k. (c.type_inv.image k).fits)))

@@ -1,0 +1,10 @@
+-- `block::text::find_bytes`. Invariant: the text is the one after the first i bytes. Measure: the bytes left. Assumes nothing.
+use Rattle.std.proofs.Common.{◌≡◌, ◌-◌, ◌≤◌, sym, refl, ◌∙◌, arith, ne_eqb}
+use Rattle.block.specs.laws.Text.{zero_one, text_after, text_end, text_stops, text_turn}
+use Rattle.block.proofs.text.find_bytes.Given as goal
+
+abbrev pub invariant-loop-i : goal.invariant-loop-i
+invariant-loop-i l = (l.i ≤ l.n) × (text_after l.image l.at l.n l.passed ≡ text_after l.image l.at l.n l.i)
+
+abbrev pub decreases-loop-i : goal.decreases-loop-i
+decreases-loop-i l = l.n - l.i

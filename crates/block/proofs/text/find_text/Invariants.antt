@@ -1,0 +1,11 @@
+-- `block::text::find_text`. Invariant: the text is the one after the first i bytes. Measure: the bytes left. Assumes nothing.
+use Rattle.std.proofs.Common.{◌≡◌, ◌-◌, ◌≤◌, take, drop, sym, ◌∙◌, arith}
+use Rattle.block.specs.Text.{text_of}
+use Rattle.block.specs.laws.Text.{text_after, text_start, text_turn}
+use Rattle.block.proofs.text.find_text.Given as goal
+
+abbrev pub invariant-loop-i : goal.invariant-loop-i
+invariant-loop-i l = (l.i ≤ l.n) × (text_of (take l.n (drop l.at l.image)) ≡ text_after l.image l.at l.n l.i)
+
+abbrev pub decreases-loop-i : goal.decreases-loop-i
+decreases-loop-i l = l.n - l.i

@@ -1,0 +1,64 @@
+use Rattle.std.proofs.Common.{◌-◌, length, sym, ap, ◌∙◌, ⊎_elim, arith, rules}
+use Rattle.block.specs.Walk.{count_of, count_blocks}
+use Rattle.block.specs.laws.Turns.{Seen, seen_at, size-inside, at_unsound}
+use Rattle.block.proofs.Counting.{Counting, counts_none, counts_all, counts_live, counts-free}
+use Rattle.block.proofs.walk.count_blocks.Goals as goal
+
+pub overflow_add-objects : goal.overflow_add-objects
+overflow_add-objects c =
+    let seen : Seen c.args.image.now c.loop-d.h c.in-Sound.d = seen_at _ _ _ (sym c.examine.ensures ∙ c.in-Sound.is) in
+    let s = seen in
+    omega (arith, c.loop-d.invariant.below)
+
+pub overflow_add-free : goal.overflow_add-free
+overflow_add-free c =
+    let seen : Seen c.args.image.now c.loop-d.h c.in-Sound.d = seen_at _ _ _ (sym c.examine.ensures ∙ c.in-Sound.is) in
+    let s = seen in
+    omega (arith, c.loop-d.invariant.below)
+
+pub overflow_add-live : goal.overflow_add-live
+overflow_add-live c =
+    let seen : Seen c.args.image.now c.loop-d.h c.in-Sound.d = seen_at _ _ _ (sym c.examine.ensures ∙ c.in-Sound.is) in
+    let s = seen in
+    omega (arith, c.loop-d.invariant.below, size-inside s)
+
+pub overflow_add-h : goal.overflow_add-h
+overflow_add-h c =
+    let seen : Seen c.args.image.now c.loop-d.h c.in-Sound.d = seen_at _ _ _ (sym c.examine.ensures ∙ c.in-Sound.is) in
+    let s = seen in omega arith
+
+pub loop-d-smaller : goal.loop-d-smaller
+loop-d-smaller c =
+    let seen : Seen c.args.image.now c.loop-d.h c.in-Sound.d = seen_at _ _ _ (sym c.examine.ensures ∙ c.in-Sound.is) in
+    let s = seen in omega arith
+
+pub loop-d-preserved : goal.loop-d-preserved
+loop-d-preserved c =
+    let seen : Seen c.args.image.now c.loop-d.h c.in-Sound.d = seen_at _ _ _ (sym c.examine.ensures ∙ c.in-Sound.is) in
+    let w = c.loop-d.invariant in
+    let s = seen in
+    ⊎_elim
+    (λ j. rw (j.1, j.2) (counts_live w s j.0.taken))
+    (λ j. rw (j.2, j.3) (counts-free w s j.0.left))
+    c.if-d-eq2.branch
+
+-- the image's end
+pub returns-then-h-len : goal.returns-then-h-len
+returns-then-h-len c = counts_all c.loop-d.invariant c.if-h-len.true
+
+-- an unsound header
+pub returns-else-h-len : goal.returns-else-h-len
+unfolding count_blocks count_of
+returns-else-h-len c = ap count_of (at_unsound c.loop-d.invariant.rest c.if-h-len.false (sym c.examine.ensures ∙ c.in_default.is))
+
+pub loop-d-init : goal.loop-d-init
+loop-d-init c = counts_none _
+
+pub overflow_sub-result : goal.overflow_sub-result
+overflow_sub-result c = omega (arith, c.loop-d.invariant.below)
+
+pub overflow_sub-result-then-h-len : goal.overflow_sub-result-then-h-len
+overflow_sub-result-then-h-len c = omega (arith, c.loop-d.invariant.below)
+
+pub overflow_sub-result-then-h-len-2 : goal.overflow_sub-result-then-h-len-2
+overflow_sub-result-then-h-len-2 c = omega (arith, c.loop-d.invariant.below)

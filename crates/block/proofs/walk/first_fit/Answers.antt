@@ -1,0 +1,41 @@
+use Rattle.std.proofs.Common.{◌≡◌, ◌-◌, false, length, sym, ap, ◌∙◌, ⊎_elim, arith, rules, eq-eqb, ne_eqb}
+use mathlib.Core.Bool.{and-false}
+use Rattle.block.specs.Walk.{fitting, fit_of, first_fit}
+use Rattle.block.specs.laws.Turns.{Walking, Seen, seen_at, begins, at-end, at_unsound, at_stop, goes_on}
+use Rattle.block.proofs.walk.first_fit.Goals as goal
+
+pub loop-d-init : goal.loop-d-init
+loop-d-init c = begins _ _ _
+
+pub overflow_add-h : goal.overflow_add-h
+overflow_add-h c =
+    let seen : Seen c.args.image.now c.loop-d.h c.in-Sound.d = seen_at _ _ _ (sym c.examine.ensures ∙ c.in-Sound.is) in
+    let s = seen in omega arith
+
+pub loop-d-smaller : goal.loop-d-smaller
+loop-d-smaller c =
+    let seen : Seen c.args.image.now c.loop-d.h c.in-Sound.d = seen_at _ _ _ (sym c.examine.ensures ∙ c.in-Sound.is) in
+    let s = seen in omega arith
+
+pub loop-d-preserved : goal.loop-d-preserved
+loop-d-preserved c =
+    let seen : Seen c.args.image.now c.loop-d.h c.in-Sound.d = seen_at _ _ _ (sym c.examine.ensures ∙ c.in-Sound.is) in
+    let passed : (fitting c.args.need).stops c.loop-d.h c.in-Sound.d ≡ false = ⊎_elim (λ w. simp (and-false, w.2.left)) (λ w. simp (ne_eqb _ _ w.left)) c.else-d-eq1.branch in
+    goes_on c.loop-d.invariant seen passed
+
+-- the image's end
+pub returns-then-h-len : goal.returns-then-h-len
+unfolding first_fit fit_of
+returns-then-h-len c = ap fit_of (at-end c.loop-d.invariant c.if-h-len.true)
+
+-- an unsound header
+pub returns-else-h-len : goal.returns-else-h-len
+unfolding first_fit fit_of
+returns-else-h-len c = ap fit_of (at_unsound c.loop-d.invariant c.if-h-len.false (sym c.examine.ensures ∙ c.in_default.is))
+
+-- a free block that is long enough
+pub returns-then-need-d : goal.returns-then-need-d
+unfolding first_fit fit_of
+returns-then-need-d c =
+    let seen : Seen c.args.image.now c.loop-d.h c.in-Sound.d = seen_at _ _ _ (sym c.examine.ensures ∙ c.in-Sound.is) in
+    ap fit_of (at_stop c.loop-d.invariant seen (simp (eq-eqb _ _ c.if-d-eq1.true, c.if-need-d.true-raw)))

@@ -1,0 +1,13 @@
+-- `block::walk::first_fit`. Invariant: the walk from h on is what is left of the whole walk (`Walking`). Measure: the bytes from h to the image's end.
+-- Assumes nothing.
+use Rattle.std.proofs.Common.{◌≡◌, ◌-◌, false, length, sym, ap, ◌∙◌, ⊎_elim, arith, rules, eq-eqb, ne_eqb}
+use mathlib.Core.Bool.{and-false}
+use Rattle.block.specs.Walk.{fitting, fit_of, first_fit}
+use Rattle.block.specs.laws.Turns.{Walking, Seen, seen_at, begins, at-end, at_unsound, at_stop, goes_on}
+use Rattle.block.proofs.walk.first_fit.Given as goal
+
+abbrev pub invariant-loop-d : goal.invariant-loop-d
+invariant-loop-d l = Walking (fitting l.need) l.image tt tt l.h
+
+abbrev pub decreases-loop-d : goal.decreases-loop-d
+decreases-loop-d l = length l.image - l.h
