@@ -138,7 +138,7 @@ def convert(names, head, uses, decls, module):
         elif re.match(r"\(?(tie|lts)\.[\w-]+[^→]*→\s*(tie|lts)\.[\w-]+[^→]*$", t):
             accessors[d["name"]] = d
         else:
-            m = re.match(r"\(c : (tie|lts)\.([\w'\-]+)[^)]*\)\s*(→\s*)?", t)
+            m = re.match(r"\(c : (tie|lts)\.([\w'\-]+)[^)]*\)\s*(→\s*)?", t) or re.match(r"(tie|lts)\.([\w'\-]+)[^→]*(→\s*)", t)
             if m and len(d["clauses"]) == 1:
                 d["place"] = m.group(2)
                 rest = t[m.end() :]
@@ -181,6 +181,8 @@ def convert(names, head, uses, decls, module):
             return ".".join(["c"] + got)
 
         text = re.sub(r"(?<![\w'\-.])c(?:\." + ID + r")+", one, text)
+        text = re.sub(r"(\.if-[^\s.()]*)\.left(?![\w'\-])", r"\1.false", text)
+        text = re.sub(r"(\.if-[^\s.()]*)\.taken(?![\w'\-])", r"\1.true", text)
         return re.sub(r"\.inv(?![\w'\-])", ".invariant", text)
 
     used_plain = []
@@ -251,6 +253,8 @@ def convert(names, head, uses, decls, module):
             settled = names.d["settled"]
             if len(args) == len(listed):
                 for a, need in zip(args, listed):
+                    if a in helpers and not helpers[a].get("plain"):
+                        inline.append((need, f"{a} c"))
                     if a.startswith("(λ"):
                         m2 = re.match(r"\(λ (c(?: κs)?)\.\s*(.*)\)$", a, re.S)
                         if m2 and m2.group(2).strip() not in ("search rules", "search needs", "omega arith", "omega (arith)"):

@@ -9,5 +9,5 @@ returns c =
     let h = c.args.h in
     let same : 16 + (len - 32) ≡ len - 16 = omega (arith, c.requires) in
     let r : c.wrapping_sub_u64.result < 2 ^ 64 = search rules in
-    let fits : 16 + (len - 32) < 2 ^ 64 = omega (arith, c.fits.len.fits) in
-    wrapped_within c.wrapping_sub_u64.result h 16 (len - 32) r c.wrapping_sub_u64.ensures fits ∙ ap (λ (n : ℕ). leb 16 h && leb h n) same
+    let fits : 16 + (len - 32) < 2 ^ 64 = omega (arith, c.ranges.len.fits) in
+    wrapped_within c.wrapping_sub_u64.result h 16 (len - 32) r c.wrapping_sub_u64.ensures.value fits ∙ ap (λ (n : ℕ). leb 16 h && leb h n) same

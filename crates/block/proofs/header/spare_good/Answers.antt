@@ -9,5 +9,5 @@ returns c =
     let size = c.args.size in
     let same : 16 + size + 15 ≡ 31 + size = omega arith in
     let r : c.wrapping_sub_u64.result < 2 ^ 64 = search rules in
-    wrapped_within c.wrapping_sub_u64.result extent (16 + size) 15 r c.wrapping_sub_u64.ensures (omega (arith, c.requires))
+    wrapped_within c.wrapping_sub_u64.result extent (16 + size) 15 r c.wrapping_sub_u64.ensures.value (omega (arith, c.requires))
     ∙ ap (λ (n : ℕ). leb (16 + size) extent && leb extent n) same

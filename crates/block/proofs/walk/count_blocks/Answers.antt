@@ -3,6 +3,7 @@ use Rattle.block.specs.Walk.{count_of, count_blocks}
 use Rattle.block.specs.laws.Turns.{Seen, seen_at, size-inside, at_unsound}
 use Rattle.block.proofs.Counting.{Counting, counts_none, counts_all, counts_live, counts-free}
 use Rattle.block.proofs.walk.count_blocks.Goals as goal
+use Rattle.block.proofs.walk.count_blocks.Goals.{then-d-eq2, else-d-eq2}
 
 pub overflow_add-objects : goal.overflow_add-objects
 overflow_add-objects c =
@@ -37,10 +38,10 @@ loop-d-preserved c =
     let seen : Seen c.args.image.now c.loop-d.h c.in-Sound.d = seen_at _ _ _ (sym c.examine.ensures ∙ c.in-Sound.is) in
     let w = c.loop-d.invariant in
     let s = seen in
-    ⊎_elim
-    (λ j. rw (j.1, j.2) (counts_live w s j.0.taken))
-    (λ j. rw (j.2, j.3) (counts-free w s j.0.left))
-    c.if-d-eq2.branch
+    elim c.if-d-eq2.branch [
+      then-d-eq2 j ↦ rw (j.objects-is, j.free-is) (counts_live w s j.if-d-eq2.true)
+    | else-d-eq2 j ↦ rw (j.objects-is, j.free-is) (counts-free w s j.if-d-eq2.false)
+    ]
 
 -- the image's end
 pub returns-then-h-len : goal.returns-then-h-len

@@ -1,5 +1,6 @@
 use Rattle.std.proofs.Common.{◌≡◌, ◌-◌, false, length, sym, ap, ◌∙◌, ⊎_elim, arith, rules, eq-eqb, ne_eqb}
 use mathlib.Core.Bool.{and-false}
+use borrow.Author.Tests.{lt-leb}
 use Rattle.block.specs.Walk.{fitting, fit_of, first_fit}
 use Rattle.block.specs.laws.Turns.{Walking, Seen, seen_at, begins, at-end, at_unsound, at_stop, goes_on}
 use Rattle.block.proofs.walk.first_fit.Goals as goal
@@ -20,7 +21,7 @@ loop-d-smaller c =
 pub loop-d-preserved : goal.loop-d-preserved
 loop-d-preserved c =
     let seen : Seen c.args.image.now c.loop-d.h c.in-Sound.d = seen_at _ _ _ (sym c.examine.ensures ∙ c.in-Sound.is) in
-    let passed : (fitting c.args.need).stops c.loop-d.h c.in-Sound.d ≡ false = ⊎_elim (λ w. simp (and-false, w.2.left)) (λ w. simp (ne_eqb _ _ w.left)) c.else-d-eq1.branch in
+    let passed : (fitting c.args.need).stops c.loop-d.h c.in-Sound.d ≡ false = ⊎_elim (λ w. simp (and-false, lt-leb c.args.need c.in-Sound.d.extent w.1)) (λ w. simp (ne_eqb c.in-Sound.d.kind 1 w)) c.else-d-eq1.either in
     goes_on c.loop-d.invariant seen passed
 
 -- the image's end

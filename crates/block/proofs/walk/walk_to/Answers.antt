@@ -5,9 +5,6 @@ use Rattle.block.specs.laws.Turns.{Walking, Seen, seen_at, begins, at_stop, goes
 use Rattle.block.specs.laws.WalkTo.{walk_to_lost}
 use Rattle.block.proofs.walk.walk_to.Goals as goal
 
-target : tie.After-d invariant-loop decreases-loop → ℕ
-target c = (start (at-loop c)).args.target
-
 pub loop-d-init : goal.loop-d-init
 loop-d-init c = begins _ _ _
 
@@ -24,7 +21,7 @@ loop-d-smaller c =
 pub loop-d-preserved : goal.loop-d-preserved
 loop-d-preserved c =
     let seen : Seen c.args.image.now c.loop-d.h c.in-Sound.d = seen_at _ _ _ (sym c.examine.ensures ∙ c.in-Sound.is) in
-    goes_on c.loop-d.invariant seen (lt-leb (target c) c.loop-d.h (omega arith))
+    goes_on c.loop-d.invariant seen (lt-leb c.args.target c.loop-d.h (omega arith))
 
 -- no sound header
 pub returns-in_default : goal.returns-in_default
@@ -35,11 +32,11 @@ pub returns-then-h-target : goal.returns-then-h-target
 unfolding walk_to met_of
 returns-then-h-target c =
     let seen : Seen c.args.image.now c.loop-d.h c.in-Sound.d = seen_at _ _ _ (sym c.examine.ensures ∙ c.in-Sound.is) in
-    rw (← at_stop c.loop-d.invariant seen (le-leb (target c) c.loop-d.h (omega arith)), eq-eqb _ _ c.if-h-target.true)
+    rw (← at_stop c.loop-d.invariant seen (le-leb c.args.target c.loop-d.h (omega arith)), eq-eqb _ _ c.if-h-target.true)
 
 -- the first block above the target
 pub returns-then-target-h : goal.returns-then-target-h
 unfolding walk_to met_of
 returns-then-target-h c =
     let seen : Seen c.args.image.now c.loop-d.h c.in-Sound.d = seen_at _ _ _ (sym c.examine.ensures ∙ c.in-Sound.is) in
-    rw (← at_stop c.loop-d.invariant seen (le-leb (target c) c.loop-d.h (omega arith)), ne_eqb _ _ c.if-h-target.false)
+    rw (← at_stop c.loop-d.invariant seen (le-leb c.args.target c.loop-d.h (omega arith)), ne_eqb _ _ c.if-h-target.false)

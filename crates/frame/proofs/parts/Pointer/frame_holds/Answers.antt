@@ -22,4 +22,4 @@ overflow_add-result c =
 
 -- it is: the last byte decides
 pub returns : goal.returns
-returns c = rw (c.last_held.ensures, eq-eqb _ _ c.if-h-half.left)
+returns c = rw (c.last_held.ensures, eq-eqb _ _ c.if-h-half.false)
