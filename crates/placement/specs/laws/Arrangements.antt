@@ -159,12 +159,16 @@ orders_ascend n i j l h =
     (subst (λ (o : List ℕ). Before (picked n (positions n) i) o) (sym (order_picked n j h))
     (picked-before n (positions n) (positions-length n 0) (positions_ascend n) i j l h))
 
+-- an order that stands before one that stands before a third is not the third
+before_apart : (xs ys zs : List ℕ) → Before xs ys → Before ys zs → xs ≡ zs → ⊥
+before_apart _ _ _ (here a b xs ys l) (here _ c _ zs m) e = let d : a ≡ c = cc in omega arith
+before_apart _ _ _ (here a b xs ys l) (later _ _ zs w) e = let d : a ≡ b = cc in omega arith
+before_apart _ _ _ (later a xs ys v) (here _ c _ zs m) e = let d : a ≡ c = cc in omega arith
+before_apart _ _ _ (later a xs ys v) (later _ _ zs w) e = let d : xs ≡ zs = cc in before_apart xs ys zs v w d
+
 -- no order stands before one that stands before it
 before-not : (xs ys : List ℕ) → Before xs ys → Before ys xs → ⊥
-before-not _ _ (here a b xs ys l) (here _ _ _ _ m) = omega arith
-before-not _ _ (here a b xs ys l) (later _ _ _ w) = omega arith
-before-not _ _ (later a xs ys v) (here _ _ _ _ m) = omega arith
-before-not _ _ (later a xs ys v) (later _ _ _ w) = before-not xs ys v w
+before-not xs ys v w = before_apart xs ys xs v w refl
 
 before_itself : (xs : List ℕ) → Before xs xs → ⊥
 before_itself xs w = before-not xs xs w w
