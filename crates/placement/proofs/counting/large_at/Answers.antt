@@ -1,6 +1,5 @@
 -- `placement::counting::large_at`: a slot holds the object or not. Assumes nothing.
 use mathlib.Core.Path.{sym, ◌∙◌}
-use borrow.Author.Rules.{rules}
 use Rattle.placement.specs.laws.Counts.{small_here, large_here}
 use Rattle.placement.proofs.counting.large_at.Goals as goal
 

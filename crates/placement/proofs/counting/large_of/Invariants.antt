@@ -1,13 +1,8 @@
 -- `placement::counting::large_of`. Invariant: the count, with that of what is left to pick from h on, is that of the whole order (`Counted`). Measure: the
 -- objects that are left. Assumes nothing.
-use Prim.Native.Nat.{ℕ, ◌+◌, ◌-◌, ◌/◌, ◌%◌}
-use mathlib.Core.Path.{◌≡◌, ap, ◌∙◌}
-use native.Mathlib.Omega.{arith}
-use lib.ListN.{length, get_or}
-use borrow.Author.Rules.{rules}
-use Rattle.placement.specs.laws.Packed.{place_in, removed_from}
-use Rattle.placement.specs.laws.Rows.{planned}
-use Rattle.placement.proofs.Picking.{Counted, Turn, turn, counting-begins, counting-ends}
+use Prim.Native.Nat.{◌-◌}
+use lib.ListN.{length}
+use Rattle.placement.proofs.Picking.{Counted}
 use Rattle.placement.proofs.counting.large_of.Given as goal
 
 abbrev pub invariant-loop-j : goal.invariant-loop-j

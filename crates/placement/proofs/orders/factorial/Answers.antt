@@ -1,5 +1,5 @@
 -- `placement::orders::factorial`: each row by computation; a number up to 8 that is none of 0 to 7 is 8. Assumes nothing.
-use Prim.Native.Nat.{ℕ, ◌≤◌}
+use Prim.Native.Nat.{ℕ}
 use mathlib.Core.Path.{◌≡◌, sym, ap}
 use native.Mathlib.Omega.{arith}
 use Rattle.placement.specs.Orders.{factorial}

@@ -1,6 +1,5 @@
-use Prim.Native.Nat.{◌-◌, ◌/◌, ◌<◌}
-use native.Mathlib.Omega.{arith}
-use Rattle.placement.proofs.Picking.{Picking, Placing, divisor, digit, placing_begins, placing_goes_on, ends}
+use Prim.Native.Nat.{◌/◌, ◌<◌}
+use Rattle.placement.proofs.Picking.{divisor, digit, placing_begins, placing_goes_on, ends}
 use Rattle.placement.proofs.orders.order_at.Goals as goal
 
 pub loop-j-init : goal.loop-j-init

@@ -1,8 +1,7 @@
 -- `placement::orders::order_at`. Invariant: what is left to pick, written from place j on, makes the whole order (`Picking`, `Placing`). Measure: the places
 -- that are left. Assumes nothing.
-use Prim.Native.Nat.{◌-◌, ◌/◌, ◌<◌}
-use native.Mathlib.Omega.{arith}
-use Rattle.placement.proofs.Picking.{Picking, Placing, divisor, digit, placing_begins, placing_goes_on, ends}
+use Prim.Native.Nat.{◌-◌}
+use Rattle.placement.proofs.Picking.{Picking, Placing}
 use Rattle.placement.proofs.orders.order_at.Given as goal
 
 abbrev pub invariant-loop-j : goal.invariant-loop-j

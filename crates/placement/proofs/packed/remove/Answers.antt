@@ -5,7 +5,6 @@ use native.Mathlib.Omega.{arith}
 use lib.Pow.{pow_pos}
 use Rattle.placement.specs.laws.Packed.{removed_from}
 use Rattle.placement.proofs.Shifts.{one_shl, behind_shl, removed_most}
-use borrow.Author.Rules.{rules}
 use Rattle.placement.proofs.packed.remove.Goals as goal
 
 -- what is computed is the definition's

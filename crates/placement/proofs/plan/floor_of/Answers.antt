@@ -1,7 +1,5 @@
-use Prim.Native.Nat.{◌+◌, ◌-◌}
+use Prim.Native.Nat.{◌+◌}
 use native.Mathlib.Omega.{arith}
-use lib.ListN.{length}
-use borrow.Author.Rules.{rules}
 use Rattle.placement.proofs.Turns.{FloorTo, floor_begins, floor_goes_on, floor_ends}
 use Rattle.placement.proofs.plan.floor_of.Goals as goal
 

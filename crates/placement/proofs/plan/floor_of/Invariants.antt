@@ -1,10 +1,8 @@
 -- `placement::plan::floor_of`. Invariant: the count, with that from i on, is that of all sizes (`FloorTo`). Measure: the sizes that are left. Assumes
 -- nothing.
-use Prim.Native.Nat.{◌+◌, ◌-◌}
-use native.Mathlib.Omega.{arith}
+use Prim.Native.Nat.{◌-◌}
 use lib.ListN.{length}
-use borrow.Author.Rules.{rules}
-use Rattle.placement.proofs.Turns.{FloorTo, floor_begins, floor_goes_on, floor_ends}
+use Rattle.placement.proofs.Turns.{FloorTo}
 use Rattle.placement.proofs.plan.floor_of.Given as goal
 
 abbrev pub invariant-loop-i : goal.invariant-loop-i

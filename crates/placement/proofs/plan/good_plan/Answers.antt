@@ -1,8 +1,6 @@
 -- `placement::plan::good_plan`: the definition's tests in their order. Assumes nothing.
 use mathlib.Core.Path.{sym, ◌∙◌}
 use native.Mathlib.Omega.{arith}
-use borrow.Author.Rules.{rules}
-use borrow.Author.Tests.{not-true, not-false}
 use Rattle.block.specs.laws.Booleans.{true_false, refuted}
 use Rattle.placement.specs.laws.Rows.{planned, plan_rest}
 use Rattle.placement.proofs.plan.good_plan.Goals as goal

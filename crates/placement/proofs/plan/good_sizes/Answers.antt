@@ -1,9 +1,5 @@
-use Prim.Native.Nat.{◌-◌, ◌≤◌}
-use mathlib.Core.Path.{◌≡◌, refl, sym, ◌∙◌}
+use mathlib.Core.Path.{refl, sym, ◌∙◌}
 use native.Mathlib.Omega.{arith}
-use lib.ListN.{length, drop}
-use borrow.Author.Rules.{rules}
-use Rattle.placement.specs.Placement.{good_sizes}
 use Rattle.placement.proofs.Turns.{good_turn, bad_turn, good_end}
 use Rattle.placement.proofs.plan.good_sizes.Goals as goal
 

@@ -1,5 +1,4 @@
 -- `placement::plan::oversized`: the definition's test, 2^s by a shift. Assumes nothing.
-use borrow.Author.Rules.{rules}
 use Rattle.placement.proofs.Turns.{fits_none, fits_one}
 use Rattle.placement.proofs.plan.oversized.Goals as goal
 

@@ -5,8 +5,6 @@ use mathlib.Core.Bool.{true}
 use mathlib.Core.List.{List}
 use native.Mathlib.Omega.{arith}
 use lib.ListN.{length}
-use borrow.Author.Rules.{rules}
-use borrow.Author.Tests.{not-true, not-false}
 use Rattle.placement.specs.declared.answer.Placement.{Placement}
 use Rattle.placement.specs.Orders.{factorial}
 use Rattle.placement.specs.Placement.{good_plan, large, floor_of, best_order, eight_places, found}

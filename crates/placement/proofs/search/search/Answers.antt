@@ -1,9 +1,7 @@
-use Prim.Native.Nat.{◌-◌}
 use mathlib.Core.Path.{ap, ◌∙◌}
-use mathlib.Core.Logic.{⊎_elim}
 use native.Mathlib.Omega.{arith}
 use Rattle.placement.specs.Placement.{large}
-use Rattle.placement.proofs.Searching.{Searching, searching_begins, searching_takes, searching_keeps, searching_ends}
+use Rattle.placement.proofs.Searching.{searching_begins, searching_takes, searching_keeps, searching_ends}
 use Rattle.placement.proofs.search.search.Goals as goal
 use Rattle.placement.proofs.search.search.Goals.{then-count-least, else-count-least}
 
@@ -16,11 +14,12 @@ loop-i-init c =
 pub loop-i-preserved : goal.loop-i-preserved
 loop-i-preserved c =
     let pre = c.requires in
-    elim c.if-count-least.branch
-      [ then-count-least j ↦
-        rw (j.index-is, j.least-is) (searching_takes _ _ _ c.loop-i.invariant pre.2 c.loop-i-test.true _ c.large_of-count.ensures j.if-count-least.true)
+    elim c.if-count-least.branch [
+      | then-count-least j ↦
+          rw (j.index-is, j.least-is) (searching_takes _ _ _ c.loop-i.invariant pre.2 c.loop-i-test.true _ c.large_of-count.ensures j.if-count-least.true)
       | else-count-least j ↦
-        rw (j.index-is, j.least-is) (searching_keeps _ _ _ c.loop-i.invariant pre.2 c.loop-i-test.true _ c.large_of-count.ensures j.if-count-least.false) ]
+          rw (j.index-is, j.least-is) (searching_keeps _ _ _ c.loop-i.invariant pre.2 c.loop-i-test.true _ c.large_of-count.ensures j.if-count-least.false)
+    ]
 
 pub returns : goal.returns
 returns c =

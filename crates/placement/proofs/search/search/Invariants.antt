@@ -1,11 +1,7 @@
 -- `placement::search::search`. Invariant: the best so far and the orders that are left have the first best of all that are tried (`Searching`). Measure: the
 -- orders that are left. Assumes nothing.
 use Prim.Native.Nat.{◌-◌}
-use mathlib.Core.Path.{ap, ◌∙◌}
-use mathlib.Core.Logic.{⊎_elim}
-use native.Mathlib.Omega.{arith}
-use Rattle.placement.specs.Placement.{large}
-use Rattle.placement.proofs.Searching.{Searching, searching_begins, searching_takes, searching_keeps, searching_ends}
+use Rattle.placement.proofs.Searching.{Searching}
 use Rattle.placement.proofs.search.search.Given as goal
 
 abbrev pub invariant-loop-i : goal.invariant-loop-i

@@ -1,9 +1,5 @@
 -- `placement::Placement::order_word`. Invariant: the places from i on are packed (`Packing`). Measure: i. Assumes nothing.
-use Prim.Native.Nat.{◌+◌, ◌-◌, ◌*◌}
-use mathlib.Core.Path.{refl}
-use native.Mathlib.Omega.{arith}
-use lib.ListN.{get_or}
-use Rattle.placement.proofs.Packing.{Packing, packing_begins, packing_goes_on, packing_fits, packing_ends}
+use Rattle.placement.proofs.Packing.{Packing}
 use Rattle.placement.proofs.answer.Placement.order_word.Given as goal
 
 abbrev pub invariant-loop-i : goal.invariant-loop-i
