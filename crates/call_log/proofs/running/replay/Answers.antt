@@ -33,27 +33,27 @@ loop-f-preserved c =
     let l = c.loop-f in
     let e = c.run_record-done.ensures in
     let behind = next-behind _ _ _ _ record-found in (
-      omega (arith, c.run_record-done.auto.0, l.invariant.0),
-      omega (arith, c.run_record-done.auto.1.0, l.invariant.1),
-      omega (arith, c.run_record-done.auto.1.1.1.0, l.invariant.2),
-      went_on l.invariant.3 _ _ record-found _ _ _ e.1.0 e.0.0 e.0.1
-          (omega (arith, e.0.1, l.invariant.3.short, l.invariant.2, c.requires)) e.1.1,
+      omega (arith, c.run_record-done.auto.image, l.invariant.0),
+      omega (arith, c.run_record-done.auto.table, l.invariant.1),
+      omega (arith, c.run_record-done.auto.text, l.invariant.2),
+      went_on l.invariant.3 _ _ record-found _ _ _ e.text_after e.value.0 e.value.1
+          (omega (arith, e.value.1, l.invariant.3.short, l.invariant.2, c.requires)) e.table_after,
     )
 
 -- the log is used up
 pub returns-in-End : goal.returns-in-End
 returns-in-End c =
     let (text, left) = ended c.loop-f.invariant.3 (sym c.read.ensures ∙ c.in-End.is) in
-    (omega (arith, c.loop-f.invariant.3.short, c.loop-f.invariant.3.inside, c.loop-f.invariant.2, c.requires), (text, left))
+    record { upper_bound = omega (arith, c.loop-f.invariant.3.short, c.loop-f.invariant.3.inside, c.loop-f.invariant.2, c.requires); text_after = text; table_after = left }
 
 -- a malformed record
 pub returns-in-Malformed : goal.returns-in-Malformed
 returns-in-Malformed c =
     let e = c.put_fault.ensures in
     let room : c.put_fault.result ≤ length c.loop-f.text =
-    omega (arith, e.0.1, c.loop-f.invariant.3.short, c.loop-f.invariant.3.inside, c.loop-f.invariant.2, c.requires) in
-    let (text, left) = broken c.loop-f.invariant.3 _ (sym c.read.ensures ∙ c.in-Malformed.is) _ _ e.1 e.0.0 room in
-    (omega (arith, room, c.put_fault.auto.0), (text, left))
+    omega (arith, e.value.1, c.loop-f.invariant.3.short, c.loop-f.invariant.3.inside, c.loop-f.invariant.2, c.requires) in
+    let (text, left) = broken c.loop-f.invariant.3 _ (sym c.read.ensures ∙ c.in-Malformed.is) _ _ e.text_after e.value.0 room in
+    record { upper_bound = omega (arith, room, c.put_fault.auto.text); text_after = text; table_after = left }
 
 pub loop-f-init : goal.loop-f-init
 loop-f-init c = (refl, refl, refl, not-begun _ _ _)

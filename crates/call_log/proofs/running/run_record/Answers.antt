@@ -16,5 +16,5 @@ returns c =
     let made = c.make-answer.ensures in
     let put = c.put_answer.ensures in
     let (position, line) =
-    call_line a.c (state a.image.now a.table.now) _ _ _ _ _ _ c.kind_of.ensures (ap (λ (o : Outcome). o.answer) made) put.0.0 put.1 in
-    ((position, put.0.1), (line, ap (λ (o : Outcome). o.after) made))
+    call_line a.c (state a.image.now a.table.now) _ _ _ _ _ _ c.kind_of.ensures (ap (λ (o : Outcome). o.answer) made) put.value.0 put.text_after in
+    record { value = (position, put.value.1); text_after = line; table_after = ap (λ (o : Outcome). o.after) made }

@@ -6,7 +6,9 @@ use Rattle.call_log.specs.Text.{digit}
 use Rattle.call_log.proofs.text.digit.Goals as goal
 
 pub returns-then-d-lt10 : goal.returns-then-d-lt10
+unfolding digit
 returns-then-d-lt10 c = rw (lt-ltb _ _ c.if-d-lt10.true) refl
 
 pub returns-else-d-lt10 : goal.returns-else-d-lt10
+unfolding digit
 returns-else-d-lt10 c = rw (le-ltb _ _ c.if-d-lt10.false) refl

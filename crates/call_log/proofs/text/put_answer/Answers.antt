@@ -11,9 +11,9 @@ pub returns : goal.returns
 returns c =
     let p = c.put_number-p.ensures in
     let q = c.put_number-q.ensures in
-    let low = p.0.1 in
-    let high = q.0.1 in
+    let low = p.value.1 in
+    let high = q.value.1 in
     let (position, text) =
     line_put _ _ _ _ _ _ _ _ _ _ _ _ _ c.returned.ensures c.value.ensures
-    p.0.0 p.1 q.0.0 q.1 c.put_hexadecimal.ensures c.put_byte.ensures (omega (arith, c.requires.1)) in
-    ((position, omega arith), text)
+    p.value.0 p.text_after q.value.0 q.text_after c.put_hexadecimal.ensures c.put_byte.ensures (omega (arith, c.requires.1)) in
+    record { value = (position, omega arith); text_after = text }

@@ -8,14 +8,14 @@ use Rattle.call_log.proofs.text.put_decimal.Goals as goal
 pub returns-then-n-lt10 : goal.returns-then-n-lt10
 returns-then-n-lt10 c =
     let e = decimal_one _ c.if-n-lt10.true in
-    (rw e refl, c.put_byte.ensures ∙ rw (c.digit.ensures, e) refl)
+    record { value = rw e refl; text_after = c.put_byte.ensures ∙ rw (c.digit.ensures, e) refl }
 
 -- two digits
 pub returns : goal.returns
 returns c =
     let n = c.if-n-lt10.false in
-    let l = c.requires.0 in (
-      rw (decimal_two _ n l) refl,
-      decimal-put _ _ _ _ _ _ _ n l c.digit-2.ensures c.digit-3.ensures c.put_byte-2.ensures
-          c.put_byte-3.ensures c.requires.1,
-    )
+    let l = c.requires.0 in
+    record {
+      value = rw (decimal_two _ n l) refl;
+      text_after = decimal-put _ _ _ _ _ _ _ n l c.digit-2.ensures c.digit-3.ensures c.put_byte-2.ensures c.put_byte-3.ensures c.requires.1;
+    }

@@ -11,6 +11,6 @@ pub returns : goal.returns
 returns c =
     let a = c.args in
     let p = c.put_number.ensures in
-    let l = p.0.1 in
-    let (position, text) = fault_put _ a.at a.f _ _ _ _ c.fault_number.ensures c.put_log.ensures p.0.0 p.1 (omega (arith, c.requires)) in
-    ((position, omega arith), text)
+    let l = p.value.1 in
+    let (position, text) = fault_put _ a.at a.f _ _ _ _ c.fault_number.ensures c.put_log.ensures p.value.0 p.text_after (omega (arith, c.requires)) in
+    record { value = (position, omega arith); text_after = text }
