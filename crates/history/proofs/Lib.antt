@@ -21,3 +21,7 @@ mod Steps
 mod Releases
 mod Orders
 pub mod Theorem
+-- what a free does to plain objects, for other crates
+pub mod PlainFrees
+-- the worked example's claim
+pub mod Claimed

@@ -1,6 +1,5 @@
 -- Lists of calls that demand 3 admits, and what they leave, by computation: the claims are about lists such as these. Assumes nothing.
 use Rattle.std.specs.Prelude.{ℕ, ◌≡◌, refl, true, List, [], ◌∷◌, length, replicate, get_or, pos, negsuc}
-use Rattle.std.proofs.Common.{arith}
 use Rattle.frame.specs.Frame.{frame_number, frame_number_in}
 use Rattle.frame.specs.Pointers.{unpack, pack, good_tag, reach, landed, moved}
 use Rattle.frame.specs.Tags.{wrapper, tag_number, pointer_to, tag_matches, used_entries, entry_at}
@@ -16,7 +15,7 @@ use Rattle.store.specs.declared.counting.Usage.TheVariants as usage
 use Rattle.store.specs.Step.{Call, allocates, frees, moves, loads, stores, fills, copies, copies_text, allocates_for, releases}
 use Rattle.history.specs.Heap.{Object, new_object, member, owner_of, inside, change, without, passing, write, copied, copied_text, text_copied, hear}
 use Rattle.history.specs.History.{Configuration, begun, after, all_admitted, known}
-use Rattle.history.specs.Commuting.{Commute, free_of, EitherOrder}
+use Rattle.history.specs.Commuting.{Commute, free_of}
 
 -- an image of 128 bytes and a table, full of other bytes, set up at the slot exponent 6
 abbrev fresh6 : Configuration
@@ -73,7 +72,7 @@ unfolding frame_number frame_number_in unpack pack good_tag reach landed moved w
 admitted-calls = (refl, refl, refl, refl, refl, refl)
 
 -- an image of 192 bytes and a table, full of other bytes
-abbrev lent : State
+abbrev pub lent : State
 lent = state (replicate 192 7) (replicate 100 9)
 
 -- Three neighbours, written from end to end: one of no cue, one of cue 9 and one more of no cue, both large-framed.
@@ -88,11 +87,11 @@ neighbours =
     ∷ []
 
 -- what they leave, set up at the slot exponent 6
-abbrev left : Configuration
+abbrev pub left : Configuration
 left = after neighbours (begun 6 lent)
 
 -- one of them, in the order of allocation
-abbrev neighbour : ℕ → Object
+abbrev pub neighbour : ℕ → Object
 neighbour i = get_or left.heap i (new_object 0 0 0)
 
 -- Any two are freed in either order; cue 0, which has two of them, and cue 9 are released in either order, and so are cue 9 and a cue without objects.
@@ -113,17 +112,3 @@ neighbours_commute = (
   record { a_accepted = refl; b-accepted = refl; a_answer = refl; b_answer = refl; same = refl },
   record { a_accepted = refl; b-accepted = refl; a_answer = refl; b_answer = refl; same = refl },
 )
-
--- What the claim says of them, without computing it: image and table are the same whichever of the outer two is freed first, and whichever of cue 0 and cue
--- 2^32 - 1, or of cue 9 and cue 0, is released first.
-pub claimed : EitherOrder → let x : State = left.state in
-    ((free (neighbour 2).answer (free (neighbour 0).answer x).after).after ≡ (free (neighbour 0).answer (free (neighbour 2).answer x).after).after)
-    × ((release_cue 0xFFFFFFFF (release_cue 0 x).after).after ≡ (release_cue 0 (release_cue 0xFFFFFFFF x).after).after)
-    × ((release_cue 0 (release_cue 9 x).after).after ≡ (release_cue 9 (release_cue 0 x).after).after)
-unfolding EitherOrder
-claimed claim =
-    let agree = claim 6 lent neighbours_commute.0 neighbours neighbours_commute.1 in (
-      (agree.frees 0 2 (new_object 0 0 0) (omega arith) (omega (arith, neighbours_commute.2))).same,
-      (agree.releases 0 0xFFFFFFFF (omega arith) (omega arith) (λ e. omega (arith, e))).same,
-      (agree.releases 9 0 (omega arith) (omega arith) (λ e. omega (arith, e))).same,
-    )

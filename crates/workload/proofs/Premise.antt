@@ -17,7 +17,8 @@ use Rattle.history.specs.Heap.{Heap, hear}
 use Rattle.history.specs.History.{admitted, Configuration, next, after, all_admitted, begun, Holds}
 use Rattle.history.specs.Release.{answers}
 use Rattle.history.specs.laws.Lists.{after_none, after_first, admitted_none, admitted-first, Reached, reached_itself, reached_next}
-use Rattle.history.specs.laws.Plain.{AllPlain, length-answers, Owner, owner_at, owner_small, owner_inside, Held, held_none, allocate_held, declined_held, store_held, free_held}
+use Rattle.history.specs.laws.Plain.{AllPlain, length-answers, Owner, owner_at, owner_small, owner_inside, Held, held_none, allocate_held, declined_held, store_held}
+use Rattle.history.proofs.PlainFrees.{free_held}
 use Rattle.history.proofs.Theorem.{reached_holds}
 use Rattle.call_log.specs.Run as run
 use Rattle.call_log.specs.Run.{asked, made}

@@ -1,5 +1,6 @@
 -- Heaps of plain objects, each with one pointer, allocate's answer, and one byte or more: what lists without moves and empty objects leave.
--- In order: allocate's answers; one object more, written, less; a pointer's owner; what allocate, store and free do. Not here: the image. Assumes nothing.
+-- In order: allocate's answers; one object more, written, less; a pointer's owner; what allocate and store do (free: `proofs/PlainFrees`). Not here: the
+-- image. Assumes nothing.
 use Rattle.std.specs.Prelude.{ℕ, zero, suc, ◌+◌, ◌-◌, ◌^◌, ◌<◌, ◌≡◌, refl, Bool, true, false, cond, ◌&&◌, List, [], ◌∷◌, ◌++◌, length, take, drop, get_or, eqb}
 use Rattle.std.proofs.Common.{sym, ap, ◌∙◌, subst, suc-add, arith, eq-eqb, ne_eqb, eqb-true, le-leb}
 use Rattle.std.proofs.Math.Bool.{or-false}
@@ -11,7 +12,7 @@ use Rattle.block.specs.Bytes.{encode}
 use Rattle.block.specs.laws.Booleans.{by_bool, and_both}
 use Rattle.store.specs.State.{returned}
 use Rattle.store.specs.Calls.{good_width}
-use Rattle.store.specs.Step.{allocates, frees, stores}
+use Rattle.store.specs.Step.{allocates, stores}
 use Rattle.store.specs.laws.Refusals.{refused_some}
 use Rattle.store.specs.declared.answer.Answer.{Answer}
 use Rattle.store.specs.declared.answer.Answer.TheVariants.{Accepted, Refused}
@@ -107,11 +108,11 @@ pub answer_place : (o o' : Object) → o.answer ≡ o'.answer → header_of o �
 answer_place o o' e = ap (λ (a : ℕ). (unpack a).address - 16) e
 
 -- no two objects have the same answer, since they have different header places
-answers_apart : (heap : Heap) → Pairwise heap (λ o o'. header_of o ≡ header_of o' → ⊥) → Pairwise heap (λ o o'. o.answer ≡ o'.answer → ⊥)
+pub answers_apart : (heap : Heap) → Pairwise heap (λ o o'. header_of o ≡ header_of o' → ⊥) → Pairwise heap (λ o o'. o.answer ≡ o'.answer → ⊥)
 answers_apart heap a i j d l u e = a i j d l u (answer_place (get_or heap i d) (get_or heap j d) e)
 
 -- taking an object out by its answer takes its place out, and no other
-answers-without : (heap : Heap) (i : ℕ) → i < length heap → Pairwise heap (λ o o'. o.answer ≡ o'.answer → ⊥)
+pub answers-without : (heap : Heap) (i : ℕ) → i < length heap → Pairwise heap (λ o o'. o.answer ≡ o'.answer → ⊥)
     → answers (without heap (get_or (answers heap) i 0)) ≡ take i (answers heap) ++ drop (i + 1) (answers heap)
 unfolding without answers
 answers-without [] i l a = absurd (omega arith)
@@ -121,7 +122,7 @@ answers-without (x ∷ xs) (suc i) l a =
     let rest = answers-without xs i (omega arith) (λ j k d m u. a (suc j) (suc k) d (omega arith) (omega arith)) in
     rw (ne_eqb x.answer (get_or (answers xs) i 0) other, suc-add i 1) (ap (λ (r : List ℕ). x.answer ∷ r) rest)
 
-plain-without : (heap : Heap) (p : ℕ) → AllPlain heap → AllPlain (without heap p)
+pub plain-without : (heap : Heap) (p : ℕ) → AllPlain heap → AllPlain (without heap p)
 unfolding without
 plain-without [] p a = tt
 plain-without (x ∷ xs) p a =
@@ -185,7 +186,7 @@ module _ {heap : Heap} {p : ℕ} (o : Owner heap p) where
       (and_both _ _ (le-leb (start o.object) (start o.object) (omega arith))
       (le-leb (start o.object + 1) (start o.object + o.object.size) (omega (arith, o.plain.some_byte))))
 
--- What allocate, store and free do.
+-- What allocate and store do.
 
 -- The objects are plain, and these are their answers.
 pub record Held (heap : Heap) (ps : List ℕ) : Type 0 where
@@ -219,13 +220,3 @@ module _ (heap : Heap) (plain : AllPlain heap) where
       alike_cond (good_width width && ltb v (256 ^ width)) (write_alike (owner_of heap p) p width (encode width v) heap) (alike_itself heap)
       in
       record { same = e.same; plain = e.plain plain }
-
-  -- a free takes one out
-  pub free_held : (i : ℕ) (a : Answer) → i < length heap → Pairwise heap (λ o o'. header_of o ≡ header_of o' → ⊥)
-      → Held (hear heap (frees (get_or (answers heap) i 0)) a) (take i (answers heap) ++ drop (i + 1) (answers heap))
-  unfolding hear
-  free_held i a l apart =
-      record {
-        same = answers-without heap i l (answers_apart heap apart);
-        plain = plain-without heap (get_or (answers heap) i 0) plain;
-      }
