@@ -26,14 +26,14 @@ pub returns-then-not-fits : goal.returns-then-not-fits
 returns-then-not-fits c =
     let is_open : opening (state c.args.image.now c.args.table.now) ≡ Accepted c.in-Accepted.s = sym c.opening.ensures ∙ c.in-Accepted.is in
     let is-good : good_width c.args.width ≡ true = sym c.good_width.ensures ∙ not-false _ c.if-not-good_width.false-raw in
-    store-large (state _ _) _ is_open _ _ _ is-good (sym c.fits2.ensures ∙ not-true _ c.if-not-fits.true-raw)
+    store-large (state _ _) _ is_open _ _ _ is-good (sym c.fits.ensures ∙ not-true _ c.if-not-fits.true-raw)
 
 -- small-framed
 pub returns-then-p : goal.returns-then-p
 returns-then-p c =
     let is_open : opening (state c.args.image.now c.args.table.now) ≡ Accepted c.in-Accepted.s = sym c.opening.ensures ∙ c.in-Accepted.is in
     let is-good : good_width c.args.width ≡ true = sym c.good_width.ensures ∙ not-false _ c.if-not-good_width.false-raw in
-    let passed : let x = state c.args.image.now c.args.table.now in accessed c.in-Accepted.s c.unpack-p.result c.args.width x ≡ store_checks c.args.pointer c.args.width c.args.value x = let x = state c.args.image.now c.args.table.now in ap (λ (p : Pointer). accessed c.in-Accepted.s p c.args.width x) c.unpack-p.ensures ∙ store_access x _ is_open _ _ _ is-good (sym c.fits2.ensures ∙ not-false _ c.if-not-fits.false) in
+    let passed : let x = state c.args.image.now c.args.table.now in accessed c.in-Accepted.s c.unpack-p.result c.args.width x ≡ store_checks c.args.pointer c.args.width c.args.value x = let x = state c.args.image.now c.args.table.now in ap (λ (p : Pointer). accessed c.in-Accepted.s p c.args.width x) c.unpack-p.ensures ∙ store_access x _ is_open _ _ _ is-good (sym c.fits.ensures ∙ c.if-not-fits.false) in
     c.access_small.ensures _ ∙ passed
 
 -- row 4 or 5
@@ -45,7 +45,7 @@ pub returns-else-p : goal.returns-else-p
 returns-else-p c =
     let is_open : opening (state c.args.image.now c.args.table.now) ≡ Accepted c.in-Accepted.s = sym c.opening.ensures ∙ c.in-Accepted.is in
     let is-good : good_width c.args.width ≡ true = sym c.good_width.ensures ∙ not-false _ c.if-not-good_width.false-raw in
-    let passed : let x = state c.args.image.now c.args.table.now in accessed c.in-Accepted.s c.unpack-p.result c.args.width x ≡ store_checks c.args.pointer c.args.width c.args.value x = let x = state c.args.image.now c.args.table.now in ap (λ (p : Pointer). accessed c.in-Accepted.s p c.args.width x) c.unpack-p.ensures ∙ store_access x _ is_open _ _ _ is-good (sym c.fits2.ensures ∙ not-false _ c.if-not-fits.false) in
+    let passed : let x = state c.args.image.now c.args.table.now in accessed c.in-Accepted.s c.unpack-p.result c.args.width x ≡ store_checks c.args.pointer c.args.width c.args.value x = let x = state c.args.image.now c.args.table.now in ap (λ (p : Pointer). accessed c.in-Accepted.s p c.args.width x) c.unpack-p.ensures ∙ store_access x _ is_open _ _ _ is-good (sym c.fits.ensures ∙ c.if-not-fits.false) in
     c.access_large.ensures ∙ passed
 
 pub access_small-requires : goal.access_small-requires

@@ -14,7 +14,7 @@ pub write_field-requires : goal.write_field-requires
 write_field-requires c =
     let passed : let a = c.args in store_checks a.pointer a.width a.value (state a.image.now a.table.now) ≡ Accepted c.in-Accepted.at = sym c.storable.ensures ∙ c.in-Accepted.is in
     let p = store_parts _ _ _ (state _ _) _ passed in
-    let (low, high) = width_range _ p.good_width in
+    let (low, high) = width_range _ p.good_width_lem in
     (low, high, p.bytes.inside)
 
 -- row 4, 5, 14, 16, 10, 11 or 13

@@ -52,7 +52,7 @@ returns-then-stored_total-taken_extent c =
     let found : let a = c.args in first_fit a.image.now (16 + a.size) ≡ fit.At c.in-At.h = sym c.first_fit.ensures ∙ c.in-At.is in
     let tested : let a = c.args in entry_holds a.s c.in-At.h a.size 0 a.table.now ≡ c.entry_holds.result = let a = c.args in sym (tagged-holds a.s c.in-At.h a.size a.table.now 0) ∙ ap (λ (t : Tagged). holds_for t 0 a.table.now) (sym c.tag_object-t.ensures) ∙ sym c.entry_holds.ensures in
     site_refused _ _ _ _
-    (allocate_wrong _ (state _ _) _ c.requires _ found (tested ∙ not-false _ c.if-not-entry_holds.false)
+    (allocate_wrong _ (state _ _) _ c.requires _ found (tested ∙ c.if-not-entry_holds.false)
     (omega (arith, c.stored_total.ensures.0, c.taken_extent.ensures)))
 
 -- row 7
@@ -69,5 +69,5 @@ returns-else-stored_total-taken_extent c =
     let found : let a = c.args in first_fit a.image.now (16 + a.size) ≡ fit.At c.in-At.h = sym c.first_fit.ensures ∙ c.in-At.is in
     let tested : let a = c.args in entry_holds a.s c.in-At.h a.size 0 a.table.now ≡ c.entry_holds.result = let a = c.args in sym (tagged-holds a.s c.in-At.h a.size a.table.now 0) ∙ ap (λ (t : Tagged). holds_for t 0 a.table.now) (sym c.tag_object-t.ensures) ∙ sym c.entry_holds.ensures in
     site_at _ _ _ _ _ c.tag_object-t.ensures
-    (allocate-given _ (state _ _) _ c.requires _ found (tested ∙ not-false _ c.if-not-entry_holds.false)
+    (allocate-given _ (state _ _) _ c.requires _ found (tested ∙ c.if-not-entry_holds.false)
     (omega (arith, c.stored_total.ensures.0, c.taken_extent.ensures)))

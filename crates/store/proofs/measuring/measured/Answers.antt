@@ -17,7 +17,6 @@ returns-in-Refused c = sym (ap measured_by c.in-Refused.is)
 pub returns-in-At : goal.returns-in-At
 unfolding measured_by
 returns-in-At c =
-    let o = c.f-in-At-1 in
-    let offset-fits : SFits w64 o.given.0.0.offset = search rules in
-    let remaining-fits : SFits w64 o.given.0.0.remaining = search rules in
-    ap₂ Distances (to_z-of_z offset-fits) (to_z-of_z remaining-fits) ∙ sym (ap measured_by o.given.1)
+    let offset-fits : SFits w64 c.in-At.o.offset = search rules in
+    let remaining-fits : SFits w64 c.in-At.o.remaining = search rules in
+    ap₂ Distances (to_z-of_z offset-fits) (to_z-of_z remaining-fits) ∙ sym (ap measured_by c.in-At.is)

@@ -10,4 +10,4 @@ returns c =
     let e = c.allocate_for-a.ensures in
     let number = c.returned.ensures ∙ ap (λ (o : Outcome). returned o.answer) e in
     let given = c.value.ensures ∙ ap (λ (o : Outcome). value o.answer) e in
-    (number, (given, ap (λ (o : Outcome). o.after) e))
+    record { value = number; pointer_after = given; table_after = ap (λ (o : Outcome). o.after) e }

@@ -8,4 +8,4 @@ use Rattle.store.proofs.numbers.free_number.Goals as goal
 pub returns : goal.returns
 returns c =
     let e = c.free-a.ensures in
-    (c.returned.ensures ∙ ap (λ (o : Outcome). returned o.answer) e, ap (λ (o : Outcome). o.after) e)
+    record { value = c.returned.ensures ∙ ap (λ (o : Outcome). returned o.answer) e; table_after = ap (λ (o : Outcome). o.after) e }

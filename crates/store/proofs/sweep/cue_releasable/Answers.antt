@@ -15,6 +15,7 @@ use Rattle.store.specs.laws.Opening.{opening_parts}
 use Rattle.store.proofs.Carving.{entry_needs}
 use Rattle.store.proofs.Gathering.{Gathers, gathers_none, gathers_taken, gathers_passed, gathers_unsound, gathers_lost, gathers_wrong, gathers_all}
 use Rattle.store.proofs.sweep.cue_releasable.Goals as goal
+use Rattle.store.proofs.sweep.cue_releasable.Goals.{then-is_of_cue, else-is_of_cue}
 
 pub overflow_add-count : goal.overflow_add-count
 overflow_add-count c =
@@ -49,10 +50,10 @@ loop-d-preserved c =
     let seen : Seen c.args.image.now c.loop-d.h c.in-Sound.d = seen_at _ _ _ (sym c.examine.ensures ∙ c.in-Sound.is) in
     let g = c.loop-d.invariant in
     let t = sym c.is_of_cue.ensures in
-    ⊎_elim
-    (λ j. rw (j.3, j.2.ensures, j.4, j.5) (gathers_taken g seen (t ∙ j.0.taken)))
-    (λ j. rw (j.1, j.2, j.3) (gathers_passed g seen (t ∙ j.0.left)))
-    c.if-is_of_cue.branch
+    elim c.if-is_of_cue.branch [
+      then-is_of_cue w ↦ rw (w.held-is, w.still_held-held.ensures, w.count-is, w.given-is) (gathers_taken g seen (t ∙ w.if-is_of_cue.true))
+    | else-is_of_cue w ↦ rw (w.held-is, w.count-is, w.given-is) (gathers_passed g seen (t ∙ w.if-is_of_cue.false))
+    ]
 
 pub total_fits-requires : goal.total_fits-requires
 total_fits-requires c =

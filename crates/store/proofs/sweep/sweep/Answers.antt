@@ -61,7 +61,7 @@ pub loop-h-preserved-then-is_of_cue : goal.loop-h-preserved-then-is_of_cue
 loop-h-preserved-then-is_of_cue c =
     let seen : let l = c.loop-h in Seen l.image l.h c.read_header-d.result = let l = c.loop-h in pass_sees l.invariant.2 _ (λ e. omega (arith, l.invariant.0)) c.read_header-d.ensures in
     let of_cue_lem : is_of_cue c.args.cue c.read_header-d.result ≡ true = sym c.is_of_cue.ensures ∙ c.if-is_of_cue.true in
-    let cleared : c.note.new.0 ≡ noted c.args.s c.loop-h.h c.read_header-d.result.size 0 c.loop-h.table = c.note.ensures ∙ ap (λ (t : Tagged). noted_for t 0 c.loop-h.table) c.tag_object.ensures ∙ tagged-noted _ _ _ _ _ in
+    let cleared : c.note.new.table ≡ noted c.args.s c.loop-h.h c.read_header-d.result.size 0 c.loop-h.table = c.note.ensures ∙ ap (λ (t : Tagged). noted_for t 0 c.loop-h.table) c.tag_object.ensures ∙ tagged-noted _ _ _ _ _ in
     let l = c.loop-h in
     (l.invariant.0, omega (arith, l.invariant.1), pass_takes l.invariant.2 seen of_cue_lem _ _ cleared c.merge_end_at-h.ensures)
 

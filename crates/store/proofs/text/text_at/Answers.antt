@@ -25,7 +25,6 @@ use borrow.Author.Rules.{rules}
 use Rattle.store.proofs.text.text_at.Goals as goal
 
 pub overflow_cast-o : goal.overflow_cast-o
-unfolding end
 overflow_cast-o c =
     let given : State = state c.args.image.now c.args.table.now in
     let object : FoundAt c.args.s (unpack c.args.pointer) given c.in-At.o = read_found _ _ (state _ _) _ (sym c.locate.ensures ∙ c.in-At.is) in
@@ -37,7 +36,6 @@ overflow_cast-o c =
     rw remaining-is (tt, record { fits = omega (arith, ends.1, ends.2) })
 
 pub find_text-requires : goal.find_text-requires
-unfolding end
 find_text-requires c =
     let given : State = state c.args.image.now c.args.table.now in
     let object : FoundAt c.args.s (unpack c.args.pointer) given c.in-At.o = read_found _ _ (state _ _) _ (sym c.locate.ensures ∙ c.in-At.is) in
@@ -63,7 +61,6 @@ returns-in-Refused c = text_unread _ _ (state _ _) _ (read-refused _ _ (state _ 
 
 -- the length
 pub returns-in-Ends : goal.returns-in-Ends
-unfolding end
 returns-in-Ends c =
     let given : State = state c.args.image.now c.args.table.now in
     let object : FoundAt c.args.s (unpack c.args.pointer) given c.in-At.o = read_found _ _ (state _ _) _ (sym c.locate.ensures ∙ c.in-At.is) in
@@ -77,7 +74,6 @@ returns-in-Ends c =
 
 -- row 20
 pub returns-in-Endless : goal.returns-in-Endless
-unfolding end
 returns-in-Endless c =
     let given : State = state c.args.image.now c.args.table.now in
     let object : FoundAt c.args.s (unpack c.args.pointer) given c.in-At.o = read_found _ _ (state _ _) _ (sym c.locate.ensures ∙ c.in-At.is) in

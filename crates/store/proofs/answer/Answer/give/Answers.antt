@@ -10,4 +10,4 @@ use Rattle.store.proofs.answer.Answer.give.Goals as goal
 pub returns-in-Refused : goal.returns-in-Refused
 returns-in-Refused c =
     let e = c.in-Refused.is in
-    (c.number.ensures ∙ ap returned (sym e), ap (λ (a : Answer). given a c.args.place.now) (sym e))
+    record { value = c.number.ensures ∙ ap returned (sym e); place_after = ap (λ (a : Answer). given a c.args.place.now) (sym e) }
