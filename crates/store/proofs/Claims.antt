@@ -105,7 +105,7 @@ ended_shape s x r (accepted a k) = k
 
 -- how each call ends
 
--- set_up_lem
+-- set-up
 ended_set_up : (s : ℕ) (x : State) → Ended s x (set_up s x)
 ended_set_up s x = go (set_up_checks s x) refl
   where
