@@ -1,3 +1,5 @@
 -- What the proofs of several functions use.
 mod Shifts
 mod Moves
+-- What rests on the wrapper frames' laws, and other crates cite.
+pub mod Objects

@@ -193,14 +193,6 @@ module _ (s h size : ℕ) (few : s ≤ 15) (inside : h + 16 + size ≤ 2 ^ 30) w
       (record { tag = rw slot_place (lt_of_lt_of_le (mod-lt h (pow_pos s)) (pow_mono few)); address = omega arith }))
       (λ l. rw (pointer_large s h size l) (record { tag = omega (arith, wrapper-at_most h size inside); address = omega arith }))
 
-  -- its address stands in the header's slot or frame
-  pub pointer_reach : (h + 16) / 2 ^ reach s (pointer_to s h size) ≡ h / 2 ^ reach s (pointer_to s h size)
-  unfolding reach
-  pointer_reach =
-      by_frame s h size
-      (λ l. rw (pointer_small s h size l) (wrapper-holds s h size (h + 16) (omega arith) (omega arith) l))
-      (λ l. rw (pointer_large s h size l) (wrapper-holds (wrapper h size) h size (h + 16) (omega arith) (omega arith) (le_refl (wrapper h size))))
-
 -- it has that very flag and tag number
 pub pointer_matches : (s h size : ℕ) → tag_matches s h size (pointer_to s h size) ≡ true
 unfolding tag_matches pointer_to
