@@ -165,7 +165,7 @@ def convert(names, head, uses, decls, module):
                 text = text[: m.start()] + re.sub(r"(?<![\w'\-.])" + re.escape(m.group(1)) + r"(?![\w'\-])", "c", text[m.end() :])
             if text == before:
                 break
-        text = re.sub(r"(?<=[\w)])((?:\.before)+)(?![\w'\-])", "", text)
+        text = re.sub(r"(?<![\w'\-.])c(?:\.before)+(?![\w'\-])", "c", text)
 
         def one(m):
             parts = m.group(0).split(".")[1:]
