@@ -4,7 +4,7 @@ use Rattle.std.specs.Prelude.{ℕ, ◌+◌, ◌/◌, ◌*◌, ◌^◌, ◌≤◌
 use Rattle.std.proofs.Common.{sym, ap, ◌∙◌, le_refl, arith, pow_pos}
 use Rattle.std.proofs.Math.Nat.{eq_of_mul-eq-mul_right}
 use Rattle.frame.specs.Frame.{frame_start}
-use Rattle.frame.specs.Pointers.{unpack, pack, reach, at}
+use Rattle.frame.specs.Pointers.{pack, reach, at}
 use Rattle.frame.specs.Tags.{wrapper, pointer_to, entry_of}
 use Rattle.frame.specs.laws.Wrappers.{wrapper-holds, wrapper-at_most, entry_frame, wrappers_apart}
 use Rattle.frame.specs.laws.Tags.{pointer_small, pointer_large, pointer_at, by_frame}

@@ -1,7 +1,7 @@
 -- An object's tag and its pointer.
 -- In order: the test of a tag in constant time; the pointer to an object; its pointer with its entry. Not here: wrapper frames and entries (`Wrappers`). Assumes nothing.
 use Rattle.std.specs.Prelude.{ℕ, ◌+◌, ◌-◌, ◌*◌, ◌/◌, ◌^◌, ◌≤◌, ◌<◌, ◌≡◌, refl, Bool, true, false, cond, ◌&&◌, not, leb, eqb}
-use Rattle.std.proofs.Common.{sym, ap, ◌∙◌, le_refl, lt_of_not-le, lt_of_lt_of_le, mod-lt, arith, pow_pos, pow_mono, shr-shr}
+use Rattle.std.proofs.Common.{sym, ap, ◌∙◌, lt_of_not-le, lt_of_lt_of_le, mod-lt, arith, pow_pos, pow_mono, shr-shr}
 use Rattle.std.proofs.Math.Bool.{and-true}
 use Rattle.std.proofs.Math.Nat.{mul-add-div_right}
 use Rattle.std.proofs.Math.Decide.{ℕ_discrete}
@@ -11,7 +11,7 @@ use Rattle.frame.specs.Frame.{frame_start, same_frame}
 use Rattle.frame.specs.Pointers.{InRange, good_tag, reach, at}
 use Rattle.frame.specs.laws.Pointers.{iff_equal, and_left, and_right, good_small, good_large}
 use Rattle.frame.specs.Tags.{first_held, last_held, wrapper, is_small, tag_number, pointer_to, tag_matches, entry_of}
-use Rattle.frame.specs.laws.Wrappers.{wrapper_iff, wrapper-holds, wrapper-at_most, slot_place}
+use Rattle.frame.specs.laws.Wrappers.{wrapper_iff, wrapper-at_most, slot_place}
 use Rattle.frame.specs.declared.parts.Pointer.{Pointer}
 use Rattle.frame.specs.declared.tag.Tagged.{Tagged}
 use Rattle.frame.specs.declared.tag.Tagged.TheVariants.{Small, Large}

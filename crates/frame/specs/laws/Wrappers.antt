@@ -1,7 +1,7 @@
 -- Wrapper frames, places in a slot, and table entries. Assumes nothing.
 use Rattle.std.specs.Prelude.{ℕ, ◌+◌, ◌-◌, ◌*◌, ◌/◌, ◌%◌, ◌^◌, ◌≤◌, ◌<◌, ◌≡◌, ◌↔◌}
 use Rattle.std.proofs.Common.{sym, ap, ◌∙◌, lt_of_not-le, div-mul-le_self, mul_assoc, mul-div_cancel, arith, pow_pos, pow-add}
-use Rattle.std.proofs.Math.Nat.{mod-eq-sub-div-mul, eq_of_mul-eq-mul_right}
+use Rattle.std.proofs.Math.Nat.{mod-eq-sub-div-mul}
 use Rattle.std.proofs.Math.Pow.{shr_mono}
 use Rattle.frame.specs.Frame.{frame_start}
 use Rattle.frame.specs.laws.Frames.{number_iff, number_least, between, frames_apart}
