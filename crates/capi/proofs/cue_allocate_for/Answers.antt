@@ -2,7 +2,6 @@
 use Rattle.store.specs.State.{state}
 use Rattle.store.specs.Calls.{allocate_for}
 use Rattle.capi.proofs.Outcomes.{parts_given}
-use borrow.Author.Rules.{rules}
 use Rattle.capi.proofs.cue_allocate_for.Goals as goal
 
 -- what `allocate_number` gave and left

@@ -1,6 +1,5 @@
 -- `capi::cue_copy`: what `store::copy` leaves, its answer as a number. Assumes nothing.
 use Rattle.capi.proofs.Outcomes.{leaves}
-use borrow.Author.Rules.{rules}
 use Rattle.capi.proofs.cue_copy.Goals as goal
 
 -- what `copy` left

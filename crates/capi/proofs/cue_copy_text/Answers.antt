@@ -1,6 +1,5 @@
 -- `capi::cue_copy_text`: what `store::copy_text` leaves, its answer as a number and a value. Assumes nothing.
 use Rattle.capi.proofs.Outcomes.{gives}
-use borrow.Author.Rules.{rules}
 use Rattle.capi.proofs.cue_copy_text.Goals as goal
 
 -- what `copy_text` left

@@ -1,6 +1,5 @@
 -- `capi::cue_fill`: what `store::fill` leaves, its answer as a number. Assumes nothing.
 use Rattle.capi.proofs.Outcomes.{leaves}
-use borrow.Author.Rules.{rules}
 use Rattle.capi.proofs.cue_fill.Goals as goal
 
 -- what `fill` left

@@ -2,7 +2,6 @@
 use Rattle.store.specs.State.{state}
 use Rattle.store.specs.Calls.{free}
 use Rattle.capi.proofs.Outcomes.{parts_left}
-use borrow.Author.Rules.{rules}
 use Rattle.capi.proofs.cue_free.Goals as goal
 
 -- what `free_number` left

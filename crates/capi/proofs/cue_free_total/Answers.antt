@@ -2,7 +2,6 @@
 use mathlib.Core.Path.{ap, ap₂, ◌∙◌}
 use Rattle.store.specs.laws.Refusals.{given_zero}
 use Rattle.capi.specs.Exports.{answered, exported_answer}
-use borrow.Author.Rules.{rules}
 use Rattle.capi.proofs.cue_free_total.Goals as goal
 
 -- what `free_total` answered

@@ -3,7 +3,6 @@ use mathlib.Core.Path.{◌∙◌}
 use Rattle.store.specs.State.{state}
 use Rattle.store.specs.laws.Refusals.{given_zero}
 use Rattle.capi.proofs.Outcomes.{gives, loads}
-use borrow.Author.Rules.{rules}
 use Rattle.capi.proofs.cue_load.Goals as goal
 
 -- what `load` answered

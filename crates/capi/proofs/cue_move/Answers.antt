@@ -6,7 +6,6 @@ use Rattle.store.specs.State.{state}
 use Rattle.store.specs.Calls.{move_answer}
 use Rattle.store.specs.laws.Refusals.{given_zero}
 use Rattle.capi.proofs.Outcomes.{gives, moves}
-use borrow.Author.Rules.{rules}
 use Rattle.capi.proofs.cue_move.Goals as goal
 
 -- what `offset` answered

@@ -1,9 +1,6 @@
 -- `capi::cue_order`: `placement::order`'s answer as a number and four values, of which the order's places are bytes. Assumes nothing.
-use mathlib.Core.Path.{sym, ap, ◌∙◌, subst}
+use mathlib.Core.Path.{ap, ◌∙◌}
 use Prim.Native.Nat.{ℕ}
-use mathlib.Core.List.{List}
-use borrow.Author.Rules.{rules}
-use Rattle.placement.specs.declared.answer.Placement.{Placement}
 use Rattle.placement.specs.laws.Rows.{placement_bytes}
 use Rattle.capi.specs.Exports.{ordered, exported_placement}
 use Rattle.capi.proofs.cue_order.Goals as goal

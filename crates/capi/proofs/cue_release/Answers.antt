@@ -1,6 +1,5 @@
 -- `capi::cue_release`: what `store::release_cue` leaves, its answer as a number and a count. Assumes nothing.
 use Rattle.capi.proofs.Outcomes.{gives}
-use borrow.Author.Rules.{rules}
 use Rattle.capi.proofs.cue_release.Goals as goal
 
 -- what `release_cue` left

@@ -2,7 +2,6 @@
 use mathlib.Core.Path.{sym, ap, ◌∙◌}
 use Prim.Native.Nat.{ℕ}
 use Rattle.capi.specs.Exports.{tallied, exported_usage}
-use borrow.Author.Rules.{rules}
 use Rattle.capi.proofs.cue_tally.Goals as goal
 
 -- the counts

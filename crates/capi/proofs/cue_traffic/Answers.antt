@@ -1,6 +1,5 @@
 -- `capi::cue_traffic`: what C sees, by the load's answer. Assumes nothing.
 use mathlib.Core.Path.{refl}
-use borrow.Author.Rules.{rules}
 use Rattle.capi.proofs.Outcomes.{ends}
 use Rattle.capi.proofs.cue_traffic.Goals as goal
 

@@ -1,6 +1,6 @@
 -- `workload::choosing::choose`: a choice for each way out. A draw that does not allocate has a pointer, and its position is below their number.
 -- Assumes nothing.
-use Rattle.std.proofs.Common.{◌≡◌, ◌/◌, ◌<◌, ◌≤◌, false, sym, ◌∙◌, mod-lt, arith, rules}
+use Rattle.std.proofs.Common.{◌≡◌, ◌/◌, ◌<◌, ◌≤◌, false, sym, ◌∙◌, mod-lt, arith}
 use Rattle.workload.specs.Choice.{allocates}
 use Rattle.workload.proofs.Choices.{allocates_some, held_allocates, held_stores, held_frees}
 use Rattle.workload.proofs.choosing.choose.Goals as goal

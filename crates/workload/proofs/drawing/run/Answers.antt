@@ -1,9 +1,7 @@
-use Rattle.std.proofs.Common.{◌≡◌, ◌+◌, ◌≤◌, length, take, refl, ap, ◌∙◌, arith, rules}
-use Rattle.store.specs.State.{state}
+use Rattle.std.proofs.Common.{◌+◌, ◌≤◌, length, take, refl, ap, ◌∙◌, arith}
 use Rattle.workload.specs.Choice.{choice_of}
-use Rattle.workload.specs.Traffic.{draws_from, started}
 use Rattle.workload.proofs.Choices.{held_room}
-use Rattle.workload.proofs.Draws.{Running, Drawn, all_made, no_space, one_made}
+use Rattle.workload.proofs.Draws.{Drawn, all_made, no_space, one_made}
 use Rattle.workload.proofs.drawing.run.Goals as goal
 
 pub loop-left-init : goal.loop-left-init

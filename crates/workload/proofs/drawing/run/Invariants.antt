@@ -1,11 +1,9 @@
 -- `workload::drawing::run`. The invariant: the draws that are left, from where the load is, end as all the draws from its start do. The measure: how many
 -- are left. Assumes nothing.
-use Rattle.std.proofs.Common.{◌≡◌, ◌+◌, ◌≤◌, length, take, refl, ap, ◌∙◌, arith, rules}
+use Rattle.std.proofs.Common.{◌≡◌, ◌≤◌, length, take}
 use Rattle.store.specs.State.{state}
-use Rattle.workload.specs.Choice.{choice_of}
 use Rattle.workload.specs.Traffic.{draws_from, started}
-use Rattle.workload.proofs.Choices.{held_room}
-use Rattle.workload.proofs.Draws.{Running, Drawn, all_made, no_space, one_made}
+use Rattle.workload.proofs.Draws.{Running}
 use Rattle.workload.proofs.drawing.run.Given as goal
 
 abbrev pub invariant-loop-left : goal.invariant-loop-left

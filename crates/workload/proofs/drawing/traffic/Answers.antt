@@ -1,5 +1,4 @@
 -- `workload::drawing::traffic`: set-up's answer decides. Assumes nothing.
-use Rattle.std.proofs.Common.{rules}
 use Rattle.store.specs.State.{state}
 use Rattle.workload.proofs.Draws.{set_up-refused, set_up-followed}
 use Rattle.workload.proofs.drawing.traffic.Goals as goal

@@ -1,4 +1,4 @@
-use Rattle.std.proofs.Common.{◌≡◌, ◌-◌, ◌<◌, ◌≤◌, length, take, sym, refl, ap, ◌∙◌, arith, length-set}
+use Rattle.std.proofs.Common.{◌≡◌, ◌-◌, take, sym, refl, ap, ◌∙◌, arith, length-set}
 use Rattle.workload.proofs.Pointers.{moved, moved_none, moved_turn, moved_all}
 use Rattle.workload.proofs.held.take_out.Goals as goal
 

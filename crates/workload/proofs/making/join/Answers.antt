@@ -1,5 +1,5 @@
 -- `workload::making::join`: by the number that allocate returns. Assumes nothing.
-use Rattle.std.proofs.Common.{arith, rules}
+use Rattle.std.proofs.Common.{arith}
 use Rattle.store.specs.State.{state}
 use Rattle.store.specs.Calls.{allocate}
 use Rattle.store.specs.declared.answer.Answer.{Answer}

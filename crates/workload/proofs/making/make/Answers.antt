@@ -1,5 +1,5 @@
 -- `workload::making::make`: an arm for each choice. Assumes nothing.
-use Rattle.std.proofs.Common.{◌<◌, ap, arith, rules}
+use Rattle.std.proofs.Common.{◌<◌, ap, arith}
 use Rattle.store.specs.State.{State, state, Outcome}
 use Rattle.workload.proofs.Pointers.{room_to_join, room_to_free, joins, frees, keeps, leaves}
 use Rattle.workload.proofs.making.make.Goals as goal

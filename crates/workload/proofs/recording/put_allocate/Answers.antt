@@ -1,5 +1,4 @@
 -- `workload::recording::put_allocate`: head and fields are the record. Assumes nothing.
-use Rattle.std.proofs.Common.{rules}
 use Rattle.workload.proofs.Writers.{allocate-put}
 use Rattle.workload.proofs.recording.put_allocate.Goals as goal
 

@@ -1,5 +1,4 @@
 -- `workload::recording::put_free`: head and field are the record. Assumes nothing.
-use Rattle.std.proofs.Common.{rules}
 use Rattle.workload.proofs.Writers.{free-put}
 use Rattle.workload.proofs.recording.put_free.Goals as goal
 

@@ -1,5 +1,4 @@
 -- `workload::recording::put_head`: two fields, one behind the other. Assumes nothing.
-use Rattle.std.proofs.Common.{rules}
 use Rattle.workload.proofs.Writers.{head-put}
 use Rattle.workload.proofs.recording.put_head.Goals as goal
 

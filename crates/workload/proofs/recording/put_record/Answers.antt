@@ -1,5 +1,5 @@
 -- `workload::recording::put_record`: a writer for each kind. Assumes nothing.
-use Rattle.std.proofs.Common.{arith, rules}
+use Rattle.std.proofs.Common.{arith}
 use Rattle.workload.proofs.Writers.{length-allocate, length-free, length-store, put_chosen}
 use Rattle.workload.proofs.recording.put_record.Goals as goal
 

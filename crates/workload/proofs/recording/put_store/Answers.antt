@@ -1,5 +1,4 @@
 -- `workload::recording::put_store`: head and fields are the record. Assumes nothing.
-use Rattle.std.proofs.Common.{rules}
 use Rattle.workload.proofs.Writers.{store-put}
 use Rattle.workload.proofs.recording.put_store.Goals as goal
 

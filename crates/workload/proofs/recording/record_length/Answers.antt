@@ -1,5 +1,4 @@
 -- `workload::recording::record_length`: the length of each kind. Assumes nothing.
-use Rattle.std.proofs.Common.{rules}
 use Rattle.workload.proofs.Writers.{length-allocate, length-free, length-store}
 use Rattle.workload.proofs.recording.record_length.Goals as goal
 
