@@ -38,11 +38,16 @@ def declarations(text):
             while i < len(lines) and (lines[i].startswith((" ", "\t")) or not lines[i].strip()):
                 block.append(lines[i])
                 i += 1
-            m = re.match(r"((?:abbrev|pub|unfoldable) )*(" + ID + r") :", block[0])
-            if m:
+            m = re.match(r"((?:abbrev |pub |unfoldable )*)(" + ID + r") :", block[0])
+            if block[0].startswith("module "):
                 while block and not block[-1].strip():
                     block.pop()
-                out.append({"comment": comment, "name": m.group(2), "type": "\n".join(block)[m.end() :].strip(), "unfolding": [], "clauses": []})
+                out.append({"comment": comment, "name": "", "type": "", "unfolding": [], "clauses": ["\n".join(block)], "verbatim": True})
+                comment = []
+            elif m:
+                while block and not block[-1].strip():
+                    block.pop()
+                out.append({"comment": comment, "marks": m.group(1), "name": m.group(2), "type": "\n".join(block)[m.end() :].strip(), "unfolding": [], "clauses": []})
                 comment = []
             elif block[0].startswith("unfolding "):
                 out[-1]["unfolding"] += block[0].split()[1:]
@@ -124,8 +129,11 @@ def convert(names, head, uses, decls, module):
     accessors, helpers, answers, invs = {}, {}, {}, {}
     final = None
     notes = []
+    verbatim = [d for d in decls if d.get("verbatim")]
     for d in decls:
         t = d["type"]
+        if d.get("verbatim"):
+            continue
         if not d["clauses"]:
             notes.append(f"{d['name']} has no clause")
             continue
@@ -149,7 +157,7 @@ def convert(names, head, uses, decls, module):
                 notes.append(f"{d['name']} is kept as it stands: {t[:60]}")
                 helpers[d["name"]] = d
 
-    def paths(text, place):
+    def collapse(text):
         # accessors applied to a place are the place itself
         for _ in range(12):
             before = text
@@ -163,14 +171,23 @@ def convert(names, head, uses, decls, module):
             m = re.search(r"let (" + ID + r") : (?:tie|lts)\.[^=]* = search in\s*", text)
             if m:
                 text = text[: m.start()] + re.sub(r"(?<![\w'\-.])" + re.escape(m.group(1)) + r"(?![\w'\-])", "c", text[m.end() :])
+            m = re.search(r"let (" + ID + r") = (c(?:\.before)*\." + ID + r"\.given(?:\.0)?) in\s*", text)
+            if m:
+                text = text[: m.start()] + re.sub(r"(?<![\w'\-.])" + re.escape(m.group(1)) + r"(?![\w'\-])", m.group(2), text[m.end() :])
             if text == before:
                 break
-        text = re.sub(r"(?<=[\w)])((?:\.before)+)(?![\w'\-])", "", text)
+        text = re.sub(r"(?<![\w'\-.])c(?:\.before)+(?![\w'\-])", "c", text)
+        return text
+
+    def paths(text, place):
+        text = collapse(text)
 
         def one(m):
             parts = m.group(0).split(".")[1:]
             if parts[0] in ("args", "ranges", "lifetimes", "type_inv"):
                 return m.group(0)
+            if parts[0] == "fits":
+                return ".".join(["c", "ranges"] + parts[1:])
             if parts[0] in ("requires", "pre"):
                 return ".".join(["c", "requires"] + parts[1:])
             rest = ["invariant" if p == "inv" else p for p in parts[1:]]
@@ -221,6 +238,7 @@ def convert(names, head, uses, decls, module):
 
     def calls(text):
         # a helper at a place is the local fact
+        text = collapse(text)
         for h, d in helpers.items():
             if d.get("plain"):
                 continue
@@ -317,6 +335,11 @@ def convert(names, head, uses, decls, module):
                 rhs = re.sub(r"(?<![\w'\-.₀])" + re.escape(a) + r"(?![\w'\-₀])", "\0" + w[2:] + "\0", rhs)
         rhs = re.sub("\0([^\0]*)\0", r"l.\1", rhs)
         inv.append((d["comment"], kind + "-" + new, rhs.strip()))
+    for d in verbatim:
+        names_in = re.findall(r"^\s+(" + ID + r") :", d["clauses"][0], re.M)
+        whole = " ".join(b for _, _, _, pre, rhs in out for b in pre + [rhs])
+        if any(re.search(r"(?<![\w'\-.])" + re.escape(n) + r"(?![\w'\-])", whole) for n in names_in):
+            used_plain.insert(0, d)
     return out, inv, used_plain, notes
 
 
@@ -350,7 +373,10 @@ def main():
             with open(os.path.join(folder, "Answers.antt"), "w") as f:
                 f.write("\n".join((head if not inv else []) + uses + [f"use {mod}.Goals as goal"]) + "\n")
                 for d in plain:
-                    f.write("\n" + "\n".join(d["comment"] + [f"{d['name']} : {d['type']}"] + (["unfolding " + " ".join(d["unfolding"])] if d["unfolding"] else []) + d["clauses"]) + "\n")
+                    if d.get("verbatim"):
+                        f.write("\n" + "\n".join(d["comment"] + d["clauses"]) + "\n")
+                        continue
+                    f.write("\n" + "\n".join(d["comment"] + [f"{d['marks']}{d['name']} : {d['type']}"] + (["unfolding " + " ".join(d["unfolding"])] if d["unfolding"] else []) + d["clauses"]) + "\n")
                 for comment, name, unf, pre, rhs in out:
                     f.write("\n" + "\n".join(comment + [f"pub {name} : goal.{name}"] + (["unfolding " + " ".join(unf)] if unf else [])) + "\n")
                     if pre or "\n" in rhs:

@@ -65,7 +65,7 @@ one_past {x = x} i o (p ∷ os) e l n =
     let f : Emptied i (header_of p) p (free p.answer x) = free_live i (header_of p) p (first_lives l) in
     free_each_one p.answer (answers os) (free o.answer x).after
     ∙ ap (free_each (answers os)) (frees_commute i o p e (first_lives l) apart).same
-    ∙ one_past f.left o os (f.finds (header_of o) ∙ rw (ne_eqb (header_of o) (header_of p) apart) e) (rest_live f os l) (λ q m. n q (Memᴰ.tail m))
+    ∙ one_past {x = (free p.answer x).after} f.left o os (f.finds (header_of o) ∙ rw (ne_eqb (header_of o) (header_of p) apart) e) (rest_live f os l) (λ q m. n q (Memᴰ.tail m))
     ∙ ap (λ (y : State). (free o.answer y).after) (sym (free_each_one p.answer (answers os) x))
 
 -- Two lists of live objects, none in both.
@@ -78,7 +78,7 @@ lists_commute {x = x} i (o ∷ os) ps l m n =
     let apart : Apart o ps = n o (Memᴰ.head refl) in
     let f : Emptied i (header_of o) o (free o.answer x) = free_live i (header_of o) o (first_lives l) in
     ap (free_each (answers ps)) (free_each_one o.answer (answers os) x)
-    ∙ lists_commute f.left os ps (rest_live f os l) (live_on f ps apart m) (λ q w. n q (Memᴰ.tail w))
+    ∙ lists_commute {x = (free o.answer x).after} f.left os ps (rest_live f os l) (live_on f ps apart m) (λ q w. n q (Memᴰ.tail w))
     ∙ ap (free_each (answers os)) (one_past i o ps (first_lives l) m apart)
     ∙ sym (free_each_one o.answer (answers os) (free_each (answers ps) x))
 

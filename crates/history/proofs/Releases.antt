@@ -204,7 +204,7 @@ module _ {s L : ℕ} {x : State} {heap : Heap} {i : Invariant s L x heap} {o : O
 -- freeing them one after the other
 free_all : {s L : ℕ} {x : State} {heap : Heap} (i : Invariant s L x heap) (os : Heap) → Live heap os → Freed s L x heap os
 unfolding answers
-free_all {s} {L} {x} {heap} i [] l =
+free_all {s = s} {L = L} {x = x} {heap = heap} i [] l =
     record {
       each = none_left x;
       new = heap;
@@ -212,10 +212,10 @@ free_all {s} {L} {x} {heap} i [] l =
       gone = λ o m. absurd (Memᴰ.not-nil m);
       stays = λ k n. refl;
     }
-free_all {s} {L} {x} {heap} i (o ∷ os) l =
+free_all {s = s} {L = L} {x = x} {heap = heap} i (o ∷ os) l =
     let h : ℕ = header_of o in
     let f : Emptied i h o (free o.answer x) = free_live i h o (first_lives l) in
-    let r : Freed s L (free o.answer x).after (without heap o.answer) os = free_all f.left os (rest_live f os l) in
+    let r : Freed s L (free o.answer x).after (without heap o.answer) os = free_all {x = (free o.answer x).after} f.left os (rest_live f os l) in
     record {
       each = one_freed o.answer (answers os) x (ap returned f.answers) r.each;
       new = r.new;

@@ -117,10 +117,10 @@ step-freed {s} {cue} {goal} {x} {before} {h} p e =
     (one_freed _ ps x (ap (λ (o : Outcome). returned o.answer) (free_one f))
     (subst (EachFreed ps) (ap (λ (o : Outcome). o.after) (sym (free_one f))) (subst (λ (qs : List ℕ). EachFreed qs (without f)) p.pointers e))))
 
-pub sweep_freed : {s cue : ℕ} {goal x : State} {before h : ℕ} {places : List ℕ} (k : ℕ) → length x.image < h + k → Sweep s cue goal x before h places
+pub sweep_freed : {s cue : ℕ} (k : ℕ) {goal x : State} {before h : ℕ} {places : List ℕ} → length x.image < h + k → Sweep s cue goal x before h places
     → EachFreed (pointers_to s x.image places) x
-sweep_freed {s} {cue} {goal} {x} {before} {h} zero l w = absurd (omega (arith, left_in w.left))
-sweep_freed {s} {cue} {goal} {x} {before} {h} (suc k) l w =
+sweep_freed {s} {cue} zero {goal} {x} {before} {h} l w = absurd (omega (arith, left_in w.left))
+sweep_freed {s} {cue} (suc k) {goal} {x} {before} {h} l w =
     by_bool (eqb h (length x.image))
     (λ e.
     subst (λ (hs : List ℕ). EachFreed (pointers_to s x.image hs) x) (sym (left-ends w.left (eqb-true h (length x.image) e)))

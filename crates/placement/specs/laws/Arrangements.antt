@@ -1,6 +1,6 @@
 -- The orders of n objects are all of them, each once, lexicographically: an order is a list whose elements are picked one by one. In order: every order arranges
 -- the positions; so each has a number; what a number picks is an order; higher numbers stand behind lower ones; sums over an order. Assumes nothing.
-use Rattle.std.specs.Prelude.{ℕ, zero, suc, ◌+◌, ◌-◌, ◌*◌, ◌/◌, ◌%◌, ◌≤◌, ◌<◌, ◌≡◌, refl, List, [], ◌∷◌, length, get_or, ltb}
+use Rattle.std.specs.Prelude.{ℕ, zero, suc, ◌+◌, ◌*◌, ◌/◌, ◌%◌, ◌≤◌, ◌<◌, ◌≡◌, refl, List, [], ◌∷◌, length, get_or, ltb}
 use Rattle.std.proofs.Common.{sym, ap, ◌∙◌, subst, mod-lt, div-mul-le_self, le-div_iff_mul-le, div-add-mod', le_trans, arith, ltb-true, ltb-false}
 use Rattle.std.proofs.Math.Arith.{digits_div, digits_mod, digits_lt}
 use Rattle.block.specs.laws.Booleans.{by_bool}
@@ -159,12 +159,16 @@ orders_ascend n i j l h =
     (subst (λ (o : List ℕ). Before (picked n (positions n) i) o) (sym (order_picked n j h))
     (picked-before n (positions n) (positions-length n 0) (positions_ascend n) i j l h))
 
+-- an order that stands before one that stands before a third is not the third
+before_apart : (xs ys zs : List ℕ) → Before xs ys → Before ys zs → xs ≡ zs → ⊥
+before_apart _ _ _ (here a b xs ys l) (here _ c _ zs m) e = let d : a ≡ c = cc in omega arith
+before_apart _ _ _ (here a b xs ys l) (later _ _ zs w) e = let d : a ≡ b = cc in omega arith
+before_apart _ _ _ (later a xs ys v) (here _ c _ zs m) e = let d : a ≡ c = cc in omega arith
+before_apart _ _ _ (later a xs ys v) (later _ _ zs w) e = let d : xs ≡ zs = cc in before_apart xs ys zs v w d
+
 -- no order stands before one that stands before it
 before-not : (xs ys : List ℕ) → Before xs ys → Before ys xs → ⊥
-before-not _ _ (here a b xs ys l) (here _ _ _ _ m) = omega arith
-before-not _ _ (here a b xs ys l) (later _ _ _ w) = omega arith
-before-not _ _ (later a xs ys v) (here _ _ _ _ m) = omega arith
-before-not _ _ (later a xs ys v) (later _ _ _ w) = before-not xs ys v w
+before-not xs ys v w = before_apart xs ys xs v w refl
 
 before_itself : (xs : List ℕ) → Before xs xs → ⊥
 before_itself xs w = before-not xs xs w w

@@ -1,0 +1,18 @@
+use mathlib.Core.Path.{refl, sym, ◌∙◌}
+use native.Mathlib.Omega.{arith}
+use Rattle.placement.proofs.Turns.{good_turn, bad_turn, good_end}
+use Rattle.placement.proofs.plan.good_sizes.Goals as goal
+
+pub loop-i-init : goal.loop-i-init
+loop-i-init c = (omega arith, refl)
+
+-- a size is out of range
+pub returns-then-sizes-i-gt65535 : goal.returns-then-sizes-i-gt65535
+returns-then-sizes-i-gt65535 c = sym (bad_turn _ _ c.loop-i-test.true c.if-sizes-i-gt65535.true) ∙ c.loop-i.invariant.1
+
+pub loop-i-preserved : goal.loop-i-preserved
+loop-i-preserved c = (omega arith, sym (good_turn _ _ c.loop-i-test.true c.if-sizes-i-gt65535.false) ∙ c.loop-i.invariant.1)
+
+-- none is left
+pub returns : goal.returns
+returns c = sym (good_end _ _ c.loop-i-test.false) ∙ c.loop-i.invariant.1

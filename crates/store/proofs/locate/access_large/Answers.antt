@@ -1,0 +1,19 @@
+-- `store::access_large` meets its contract: `large_object`, then 13 (`reached`). Assumes nothing.
+use mathlib.Core.Path.{ap, ◌∙◌}
+use Rattle.store.specs.State.{state}
+use Rattle.store.specs.laws.Access.{reached_by, reached_by_lem}
+use Rattle.store.specs.declared.locate.Found.{Found}
+use borrow.Author.Rules.{rules}
+use Rattle.store.proofs.locate.access_large.Goals as goal
+
+pub returns : goal.returns
+returns c =
+    let a = c.args in
+    c.reached.ensures ∙ ap (λ (f : Found). reached_by f a.p a.n) c.large_object-f.ensures
+    ∙ reached_by_lem a.s a.p a.n (state a.image.now a.table.now)
+
+pub large_object-f-requires : goal.large_object-f-requires
+large_object-f-requires c = let p = c.requires in (p.0, p.1, p.2)
+
+pub reached-requires : goal.reached-requires
+reached-requires c = c.requires.3

@@ -1,0 +1,18 @@
+-- `store::release::merge_start`: no block before, a free one, or another. Assumes nothing.
+use mathlib.Core.Path.{sym, ◌∙◌}
+use native.Mathlib.Omega.{arith}
+use Rattle.store.proofs.Merging.{starts_first, starts_before, starts_here}
+use borrow.Author.Rules.{rules}
+use Rattle.store.proofs.release.merge_start.Goals as goal
+
+-- h is the first block
+pub returns-then-before-eq0 : goal.returns-then-before-eq0
+returns-then-before-eq0 c = sym (starts_first _ _ _ (omega arith))
+
+-- the block before is free
+pub returns-then-kind_at-eq1 : goal.returns-then-kind_at-eq1
+returns-then-kind_at-eq1 c = sym (starts_before _ _ _ (omega arith) cc)
+
+-- it is live
+pub returns-else-kind_at-eq1 : goal.returns-else-kind_at-eq1
+returns-else-kind_at-eq1 c = sym (starts_here _ _ _ (λ k. c.if-kind_at-eq1.false (c.kind_at.ensures ∙ k)))

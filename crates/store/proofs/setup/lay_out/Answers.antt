@@ -1,0 +1,13 @@
+-- `store::setup::lay_out` meets its contract: the image is filled with zeros, then the superblock and one free header are put. Assumes nothing.
+use mathlib.Core.Path.{refl}
+use native.Mathlib.Omega.{arith}
+use lib.ListN.{length}
+use Rattle.store.proofs.Fresh.{laid_out}
+use borrow.Author.Rules.{rules}
+use Rattle.store.proofs.setup.lay_out.Goals as goal
+
+-- a fresh image
+pub returns : goal.returns
+returns c =
+    let a = c.args in
+    cc (laid_out a.image.now a.s (length a.image.now) refl (omega arith))
