@@ -106,7 +106,7 @@ tallied r objects live free overhead = record { returned = r; objects = objects;
 abbrev pub exported_usage : Usage → Tallied
 exported_usage u = tallied (usage_number u) (live_objects u) (live_bytes u) (free_bytes u) (overhead_bytes u)
 
--- What the export of traffic returns, gives and leaves: both values are 0 where set_up_lem is refused, and those of the load where the log is full.
+-- What the export of traffic returns, gives and leaves: both values are 0 where set-up is refused, and those of the load where the log is full.
 pub record LoggedExport : Type 0 where
   pub returned : ℕ
   pub generator : ℕ

@@ -1,4 +1,4 @@
-// Four load buffers of a show, from set_up_lem to the tally: the worked example of docs/FORMAT.md.
+// Four load buffers of a show, from set-up to the tally: the worked example of docs/FORMAT.md.
 use crate::print::{BYTES, DONE, NUMBER, PARTS, entry, heading, text};
 use crate::run::{Call, Run};
 

@@ -1,3 +1,4 @@
 -- What the proofs of several functions use.
 mod Shifts
 mod Moves
+mod Tests

@@ -1,12 +1,10 @@
 -- A signed distance added to an address: the machine has the sum of the integers, and each of its tests picks a case of `moved`.
 -- Assumes nothing.
-use Prim.Native.Nat.{ℕ, suc, ◌+◌, ◌-◌, ◌*◌, ◌/◌, ◌^◌, ◌<◌}
-use native.Mathlib.Nat.{div-lt_iff_lt-mul}
-use mathlib.Core.Path.{◌≡◌, refl, sym, ap, ap₂, ◌∙◌}
-use mathlib.Core.Bool.{Bool, true, false, cond, and-false}
+use Prim.Native.Nat.{ℕ, suc, ◌+◌, ◌-◌, ◌/◌, ◌^◌, ◌≤◌, ◌<◌}
+use mathlib.Core.Path.{◌≡◌, refl, ap, ap₂, ◌∙◌}
+use mathlib.Core.Bool.{Bool, true, false, cond}
 use native.Mathlib.Omega.{arith}
 use lib.Dec.{T, ltb}
-use lib.Pow.{pow_pos, pow-add, shr_lt}
 use lib.IntN.{ℤ, pos, negsuc, ◌+ℤ◌, nat_abs}
 use lib.Signed.{mag, lt_z, non_neg}
 use mir.Syntax.{w64}
@@ -49,23 +47,20 @@ abs_fits : (z : ℤ) → SFits w64 z → Fits w64 (nat_abs z)
 abs_fits (pos x) f = let l = f.sfits in record { fits = omega arith }
 abs_fits (negsuc x) f = let l = f.sfits in record { fits = omega arith }
 
--- an address in the frame of one of 48 bits is one of 48 bits
-frame_fits : (a x n : ℕ) → a < 2 ^ 48 → n < 32 → x / 2 ^ n ≡ a / 2 ^ n → x < 2 ^ 48
-frame_fits a x n h l e =
-    let k : ℕ = 48 - n in
-    let sum : k + n ≡ 48 = omega arith in
-    let whole : 2 ^ 48 ≡ 2 ^ k * 2 ^ n = ap (λ (i : ℕ). 2 ^ i) (sym sum) ∙ pow-add 2 k n in
-    rw whole ((div-lt_iff_lt-mul (pow_pos n)).0 (rw e (shr_lt k n (rw sum h))))
-
-lands : (p : Pointer) (n : ℕ) (z : ℤ) → InRange p → n < 32 → T (non_neg z) → nat_abs z / 2 ^ n ≡ p.address / 2 ^ n → To (at p (nat_abs z)) ≡ landed p n z
+past_out : (p : Pointer) (n : ℕ) (z : ℤ) → T (non_neg z) → top < nat_abs z → Outside ≡ landed p n z
 unfolding landed
-lands p n (pos x) r l t e = simp (lt-ltb x (2 ^ 48) (frame_fits p.address x n r.address l e), eq-eqb _ _ e)
-lands p n (negsuc x) r l t e = absurd t
+past_out p n (pos x) t l = simp (le-ltb x (2 ^ 48) l)
+past_out p n (negsuc x) t l = absurd t
 
-leaves_frame : (p : Pointer) (n : ℕ) (z : ℤ) → T (non_neg z) → (nat_abs z / 2 ^ n ≡ p.address / 2 ^ n → ⊥) → Outside ≡ landed p n z
+lands : (p : Pointer) (n : ℕ) (z : ℤ) → T (non_neg z) → nat_abs z ≤ top → nat_abs z / 2 ^ n ≡ p.address / 2 ^ n → To (at p (nat_abs z)) ≡ landed p n z
 unfolding landed
-leaves_frame p n (pos x) t e = simp (ne_eqb _ _ e, and-false (ltb x (2 ^ 48)))
-leaves_frame p n (negsuc x) t e = absurd t
+lands p n (pos x) t l e = simp (lt-ltb x (2 ^ 48) (omega arith), eq-eqb _ _ e)
+lands p n (negsuc x) t l e = absurd t
+
+leaves_frame : (p : Pointer) (n : ℕ) (z : ℤ) → T (non_neg z) → nat_abs z ≤ top → (nat_abs z / 2 ^ n ≡ p.address / 2 ^ n → ⊥) → Outside ≡ landed p n z
+unfolding landed
+leaves_frame p n (pos x) t l e = simp (lt-ltb x (2 ^ 48) (omega arith), ne_eqb _ _ e)
+leaves_frame p n (negsuc x) t l e = absurd t
 
 -- Each way out, over what the machine has: a distance of 64 bits, and the sum with an address of 48 bits.
 
@@ -97,9 +92,12 @@ module _ {p : Pointer} {d : ℤ} (r : InRange p) (fits : SFits w64 d) where
       pub address_fits : T (non_neg (sum p d)) × Fits w64 (nat_abs (sum p d))
       address_fits = (not_negative (sum p d) positive, abs_fits (sum p d) (rw (to_z-of_z sum_fits) sum_fits))
 
-      module _ (n : ℕ) where
-        pub within : n < 32 → nat_abs (sum p d) / 2 ^ n ≡ p.address / 2 ^ n → To (at p (nat_abs (sum p d))) ≡ moved p n d
-        within l e = lands p n (sum p d) r l (not_negative (sum p d) positive) e ∙ landed-sum n
+      pub past : (n : ℕ) → top < nat_abs (sum p d) → Outside ≡ moved p n d
+      past n l = past_out p n (sum p d) (not_negative (sum p d) positive) l ∙ landed-sum n
+
+      module _ (n : ℕ) (low : nat_abs (sum p d) ≤ top) where
+        pub within : nat_abs (sum p d) / 2 ^ n ≡ p.address / 2 ^ n → To (at p (nat_abs (sum p d))) ≡ moved p n d
+        within e = lands p n (sum p d) (not_negative (sum p d) positive) low e ∙ landed-sum n
 
         pub elsewhere : (nat_abs (sum p d) / 2 ^ n ≡ p.address / 2 ^ n → ⊥) → Outside ≡ moved p n d
-        elsewhere f = leaves_frame p n (sum p d) (not_negative (sum p d) positive) f ∙ landed-sum n
+        elsewhere f = leaves_frame p n (sum p d) (not_negative (sum p d) positive) low f ∙ landed-sum n

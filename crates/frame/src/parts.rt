@@ -90,9 +90,9 @@ impl Pointer {
         Reach::Within(self.tag as u32)
     }
 
-    // The pointer moved by a signed distance, inside its frame of 2^n bytes: so its address stays one of 48 bits.
+    // The pointer moved by a signed distance, inside its frame of 2^n bytes.
     pub fn moved(self, n: u32, distance: i64) -> Moved
-        requires { (InRange self) × (n < 32) }
+        requires { (InRange self) × (n < 64) }
         ensures { result ≡ moved self n distance }
     {
         let from = self.address;
@@ -104,6 +104,9 @@ impl Pointer {
             return Moved::Outside;
         }
         let to = sum as u64;
+        if to > 0xffff_ffff_ffff {
+            return Moved::Outside;
+        }
         if to >> n == from >> n {
             Moved::To(Pointer {
                 flag: self.flag,

@@ -1,8 +1,8 @@
 // The tag of an object, by its wrapper frame, and the table entry of a large-framed one.
-ghost use Rattle.std.specs.Prelude.{◌≡◌, ◌+◌, ◌<◌, ◌≤◌, ◌^◌};
+ghost use Rattle.std.specs.Prelude.{◌≡◌, true, ◌+◌, ◌<◌, ◌≤◌, ◌^◌};
 ghost use Rattle.frame.specs.Frame.{frame_start};
-ghost use Rattle.frame.specs.Pointers.{InRange};
-ghost use Rattle.frame.specs.Tags.{first_held, last_held, wrapper, used_entries, entry_at};
+ghost use Rattle.frame.specs.Pointers.{InRange, good_tag};
+ghost use Rattle.frame.specs.Tags.{first_held, last_held, wrapper, tag_matches, used_entries, entry_at};
 ghost use Rattle.frame.specs.laws.Tags.{slot_holds, frame_holds, tagged, tagged_pointer};
 
 use crate::number::{frame_number, frame_start, same_frame};
@@ -93,6 +93,27 @@ impl Tagged {
 }
 
 impl Pointer {
+    // Whether the object at h has this very flag and tag number, in constant time.
+    pub fn tag_matches(self, s: u32, h: u64, size: u64) -> bool
+        requires { (s < 16) × (good_tag s self ≡ true) × (16 ≤ h) × (h + size < 2 ^ 62) }
+        ensures { result ≡ tag_matches s h size self }
+    {
+        let a = first_held(h);
+        let e = last_held(h, size);
+        let t = self.tag;
+        if self.flag {
+            if !same_frame(s, a, e) {
+                return false;
+            }
+            return h - frame_start(h, s) == t;
+        }
+        let n = t as u32;
+        if !same_frame(n, a, e) {
+            return false;
+        }
+        !same_frame(n - 1, a, e)
+    }
+
     // Whether the object of `size` bytes that a small-framed tag leads to has this very tag: its header stands at that place of the slot, so its last byte
     // decides.
     pub fn slot_holds(self, s: u32, size: u64) -> bool

@@ -1,5 +1,5 @@
 -- What holds of image, table and abstract heap between any two calls of a list.
--- In order: the invariant; a live object in the image; what decides the image; what pointers lead to; another list of the objects; set_up_lem. Not here: that each
+-- In order: the invariant; a live object in the image; what decides the image; what pointers lead to; another list of the objects; set-up. Not here: that each
 -- call keeps it (`Steps`). Assumes nothing.
 use Prim.Native.Nat.{ℕ, ◌+◌, ◌-◌, ◌^◌, ◌≤◌}
 use mathlib.Core.Path.{◌≡◌, refl, sym, ap, ◌∙◌, subst}

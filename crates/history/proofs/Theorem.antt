@@ -91,7 +91,7 @@ unfolding after all_admitted
 keeps [] x i a = i
 keeps (c ∷ cs) x i a = keeps cs (next c x) (steps c i (and_left _ (all_admitted cs (next c x)) a)) (and_right (admitted x.heap c) _ a)
 
--- set_up_lem establishes it
+-- set-up establishes it
 pub begins : (s : ℕ) (x : State) → IsAccepted (set_up s x) → Invariant s (length x.image) (set_up s x).after []
 begins s x e = let (t, q) = set_up-accepted s x e in rw q (begins_with s x t)
 

@@ -1,4 +1,4 @@
--- Two frees or two releases in either order, after every history begun by set_up_lem: document 02, W11. Assumes nothing.
+-- Two frees or two releases in either order, after every history begun by set-up: document 02, W11. Assumes nothing.
 use Rattle.std.specs.Prelude.{ℕ, ◌^◌, ◌<◌, ◌≡◌}
 use Rattle.store.specs.State.{State, Outcome, IsAccepted}
 use Rattle.store.specs.Calls.{free, release_cue}

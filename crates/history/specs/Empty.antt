@@ -1,4 +1,4 @@
--- Objects of no bytes after every history begun by set_up_lem: document 02, W9. That their pointers lead to them, that no other live object has the same one, and
+-- Objects of no bytes after every history begun by set-up: document 02, W9. That their pointers lead to them, that no other live object has the same one, and
 -- what free, release and distances answer, `Holds` says of every size. Assumes nothing.
 use Rattle.std.specs.Prelude.{ℕ, ◌≡◌, true}
 use Rattle.store.specs.Claims.{NoLoad, NoAccess}

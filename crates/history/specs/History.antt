@@ -62,7 +62,7 @@ unfoldable pub all_admitted : List Call → Configuration → Bool
 all_admitted [] x = true
 all_admitted (c ∷ cs) x = admitted x.heap c && all_admitted cs (next c x)
 
--- what set_up_lem leaves, with the empty heap
+-- what set-up leaves, with the empty heap
 abbrev pub begun : ℕ → State → Configuration
 begun s x = record { state = (set_up s x).after; heap = [] }
 
@@ -213,7 +213,7 @@ pub record Holds (s : ℕ) (x : Configuration) : Type 0 where
   pub room : EachAllocate x.state (λ size r. (r ≡ 0) ↔ ((a : ℕ) × FreeRun x a (16 + size)))
   pub no_space : EachAllocate x.state (λ size r. (r ≡ 8) ↔ ((a : ℕ) → FreeRun x a (16 + size) → ⊥))
 
--- A claim about what every history begun by set_up_lem leaves: an accepted set_up_lem on any image and table, then any admitted list of calls.
+-- A claim about what every history begun by set-up leaves: an accepted set-up on any image and table, then any admitted list of calls.
 abbrev pub AfterEveryHistory : (ℕ → Configuration → Type 0) → Type 0
 AfterEveryHistory P =
     (s : ℕ) (x : State) → IsAccepted (set_up s x) → (calls : List Call) → all_admitted calls (begun s x) ≡ true

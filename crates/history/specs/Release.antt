@@ -1,4 +1,4 @@
--- What a release leaves after every history begun by set_up_lem, by the abstract heap's own answers: document 02, W6. Assumes nothing.
+-- What a release leaves after every history begun by set-up, by the abstract heap's own answers: document 02, W6. Assumes nothing.
 use Rattle.std.specs.Prelude.{ℕ, ◌^◌, ◌<◌, ◌≡◌, ◌↔◌, List, [], ◌∷◌}
 use Rattle.store.specs.Calls.{free_each, release_cue}
 use Rattle.store.specs.Claims.{EachFreed}

@@ -1,4 +1,4 @@
--- Further claims about what every history begun by set_up_lem leaves: no unsound header, a balanced tally, a right free total, and a tidy image. Assumes
+-- Further claims about what every history begun by set-up leaves: no unsound header, a balanced tally, a right free total, and a tidy image. Assumes
 -- nothing.
 use Rattle.std.specs.Prelude.{ℕ, ◌+◌, ◌^◌, ◌≤◌, ◌<◌, ◌≡◌, true, false, List, length, get_or}
 use Rattle.block.specs.Layout.{extent_at, size_at, is_free, is_live}

@@ -28,7 +28,7 @@ use Rattle.store.specs.laws.SetUp.{Settable, settable_parts, set_up_declined, se
 use Rattle.store.specs.laws.Opening.{Open, opening_kept}
 use Rattle.store.specs.laws.TagReading.{Stands, Located, located_object, located_leads, located-at, FoundAt, read_found, read-refused}
 use Rattle.store.specs.laws.Access.{accessed_again}
-use Rattle.store.specs.laws.Distances.{distances-sum, start_is, end_is, found_body, found_base, distances-found, distances_unread}
+use Rattle.store.specs.laws.Distances.{distances-sum, start_is, end_is, found_body, found_base, distances-found, distances_refused}
 use Rattle.store.specs.laws.Allocate.{Allocates, allocate_parts, allocate_declined, allocate_done, CarvedHeader, carved-header, length-allotted, allotted_exponent, allotted-header}
 use Rattle.store.specs.laws.Free.{Frees, free_parts, free_declined, free_done, length-given_back, given_back_front}
 use Rattle.store.specs.laws.Release.{free_each_none, free_each_one, cue_pointers_lem, length_pointers, release_parts, release_declined, release_done}
@@ -105,7 +105,7 @@ ended_shape s x r (accepted a k) = k
 
 -- how each call ends
 
--- set_up_lem
+-- set-up
 ended_set_up : (s : ℕ) (x : State) → Ended s x (set_up s x)
 ended_set_up s x = go (set_up_checks s x) refl
   where
@@ -452,7 +452,7 @@ measures =
           let f = read_found s (unpack p) x o q in
           let d = distances-found x s e p o q in
           (d, ap₂ ◌+ℤ◌ (ap start_distance d) (ap end_distance d) ∙ (read_as s (unpack p) x o f).sum);
-      declined = λ s p x r e q. distances_unread x s e p r q;
+      declined = λ s p x r e q. distances_refused x s e p r q;
     }
 
 -- an object of no bytes gives no access

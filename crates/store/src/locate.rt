@@ -1,14 +1,16 @@
 // From a pointer to the header that its tag leads to, and to the bytes behind its address.
 ghost use Rattle.std.specs.Prelude.{◌≡◌, true, false, ◌&&◌, List, ℕ, ◌+◌, ◌≤◌, ◌<◌, ◌^◌, pos, length};
 ghost use Rattle.std.specs.Int.Signed.{le_z};
-ghost use Rattle.frame.specs.Pointers.{InRange, unpack};
-ghost use Rattle.store.specs.State.{state};
-ghost use Rattle.store.specs.Calls.{opening, reading, read_tag, accessed};
+ghost use Rattle.frame.specs.Frame.{frame_start};
+ghost use Rattle.frame.specs.Pointers.{InRange, unpack, good_tag, reach};
+ghost use Rattle.frame.specs.Tags.{entry_at};
+ghost use Rattle.store.specs.State.{state, demand};
+ghost use Rattle.store.specs.Calls.{opening, header_place, verified, reading, found_at, read_tag, accessed};
 ghost use Rattle.store.specs.laws.Access.{reached_by};
 
 use crate::answer::{Answer, Refusal};
-use block::header::{Object, live_size};
-use frame::{Pointer, entry_index};
+use block::header::{Examined, Object, examine, live_size};
+use frame::{Pointer, Reach, entry_index, same_frame};
 
 // The object that a tag leads to, its header's place, base and raw size in bytes; and how far the pointer's address is past the base, and the end past the
 // address.
@@ -39,6 +41,18 @@ impl Reading {
         }
         n as i64 <= self.remaining
     }
+}
+
+// The place that the tag leads to: in the pointer's slot, or through the table.
+fn header_place(table: &[u64], s: u32, n: u32, p: Pointer) -> u64
+    requires { (s < 16) × (InRange p) × (good_tag s p ≡ true) × (n ≡ reach s p) × (frame_start n p.address < 2 ^ 30) × (entry_at s n p.address < length table.now) }
+    ensures { result ≡ header_place s p table.now }
+{
+    if p.flag {
+        return p.frame_start(s) + p.tag;
+    }
+    let entry = entry_index(s, n, p.address);
+    table[entry]
 }
 
 // The object of `size` bytes at h, with the pointer's distances: the one place that measures them.
@@ -105,16 +119,44 @@ pub fn large_object(image: &[u8], table: &[u64], s: u32, p: Pointer) -> Found
     }
 }
 
+// The object at h, which may be any number, where its header is the one that the pointer was made for.
+fn verified_at(image: &[u8], s: u32, n: u32, p: Pointer, h: u64) -> Found
+    requires { (s < 16) × (InRange p) × (good_tag s p ≡ true) × (n ≡ reach s p) × (length image.now < 2 ^ 31) }
+    ensures { result ≡ found_at (demand (verified s p image.now h) Refusal.Dangling (Answer.Accepted h)) image.now p }
+{
+    match examine(image, h) {
+        Examined::Unsound => Found::Refused(Refusal::Dangling),
+        Examined::Sound(d) => {
+            if d.kind != 2 {
+                return Found::Refused(Refusal::Dangling);
+            }
+            if !p.tag_matches(s, h, d.size) {
+                return Found::Refused(Refusal::Dangling);
+            }
+            if !same_frame(n, h, p.address) {
+                return Found::Refused(Refusal::Dangling);
+            }
+            Found::At(measure(p, h, d.size))
+        }
+    }
+}
+
 // Reads a tag: rows 10 and 11.
 pub fn locate(image: &[u8], table: &[u64], s: u32, pointer: u64) -> Found
     requires { opening (state image.now table.now) ≡ Answer.Accepted s }
     ensures { result ≡ read_tag s (unpack pointer) (state image.now table.now) }
 {
     let p = Pointer::unpack(pointer);
-    if p.flag {
-        return small_object(image, s, p);
+    match p.reach(s) {
+        Reach::BadTag => Found::Refused(Refusal::BadTag),
+        Reach::Within(n) => {
+            if (image.len() as u64) <= p.frame_start(n) {
+                return Found::Refused(Refusal::Dangling);
+            }
+            let h = header_place(table, s, n, p);
+            verified_at(image, s, n, p, h)
+        }
     }
-    large_object(image, table, s, p)
 }
 
 // Row 13 for n bytes through a pointer whose tag was read; the number is the address.

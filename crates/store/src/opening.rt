@@ -1,4 +1,4 @@
-// Rows 4 and 5, with which every call but set_up_lem begins.
+// Rows 4 and 5, with which every call but set-up begins.
 ghost use Rattle.std.specs.Prelude.{◌≡◌};
 ghost use Rattle.store.specs.State.{state};
 ghost use Rattle.store.specs.Calls.{opening};

@@ -1,4 +1,4 @@
--- The claims. In order: what follows an accepted set_up_lem, field by field; a refused one; shapes. Assumes nothing.
+-- The claims. In order: what follows an accepted set-up, field by field; a refused one; shapes. Assumes nothing.
 use Rattle.std.proofs.Common.{◌≡◌, ℕ, ◌<◌, ◌≤◌, Bool, true, false, eqb, ◌⊎◌, List, [], length, take, drop, sym, refl, ap, ◌∙◌, subst, inl, inr, arith, eqb-true}
 use mathlib.Core.Option.{none}
 use borrow.Author.Tests.{eqb-false}
@@ -59,7 +59,7 @@ module _ (s g draws : ℕ) (x : State) (log : List ℕ) where
   ends = draws_from draws begins
 
   module _ (e : IsAccepted (set_up s x)) where
-    -- what follows an accepted set_up_lem
+    -- what follows an accepted set-up
     followed : logged_by ends ≡ traffic s g draws x log
     unfolding traffic
     followed = sym (go (set_up s x).answer e)
@@ -123,7 +123,7 @@ all_repeatable s g draws x log e =
       held = record { live = m.live; few = m.few };
     }
 
--- a refused set_up_lem ends it
+-- a refused set-up ends it
 refused-after : (s g draws : ℕ) (x : State) (log : List ℕ) → (IsAccepted (set_up s x) → ⊥) → (a : Answer) → (set_up s x).answer ≡ a
     → (traffic_number (after_set_up (set_up s x) g draws log a).answer ≡ returned a) × Untouched x log (after_set_up (set_up s x) g draws log a)
 refused-after s g draws x log n (Accepted v) q = absurd (n (ap returned q))

@@ -1,5 +1,5 @@
 -- The draws, one by one.
--- In order: the three ways on; the loop's two ways out and its turn; what follows set_up_lem. Assumes nothing.
+-- In order: the three ways on; the loop's two ways out and its turn; what follows set-up. Assumes nothing.
 use Rattle.std.proofs.Common.{◌≡◌, ℕ, suc, ◌+◌, ◌-◌, ◌<◌, ◌≤◌, true, false, List, length, sym, refl, ap, ◌∙◌, arith, le-leb}
 use borrow.Author.Tests.{lt-leb}
 use Rattle.block.specs.Bytes.{put}

@@ -15,7 +15,7 @@ use Rattle.call_log.specs.declared.record.Call.TheVariants.{Allocate, Free, Move
 use Rattle.workload.specs.Generator.{advanced}
 use Rattle.workload.specs.Traffic.{traffic_number, state_after, bytes_written, draws_from, started, LoggedOutcome, traffic, calls_from}
 
--- the calls that a workload makes after an accepted set_up_lem
+-- the calls that a workload makes after an accepted set-up
 abbrev pub calls_made : ℕ → ℕ → ℕ → State → List ℕ → List Call
 calls_made s g draws x log = calls_from draws (started g (set_up s x).after log)
 
@@ -51,7 +51,7 @@ pub record Counted (g draws : ℕ) (log : List ℕ) (calls : List Call) (t : Log
   pub roomy : 22 * draws ≤ length log → traffic_number t.answer ≡ 0
   pub state : state_after t.answer ≡ stepped (length calls) g
 
--- an equal fresh image and table, entries beyond the used ones included: set_up_lem leaves y as it leaves x
+-- an equal fresh image and table, entries beyond the used ones included: set-up leaves y as it leaves x
 abbrev pub EqualFresh : ℕ → State → State → Type 0
 EqualFresh s x y = (set_up s y).after ≡ (set_up s x).after
 
@@ -81,7 +81,7 @@ pub record HeldLive (s : ℕ) (x : State) (calls : List Call) (pointers : List �
   pub live : history.answers (after (all_asked calls) (begun s x)).heap ≡ pointers
   pub few : length pointers ≤ 64
 
--- What holds of a workload whose set_up_lem is accepted.
+-- What holds of a workload whose set-up is accepted.
 pub record Repeatable (s g draws : ℕ) (x : State) (log : List ℕ) : Type 0 where
   pub recorded : Recorded (calls_made s g draws x log) log (traffic s g draws x log)
   pub counted : Counted g draws log (calls_made s g draws x log) (traffic s g draws x log)
@@ -100,7 +100,7 @@ pub record Untouched (x : State) (log : List ℕ) (t : LoggedOutcome) : Type 0 w
   pub no_state : state_after t.answer ≡ 0
   pub none_written : bytes_written t.answer ≡ 0
 
--- Where set_up_lem is refused, so is the workload, with the same number.
+-- Where set-up is refused, so is the workload, with the same number.
 unfoldable pub RefusedSetUp : Type 0
 RefusedSetUp =
     (s g draws : ℕ) (x : State) (log : List ℕ) → (IsAccepted (set_up s x) → ⊥)

@@ -22,13 +22,13 @@ traffic_number (Done g written) = 0
 traffic_number (LogFull g written) = 23
 traffic_number (Refused r) = refusal_number r
 
--- the generator's state that it gives: 0 where set_up_lem is refused
+-- the generator's state that it gives: 0 where set-up is refused
 abbrev pub state_after : Traffic → ℕ
 state_after (Done g written) = g
 state_after (LogFull g written) = g
 state_after (Refused r) = 0
 
--- the bytes of log written that it gives: 0 where set_up_lem is refused
+-- the bytes of log written that it gives: 0 where set-up is refused
 abbrev pub bytes_written : Traffic → ℕ
 bytes_written (Done g written) = written
 bytes_written (LogFull g written) = written
@@ -106,7 +106,7 @@ answer_of e = cond e.full (LogFull e.at.generator e.at.written) (Done e.at.gener
 abbrev pub logged_by : Ended → LoggedOutcome
 logged_by e = logged (answer_of e) e.at.store e.at.log
 
--- what follows set_up_lem
+-- what follows set-up
 abbrev pub after_set_up : Outcome → ℕ → ℕ → List ℕ → Answer → LoggedOutcome
 after_set_up o g draws log (setting.Refused r) = logged (Refused r) o.after log
 after_set_up o g draws log (setting.Accepted v) = logged_by (draws_from draws (started g o.after log))

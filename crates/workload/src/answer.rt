@@ -2,7 +2,7 @@
 use store::Refusal;
 
 // All draws are recorded, or the log has no space for the next record: either way the generator's state after the last recorded draw and the
-// bytes of log written. Or set_up_lem is refused.
+// bytes of log written. Or set-up is refused.
 #[derive(Clone, Copy)]
 pub enum Traffic {
     Done(u64, u64),

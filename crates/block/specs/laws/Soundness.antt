@@ -12,7 +12,7 @@ use Rattle.block.specs.declared.header.Examined.{Examined}
 use Rattle.block.specs.declared.header.Object.TheVariants as object
 use Rattle.block.specs.declared.header.Object.{Object}
 
--- well_formed_lem headers, taken apart
+-- well-formed headers, taken apart
 
 -- what a free header says
 pub record Free (d : Header) : Type 0 where
@@ -27,7 +27,7 @@ pub record Live (d : Header) : Type 0 where
   pub holds : 16 + d.size ≤ d.extent
   pub tight : d.extent ≤ 31 + d.size
 
--- what a well_formed_lem header says
+-- what a well-formed header says
 pub record WellFormed (L h : ℕ) (d : Header) : Type 0 where
   pub long : 16 ≤ d.extent
   pub inside : h + d.extent ≤ L
@@ -95,7 +95,7 @@ module _ (image : List ℕ) (h : ℕ) (e : sound image h ≡ true) where
   unfolding sound
   sound_in = leb-true _ _ (and_left _ _ (and_right (nat_le 16 h) _ e))
 
-  -- its fields are well_formed_lem
+  -- its fields are well-formed
   pub sound_formed : WellFormed (length image) h (header_at image h)
   unfolding sound
   sound_formed = well_formed_parts (length image) h (header_at image h) (and_right (nat_le (h + 16) (length image)) _ (and_right (nat_le 16 h) _ e))

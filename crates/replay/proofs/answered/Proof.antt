@@ -1,4 +1,4 @@
--- `replay::answered`: what set_up_lem leaves is what the log is run on, and what the run leaves is what is dumped. Assumes nothing.
+-- `replay::answered`: what set-up leaves is what the log is run on, and what the run leaves is what is dumped. Assumes nothing.
 use mathlib.Core.Path.{ap, ◌∙◌}
 use native.Mathlib.Omega.{arith}
 use lib.ListN.{length-take}

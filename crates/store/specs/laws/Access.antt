@@ -13,6 +13,7 @@ use Rattle.store.specs.Calls.{located, found_at, read_tag, in_body, accessed, go
 use Rattle.store.specs.laws.Distances.{in_body_lem}
 use Rattle.store.specs.laws.Refusals.{demand_met, and_then_met}
 use Rattle.store.specs.laws.TagReading.{Located, located_parts, located-inside, located-at, located_kept}
+use Rattle.store.specs.declared.answer.Refusal.{Refusal}
 use Rattle.store.specs.declared.answer.Refusal.TheVariants.{OutOfBounds}
 use Rattle.store.specs.declared.answer.Answer.{Answer}
 use Rattle.store.specs.declared.answer.Answer.TheVariants.{Accepted, Refused}
@@ -68,6 +69,10 @@ accessed-at s p n x h e = rw e
 -- row 13
 
 module _ (s : ℕ) (p : Pointer) (n : ℕ) (x : State) where
+  pub not-located : (r : Refusal) → located s p x ≡ Refused r → Refused r ≡ accessed s p n x
+  unfolding accessed
+  not-located r e = rw e
+
   module _ (h : ℕ) (l : located s p x ≡ Accepted h) where
     pub outside_body : in_body x.image h p n ≡ false → Refused OutOfBounds ≡ accessed s p n x
     unfolding accessed

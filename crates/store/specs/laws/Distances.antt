@@ -157,13 +157,24 @@ module _ (x : State) (s : ℕ) (e : opening x ≡ Accepted s) (word : ℕ) where
   unfolding measured_by
   distances-found o q = sym distances-read ∙ ap measured_by q
 
-  pub distances_unread : (r : Refusal) → read_tag s (unpack word) x ≡ found.Refused r → distances word x ≡ measurement.Refused r
+  pub distances_refused : (r : Refusal) → read_tag s (unpack word) x ≡ found.Refused r → distances word x ≡ measurement.Refused r
   unfolding measured_by
-  distances_unread r q = sym distances-read ∙ ap measured_by q
+  distances_refused r q = sym distances-read ∙ ap measured_by q
+
+  -- row 10 or 11
+  pub distances_unread : (r : Refusal) → located s (unpack word) x ≡ Refused r → measurement.Refused r ≡ distances word x
+  unfolding distances distances_checks distances_at
+  distances_unread r l = rw (e, l)
+
+  -- all are passed
+  pub distances-given : (h : ℕ) → located s (unpack word) x ≡ Accepted h
+      → measurement.Distances (from_start h (unpack word)) (to_end h (size_at x.image h) (unpack word)) ≡ distances word x
+  unfolding distances distances_checks distances_at
+  distances-given h l = rw (e, l)
 
   -- in numbers
   pub distances-located : (h : ℕ) → located s (unpack word) x ≡ Accepted h
       → distances word x
       ≡ measurement.Distances (sub_ℕ (unpack word).address (h + 16)) (sub_ℕ (h + 16 + size_at x.image h) (unpack word).address)
-  unfolding distances distances_checks distances_at from_start to_end
-  distances-located h l = rw (e, l)
+  unfolding from_start to_end
+  distances-located h l = sym (distances-given h l)

@@ -1,4 +1,4 @@
--- Rows 4 and 5, with which every call but set_up_lem begins. Assumes nothing.
+-- Rows 4 and 5, with which every call but set-up begins. Assumes nothing.
 use Rattle.std.specs.Prelude.{ℕ, ◌+◌, ◌^◌, ◌≤◌, ◌<◌, ◌≡◌, true, false, List, leb, length}
 use Rattle.std.proofs.Common.{sym, ap, ◌∙◌, lt_of_lt_of_le, arith}
 use borrow.Author.Tests.{leb-true, le-leb, lt-leb}

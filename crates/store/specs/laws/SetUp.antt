@@ -25,7 +25,7 @@ pub record Settable (s : ℕ) (x : State) : Type 0 where
   pub length_high : length x.image ≤ 2 ^ 30
   pub entries : used_entries s (length x.image) ≤ length x.table
 
--- an accepted set_up_lem passes them
+-- an accepted set-up passes them
 pub settable_parts : (s : ℕ) (x : State) (v : ℕ) → set_up_checks s x ≡ Accepted v → Settable s x
 unfolding set_up_checks
 settable_parts s x v e =
@@ -74,7 +74,7 @@ module _ (s : ℕ) (x : State) where
   unfolding set_up
   set_up_done v e = rw e
 
--- what an accepted set_up_lem was given, and what it leaves
+-- what an accepted set-up was given, and what it leaves
 pub set_up-accepted : (s : ℕ) (x : State) → IsAccepted (set_up s x)
     → Settable s x
     × (set_up s x ≡ outcome (Accepted 0) (fresh s (length x.image)) (cleared s (length x.image) x.table))

@@ -4,7 +4,7 @@ use Rattle.std.specs.Prelude.{ℕ, ◌+◌, ◌*◌, ◌/◌, ◌^◌, ◌≤◌
 use Rattle.std.proofs.Math.Path.{refl, sym}
 use Rattle.std.proofs.Common.{ap, ap₂, ◌∙◌, subst, inl, div-mul-le_self, arith}
 use Rattle.std.proofs.Math.Bool.{and_assoc, and-true, and-false}
-use borrow.Author.Tests.{ltb-true, eqb-true, lt-ltb, eq-eqb, le-ltb}
+use borrow.Author.Tests.{ltb-true, eqb-true, lt-ltb, eq-eqb, ne_eqb, le-ltb}
 use Rattle.frame.specs.Frame.{frame_start, same_frame}
 use Rattle.frame.specs.Pointers.{InRange, unpack, good_tag, reach, at}
 use Rattle.frame.specs.Tags.{wrapper, pointer_to, entry_of, tag_matches, entry_at}
@@ -15,7 +15,7 @@ use Rattle.frame.specs.laws.Objects.{PointerOf, same-reach, object_tag, object_m
 use Rattle.frame.specs.declared.parts.Pointer.{Pointer}
 use Rattle.block.specs.laws.Booleans.{by_bool, and_left, and_right}
 use Rattle.block.specs.Bytes.{put}
-use Rattle.block.specs.Layout.{header_at, sound, is_live, size_at}
+use Rattle.block.specs.Layout.{header_at, sound, is_live, size_at, kind_at}
 use Rattle.block.specs.laws.Writes.{length-put}
 use Rattle.block.specs.laws.Headers.{header_at-put_other}
 use Rattle.block.specs.laws.Soundness.{sound-same, sound_in, sound-end, sound_live, object_at, object_is, object_is_none}
@@ -188,6 +188,24 @@ module _ (s : ℕ) (p : Pointer) (table : List ℕ) where
 -- the header there
 
 module _ (s : ℕ) (p : Pointer) (image : List ℕ) (h : ℕ) where
+  pub not_sound : sound image h ≡ false → verified s p image h ≡ false
+  unfolding verified
+  not_sound e = rw e
+
+  module _ (so : sound image h ≡ true) where
+    pub not_live : (kind_at image h ≡ 2 → ⊥) → verified s p image h ≡ false
+    unfolding verified
+    not_live n = rw (so, ne_eqb (kind_at image h) 2 n)
+
+    module _ (k : kind_at image h ≡ 2) where
+      pub no_match : tag_matches s h (size_at image h) p ≡ false → verified s p image h ≡ false
+      unfolding verified
+      no_match e = rw (so, eq-eqb (kind_at image h) 2 k, e)
+
+      pub match : tag_matches s h (size_at image h) p ≡ true → verified s p image h ≡ same_frame (reach s p) h p.address
+      unfolding verified
+      match e = rw (so, eq-eqb (kind_at image h) 2 k, e)
+
   -- no object is verified
   pub not-verified : object_at image h ≡ object.None → verified s p image h ≡ false
   unfolding verified
@@ -212,6 +230,11 @@ module _ (s : ℕ) (p : Pointer) (x : State) where
     pub starts_past : length x.image ≤ frame_start (reach s p) p.address → Refused Dangling ≡ located s p x
     unfolding located leads_back
     starts_past l = rw (good, le-ltb _ _ l)
+
+    pub starts_in : (h : ℕ) → frame_start (reach s p) p.address < length x.image → h ≡ header_place s p x.table
+        → demand (verified s p x.image h) Dangling (Accepted h) ≡ located s p x
+    unfolding located leads_back
+    starts_in h l e = rw (e, good, lt-ltb _ _ l) refl
 
     module _ (h : ℕ) (place : h ≡ header_place s p x.table) where
       -- no object is there

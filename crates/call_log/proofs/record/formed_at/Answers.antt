@@ -7,7 +7,7 @@ use Rattle.call_log.proofs.Reading.{kind_low, kind_high, length_wrong, value_wro
 use Rattle.call_log.proofs.record.formed_at.Goals as goal
 
 pub call_at-requires : goal.call_at-requires
-call_at-requires c = (omega (arith, c.if-len-record_length.false, c.record_length.ensures), sym c.good_value.ensures ∙ not-false _ c.if-not-good_value.false-raw)
+call_at-requires c = (omega (arith, c.if-len-record_length.false, c.record_length.ensures), sym c.good_value.ensures ∙ c.if-not-good_value.false)
 
 -- 18: below 16
 pub returns-then-kind-lt16 : goal.returns-then-kind-lt16
@@ -25,11 +25,11 @@ returns-then-len-record_length c = length_wrong _ _ _ _ c.read2-kind.ensures c.i
 pub returns-then-not-good_value : goal.returns-then-not-good_value
 returns-then-not-good_value c =
     value_wrong _ _ _ _ c.read2-kind.ensures c.if-kind-lt16.false c.if-kind-gt22.false
-    (c.if-len-record_length.false ∙ c.record_length.ensures) (sym c.good_value.ensures ∙ not-true _ c.if-not-good_value.true-raw)
+    (c.if-len-record_length.false ∙ c.record_length.ensures) (sym c.good_value.ensures ∙ c.if-not-good_value.true)
 
 -- the record
 pub returns : goal.returns
 returns c =
     rw c.call_at.ensures
     (well_formed_lem _ _ _ _ c.read2-kind.ensures c.if-kind-lt16.false c.if-kind-gt22.false
-    (c.if-len-record_length.false ∙ c.record_length.ensures) (sym c.good_value.ensures ∙ not-false _ c.if-not-good_value.false-raw))
+    (c.if-len-record_length.false ∙ c.record_length.ensures) (sym c.good_value.ensures ∙ c.if-not-good_value.false))

@@ -13,18 +13,18 @@ use Rattle.descriptors.proofs.checking.good_descriptor.Goals as goal
 
 -- its head is bad
 pub returns-then-not-good_head : goal.returns-then-not-good_head
-returns-then-not-good_head c = sym (descriptor_headless _ _ (sym c.good_head.ensures ∙ not-true _ c.if-not-good_head.true-raw))
+returns-then-not-good_head c = sym (descriptor_headless _ _ (sym c.good_head.ensures ∙ c.if-not-good_head.true))
 
 pub overflow_sub-n : goal.overflow_sub-n
 overflow_sub-n c =
-    let good : good_head c.args.list.now c.args.p ≡ true = sym c.good_head.ensures ∙ not-false _ c.if-not-good_head.false-raw in
+    let good : good_head c.args.list.now c.args.p ≡ true = sym c.good_head.ensures ∙ c.if-not-good_head.false in
     let whole : Headed c.args.list.now c.args.p = headed _ _ good in
     let reads : c.read_descriptor-d.result.length ≡ length_at c.args.list.now c.args.p = ap (λ (d : Descriptor). d.length) c.read_descriptor-d.ensures in
     omega (arith, reads, headed-length _ _ whole)
 
 pub good_fields-requires : goal.good_fields-requires
 good_fields-requires c =
-    let good : good_head c.args.list.now c.args.p ≡ true = sym c.good_head.ensures ∙ not-false _ c.if-not-good_head.false-raw in
+    let good : good_head c.args.list.now c.args.p ≡ true = sym c.good_head.ensures ∙ c.if-not-good_head.false in
     let whole : Headed c.args.list.now c.args.p = headed _ _ good in
     let reads : c.read_descriptor-d.result.length ≡ length_at c.args.list.now c.args.p = ap (λ (d : Descriptor). d.length) c.read_descriptor-d.ensures in
     let w = whole in (
@@ -36,7 +36,7 @@ good_fields-requires c =
 -- its type is described before it
 pub returns-in-At : goal.returns-in-At
 returns-in-At c =
-    let good : good_head c.args.list.now c.args.p ≡ true = sym c.good_head.ensures ∙ not-false _ c.if-not-good_head.false-raw in
+    let good : good_head c.args.list.now c.args.p ≡ true = sym c.good_head.ensures ∙ c.if-not-good_head.false in
     let a = c.args in
     let d = c.read_descriptor-d in
     sym
@@ -46,7 +46,7 @@ returns-in-At c =
 -- its fields tell
 pub returns-in-Nowhere : goal.returns-in-Nowhere
 returns-in-Nowhere c =
-    let good : good_head c.args.list.now c.args.p ≡ true = sym c.good_head.ensures ∙ not-false _ c.if-not-good_head.false-raw in
+    let good : good_head c.args.list.now c.args.p ≡ true = sym c.good_head.ensures ∙ c.if-not-good_head.false in
     let a = c.args in
     let d = c.read_descriptor-d in
     c.good_fields.ensures
@@ -58,6 +58,6 @@ good_head-requires c = whole-inside _ _ c.requires
 
 pub read_descriptor-d-requires : goal.read_descriptor-d-requires
 read_descriptor-d-requires c =
-    let good : good_head c.args.list.now c.args.p ≡ true = sym c.good_head.ensures ∙ not-false _ c.if-not-good_head.false-raw in
+    let good : good_head c.args.list.now c.args.p ≡ true = sym c.good_head.ensures ∙ c.if-not-good_head.false in
     let whole : Headed c.args.list.now c.args.p = headed _ _ good in
     whole.head

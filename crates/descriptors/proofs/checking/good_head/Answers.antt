@@ -21,7 +21,7 @@ returns-then-left-d c =
 pub returns-then-not-good_shape : goal.returns-then-not-good_shape
 returns-then-not-good_shape c =
     let d = c.read_descriptor-d in
-    sym (head_shapeless _ _ d.result d.ensures (sym c.good_shape.ensures ∙ not-true _ c.if-not-good_shape.true-raw))
+    sym (head_shapeless _ _ d.result d.ensures (sym c.good_shape.ensures ∙ c.if-not-good_shape.true))
 
 -- its size tells
 pub returns : goal.returns
@@ -29,4 +29,4 @@ returns c =
     let a = c.args in
     let d = c.read_descriptor-d in
     head_by_size a.list.now a.p d.result d.ensures (omega (arith, c.if-left-lt12.false)) (omega (arith, c.if-left-d.false, c.if-left-lt12.false))
-    (sym c.good_shape.ensures ∙ not-false _ c.if-not-good_shape.false-raw)
+    (sym c.good_shape.ensures ∙ c.if-not-good_shape.false)

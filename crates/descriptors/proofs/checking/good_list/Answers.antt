@@ -12,14 +12,14 @@ use Rattle.descriptors.proofs.checking.good_list.Goals as goal
 
 pub loop-p-smaller : goal.loop-p-smaller
 loop-p-smaller c =
-    let good : good_descriptor c.args.list.now c.loop-p.p ≡ true = sym c.good_descriptor.ensures ∙ not-false _ c.if-not-good_descriptor.false-raw in
+    let good : good_descriptor c.args.list.now c.loop-p.p ≡ true = sym c.good_descriptor.ensures ∙ c.if-not-good_descriptor.false in
     let whole : Headed c.args.list.now c.loop-p.p = (good_parts _ _ good).at_head in
     let reads : c.read_descriptor-d.result.length ≡ length_at c.args.list.now c.loop-p.p = ap (λ (d : Descriptor). d.length) c.read_descriptor-d.ensures in
     let w = whole in omega (arith, reads, w.head, headed-length _ _ w)
 
 pub loop-p-preserved : goal.loop-p-preserved
 loop-p-preserved c =
-    let good : good_descriptor c.args.list.now c.loop-p.p ≡ true = sym c.good_descriptor.ensures ∙ not-false _ c.if-not-good_descriptor.false-raw in
+    let good : good_descriptor c.args.list.now c.loop-p.p ≡ true = sym c.good_descriptor.ensures ∙ c.if-not-good_descriptor.false in
     let reads : c.read_descriptor-d.result.length ≡ length_at c.args.list.now c.loop-p.p = ap (λ (d : Descriptor). d.length) c.read_descriptor-d.ensures in
     let list = c.args.list.now in
     subst (λ (x : ℕ). Checking list (c.loop-p.p + x)) (sym reads)
@@ -31,7 +31,7 @@ returns-then-p-list c = checking_ends _ _ c.loop-p.invariant c.if-p-list.true
 
 -- a bad descriptor
 pub returns-then-not-good_descriptor : goal.returns-then-not-good_descriptor
-returns-then-not-good_descriptor c = checking_fails _ _ c.loop-p.invariant c.if-p-list.false (sym c.good_descriptor.ensures ∙ not-true _ c.if-not-good_descriptor.true-raw)
+returns-then-not-good_descriptor c = checking_fails _ _ c.loop-p.invariant c.if-p-list.false (sym c.good_descriptor.ensures ∙ c.if-not-good_descriptor.true)
 
 pub loop-p-init : goal.loop-p-init
 loop-p-init c = checking_begins _
@@ -41,13 +41,13 @@ good_descriptor-requires c = c.loop-p.invariant.whole
 
 pub read_descriptor-d-requires : goal.read_descriptor-d-requires
 read_descriptor-d-requires c =
-    let good : good_descriptor c.args.list.now c.loop-p.p ≡ true = sym c.good_descriptor.ensures ∙ not-false _ c.if-not-good_descriptor.false-raw in
+    let good : good_descriptor c.args.list.now c.loop-p.p ≡ true = sym c.good_descriptor.ensures ∙ c.if-not-good_descriptor.false in
     let whole : Headed c.args.list.now c.loop-p.p = (good_parts _ _ good).at_head in
     whole.head
 
 pub overflow_add-p : goal.overflow_add-p
 overflow_add-p c =
-    let good : good_descriptor c.args.list.now c.loop-p.p ≡ true = sym c.good_descriptor.ensures ∙ not-false _ c.if-not-good_descriptor.false-raw in
+    let good : good_descriptor c.args.list.now c.loop-p.p ≡ true = sym c.good_descriptor.ensures ∙ c.if-not-good_descriptor.false in
     let whole : Headed c.args.list.now c.loop-p.p = (good_parts _ _ good).at_head in
     let reads : c.read_descriptor-d.result.length ≡ length_at c.args.list.now c.loop-p.p = ap (λ (d : Descriptor). d.length) c.read_descriptor-d.ensures in
     omega (arith, reads, whole.whole)

@@ -12,10 +12,10 @@ returns-then-sizes-gt65536 c = c.refused.ensures ∙ sym (report_long _ c.if-siz
 
 -- 29: a size out of range
 pub returns-then-not-good_sizes : goal.returns-then-not-good_sizes
-returns-then-not-good_sizes c = c.refused-then-not-good_sizes.ensures ∙ sym (report_bad _ c.if-sizes-gt65536.false (sym c.good_sizes.ensures ∙ not-true _ c.if-not-good_sizes.true-raw))
+returns-then-not-good_sizes c = c.refused-then-not-good_sizes.ensures ∙ sym (report_bad _ c.if-sizes-gt65536.false (sym c.good_sizes.ensures ∙ c.if-not-good_sizes.true))
 
 pub sums-s-requires : goal.sums-s-requires
-sums-s-requires c = (c.if-sizes-gt65536.false, sym c.good_sizes.ensures ∙ not-false _ c.if-not-good_sizes.false-raw)
+sums-s-requires c = (c.if-sizes-gt65536.false, sym c.good_sizes.ensures ∙ c.if-not-good_sizes.false)
 
 pub fraction-headers-requires : goal.fraction-headers-requires
 fraction-headers-requires c = (sums-ordered _ _ c.sums-s.ensures).0
@@ -26,7 +26,7 @@ fraction-padding-requires c = (sums-ordered _ _ c.sums-s.ensures).1
 -- the sums and their fractions
 pub returns : goal.returns
 returns c =
-    report-given _ _ _ _ c.if-sizes-gt65536.false (sym c.good_sizes.ensures ∙ not-false _ c.if-not-good_sizes.false-raw)
+    report-given _ _ _ _ c.if-sizes-gt65536.false (sym c.good_sizes.ensures ∙ c.if-not-good_sizes.false)
     c.sums-s.ensures
     c.fraction-headers.ensures
     c.fraction-padding.ensures

@@ -13,10 +13,10 @@ loop-i-init c = (omega arith, refl)
 
 -- a size is out of range
 pub returns-then-not-good_size : goal.returns-then-not-good_size
-returns-then-not-good_size c = sym (bad_turn _ _ c.loop-i-test.true (sym c.good_size.ensures ∙ not-true _ c.if-not-good_size.true-raw)) ∙ c.loop-i.invariant.1
+returns-then-not-good_size c = sym (bad_turn _ _ c.loop-i-test.true (sym c.good_size.ensures ∙ c.if-not-good_size.true)) ∙ c.loop-i.invariant.1
 
 pub loop-i-preserved : goal.loop-i-preserved
-loop-i-preserved c = (omega arith, sym (good_turn _ _ c.loop-i-test.true (sym c.good_size.ensures ∙ not-false _ c.if-not-good_size.false-raw)) ∙ c.loop-i.invariant.1)
+loop-i-preserved c = (omega arith, sym (good_turn _ _ c.loop-i-test.true (sym c.good_size.ensures ∙ c.if-not-good_size.false)) ∙ c.loop-i.invariant.1)
 
 -- none is left
 pub returns : goal.returns

@@ -16,7 +16,7 @@ pub returns-then-not-good_width : goal.returns-then-not-good_width
 returns-then-not-good_width c =
     let given : State = state c.args.image.now c.args.table.now in
     let is_open : opening given ≡ Accepted c.in-Accepted.s = sym c.opening.ensures ∙ c.in-Accepted.is in
-    load_width (state _ _) _ is_open _ _ (sym c.good_width.ensures ∙ not-true _ c.if-not-good_width.true-raw)
+    load_width (state _ _) _ is_open _ _ (sym c.good_width.ensures ∙ c.if-not-good_width.true)
 
 -- row 4 or 5
 pub returns-in-Refused : goal.returns-in-Refused
@@ -32,5 +32,5 @@ pub load_open-requires : goal.load_open-requires
 load_open-requires c =
     let given : State = state c.args.image.now c.args.table.now in
     let is_open : opening given ≡ Accepted c.in-Accepted.s = sym c.opening.ensures ∙ c.in-Accepted.is in
-    let is-good : good_width c.args.width ≡ true = sym c.good_width.ensures ∙ not-false _ c.if-not-good_width.false-raw in
+    let is-good : good_width c.args.width ≡ true = sym c.good_width.ensures ∙ c.if-not-good_width.false in
     (is_open, is-good)

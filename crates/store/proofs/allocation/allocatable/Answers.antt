@@ -44,7 +44,7 @@ pub returns-then-not-entry_holds : goal.returns-then-not-entry_holds
 returns-then-not-entry_holds c =
     let found : let a = c.args in first_fit a.image.now (16 + a.size) ≡ fit.At c.in-At.h = sym c.first_fit.ensures ∙ c.in-At.is in
     let tested : let a = c.args in entry_holds a.s c.in-At.h a.size 0 a.table.now ≡ c.entry_holds.result = let a = c.args in sym (tagged-holds a.s c.in-At.h a.size a.table.now 0) ∙ ap (λ (t : Tagged). holds_for t 0 a.table.now) (sym c.tag_object-t.ensures) ∙ sym c.entry_holds.ensures in
-    site_refused _ _ _ _ (allocate_taken _ (state _ _) _ c.requires _ found (tested ∙ not-true _ c.if-not-entry_holds.true-raw))
+    site_refused _ _ _ _ (allocate_taken _ (state _ _) _ c.requires _ found (tested ∙ c.if-not-entry_holds.true))
 
 -- row 22
 pub returns-then-stored_total-taken_extent : goal.returns-then-stored_total-taken_extent

@@ -31,7 +31,7 @@ pub returns-then-not-good_list : goal.returns-then-not-good_list
 returns-then-not-good_list c =
     let given : State = state c.args.image.now c.args.table.now in
     let is_open : opening given ≡ Accepted c.in-Accepted.s = sym c.opening.ensures ∙ c.in-Accepted.is in
-    sym (has_type_bad _ _ _ given _ is_open (sym c.good_list.ensures ∙ not-true _ c.if-not-good_list.true-raw))
+    sym (has_type_bad _ _ _ given _ is_open (sym c.good_list.ensures ∙ c.if-not-good_list.true))
 
 -- row 4 or 5
 pub returns-in-Refused : goal.returns-in-Refused
@@ -42,7 +42,7 @@ pub returns-in-Refused-locate : goal.returns-in-Refused-locate
 returns-in-Refused-locate c =
     let given : State = state c.args.image.now c.args.table.now in
     let is_open : opening given ≡ Accepted c.in-Accepted.s = sym c.opening.ensures ∙ c.in-Accepted.is in
-    let good : good_list c.args.list.now ≡ true = sym c.good_list.ensures ∙ not-false _ c.if-not-good_list.false-raw in
+    let good : good_list c.args.list.now ≡ true = sym c.good_list.ensures ∙ c.if-not-good_list.false in
     sym
     (has_type_unread _ _ _ given _ is_open good _
     (read-refused _ _ (state _ _) _ (sym c.locate.ensures ∙ c.in-Refused-locate.is)))
@@ -52,7 +52,7 @@ pub returns-in-At : goal.returns-in-At
 returns-in-At c =
     let given : State = state c.args.image.now c.args.table.now in
     let is_open : opening given ≡ Accepted c.in-Accepted.s = sym c.opening.ensures ∙ c.in-Accepted.is in
-    let good : good_list c.args.list.now ≡ true = sym c.good_list.ensures ∙ not-false _ c.if-not-good_list.false-raw in
+    let good : good_list c.args.list.now ≡ true = sym c.good_list.ensures ∙ c.if-not-good_list.false in
     let object : FoundAt c.in-Accepted.s (unpack c.args.pointer) given c.in-At.o = read_found _ _ (state _ _) _ (sym c.locate.ensures ∙ c.in-At.is) in
     let passed : to_z w64 (of_z w64 c.in-At.o.offset) ≡ c.in-At.o.offset = let fits : SFits w64 c.in-At.o.offset = search rules in to_z-of_z fits in
     let read = c.in-At.o in
@@ -76,5 +76,5 @@ locate-requires c =
 
 pub cast-requires : goal.cast-requires
 cast-requires c =
-    let good : good_list c.args.list.now ≡ true = sym c.good_list.ensures ∙ not-false _ c.if-not-good_list.false-raw in
+    let good : good_list c.args.list.now ≡ true = sym c.good_list.ensures ∙ c.if-not-good_list.false in
     good

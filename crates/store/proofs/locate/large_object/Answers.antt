@@ -28,12 +28,12 @@ use Rattle.store.proofs.locate.large_object.Goals as goal
 pub returns-then-not-frame_tag_good : goal.returns-then-not-frame_tag_good
 returns-then-not-frame_tag_good c =
     found-refused _ _ _
-    ∙ found_by c.args.s c.args.p (state _ _) _ (bad_tag _ _ (state _ _) (sym c.frame_tag_good.ensures ∙ not-true _ c.if-not-frame_tag_good.true-raw))
+    ∙ found_by c.args.s c.args.p (state _ _) _ (bad_tag _ _ (state _ _) (sym c.frame_tag_good.ensures ∙ c.if-not-frame_tag_good.true))
 
 -- row 11: the frame starts past the image
 pub returns-then-image-frame_start : goal.returns-then-image-frame_start
 returns-then-image-frame_start c =
-    let is-good : let a = c.args in good_tag a.s a.p ≡ true = sym c.frame_tag_good.ensures ∙ not-false _ c.if-not-frame_tag_good.false-raw in
+    let is-good : let a = c.args in good_tag a.s a.p ≡ true = sym c.frame_tag_good.ensures ∙ c.if-not-frame_tag_good.false in
     let a = c.args in
     let l : length a.image.now ≤ frame_start a.p.tag a.p.address = omega (arith, c.frame_start.ensures, c.if-image-frame_start.true) in
     found-refused _ _ _
@@ -43,7 +43,7 @@ pub entry_index-entry-requires : goal.entry_index-entry-requires
 entry_index-entry-requires c =
     let given : State = state c.args.image.now c.args.table.now in
     let is_open : Open given c.args.s = opening_parts _ _ c.requires.0 in
-    let is-good : let a = c.args in good_tag a.s a.p ≡ true = sym c.frame_tag_good.ensures ∙ not-false _ c.if-not-frame_tag_good.false-raw in
+    let is-good : let a = c.args in good_tag a.s a.p ≡ true = sym c.frame_tag_good.ensures ∙ c.if-not-frame_tag_good.false in
     let exponent : let a = c.args in (a.s < a.p.tag) × (a.p.tag ≤ 31) = good_large _ _ c.requires.2 is-good in
     let starts : let a = c.args in frame_start a.p.tag a.p.address < length a.image.now = omega (arith, c.frame_start.ensures, c.if-image-frame_start.false) in
     omega (arith, exponent, starts, is_open.short)
@@ -52,18 +52,18 @@ entry_index-entry-requires c =
 pub returns-then-not-frame_holds : goal.returns-then-not-frame_holds
 returns-then-not-frame_holds c =
     let given : State = state c.args.image.now c.args.table.now in
-    let is-good : let a = c.args in good_tag a.s a.p ≡ true = sym c.frame_tag_good.ensures ∙ not-false _ c.if-not-frame_tag_good.false-raw in
+    let is-good : let a = c.args in good_tag a.s a.p ≡ true = sym c.frame_tag_good.ensures ∙ c.if-not-frame_tag_good.false in
     let starts : let a = c.args in frame_start a.p.tag a.p.address < length a.image.now = omega (arith, c.frame_start.ensures, c.if-image-frame_start.false) in
     let header : ℕ = get_or c.args.table.now c.entry_index-entry.result 0 in
     let led-to : let a = c.args in header ≡ header_place a.s a.p a.table.now = ap (λ (j : ℕ). get_or c.args.table.now j 0) c.entry_index-entry.ensures ∙ place-large c.args.s c.args.p c.args.table.now c.requires.2 in
     let leads : demand (frame_holds header c.in-Size.size c.args.p) Dangling (Accepted header) ≡ located c.args.s c.args.p given = led-large c.args.s c.args.p given is-good header led-to _ c.requires.2 starts (sym c.live_size.ensures ∙ c.in-Size.is) in
-    found_dangling _ _ _ _ (sym c.frame_holds.ensures ∙ not-true _ c.if-not-frame_holds.true-raw) ∙ found_by c.args.s c.args.p given _ leads
+    found_dangling _ _ _ _ (sym c.frame_holds.ensures ∙ c.if-not-frame_holds.true) ∙ found_by c.args.s c.args.p given _ leads
 
 -- row 11: no object
 pub returns-in-None : goal.returns-in-None
 returns-in-None c =
     let given : State = state c.args.image.now c.args.table.now in
-    let is-good : let a = c.args in good_tag a.s a.p ≡ true = sym c.frame_tag_good.ensures ∙ not-false _ c.if-not-frame_tag_good.false-raw in
+    let is-good : let a = c.args in good_tag a.s a.p ≡ true = sym c.frame_tag_good.ensures ∙ c.if-not-frame_tag_good.false in
     let header : ℕ = get_or c.args.table.now c.entry_index-entry.result 0 in
     let led-to : let a = c.args in header ≡ header_place a.s a.p a.table.now = ap (λ (j : ℕ). get_or c.args.table.now j 0) c.entry_index-entry.ensures ∙ place-large c.args.s c.args.p c.args.table.now c.requires.2 in
     found-refused _ _ _
@@ -76,12 +76,12 @@ returns-else-not-frame_holds c =
     let given : State = state c.args.image.now c.args.table.now in
     let header : ℕ = get_or c.args.table.now c.entry_index-entry.result 0 in
     let object : let a = c.args in (sound a.image.now header ≡ true) × (is_live a.image.now header ≡ true) × (c.in-Size.size ≡ size_at a.image.now header) = object_is _ _ _ (sym c.live_size.ensures ∙ c.in-Size.is) in
-    let is-good : let a = c.args in good_tag a.s a.p ≡ true = sym c.frame_tag_good.ensures ∙ not-false _ c.if-not-frame_tag_good.false-raw in
+    let is-good : let a = c.args in good_tag a.s a.p ≡ true = sym c.frame_tag_good.ensures ∙ c.if-not-frame_tag_good.false in
     let starts : let a = c.args in frame_start a.p.tag a.p.address < length a.image.now = omega (arith, c.frame_start.ensures, c.if-image-frame_start.false) in
     let led-to : let a = c.args in header ≡ header_place a.s a.p a.table.now = ap (λ (j : ℕ). get_or c.args.table.now j 0) c.entry_index-entry.ensures ∙ place-large c.args.s c.args.p c.args.table.now c.requires.2 in
     let leads : demand (frame_holds header c.in-Size.size c.args.p) Dangling (Accepted header) ≡ located c.args.s c.args.p given = led-large c.args.s c.args.p given is-good header led-to _ c.requires.2 starts (sym c.live_size.ensures ∙ c.in-Size.is) in
     ap At c.measure.ensures
-    ∙ found-verified _ _ _ _ _ (sym c.frame_holds.ensures ∙ not-false _ c.if-not-frame_holds.false-raw) object.2
+    ∙ found-verified _ _ _ _ _ (sym c.frame_holds.ensures ∙ c.if-not-frame_holds.false) object.2
     ∙ found_by c.args.s c.args.p given _ leads
 
 pub frame_tag_good-requires : goal.frame_tag_good-requires
@@ -92,13 +92,13 @@ frame_tag_good-requires c =
 
 pub overflow_cast-n : goal.overflow_cast-n
 overflow_cast-n c =
-    let is-good : let a = c.args in good_tag a.s a.p ≡ true = sym c.frame_tag_good.ensures ∙ not-false _ c.if-not-frame_tag_good.false-raw in
+    let is-good : let a = c.args in good_tag a.s a.p ≡ true = sym c.frame_tag_good.ensures ∙ c.if-not-frame_tag_good.false in
     let exponent : let a = c.args in (a.s < a.p.tag) × (a.p.tag ≤ 31) = good_large _ _ c.requires.2 is-good in
     omega (arith, exponent)
 
 pub frame_start-requires : goal.frame_start-requires
 frame_start-requires c =
-    let is-good : let a = c.args in good_tag a.s a.p ≡ true = sym c.frame_tag_good.ensures ∙ not-false _ c.if-not-frame_tag_good.false-raw in
+    let is-good : let a = c.args in good_tag a.s a.p ≡ true = sym c.frame_tag_good.ensures ∙ c.if-not-frame_tag_good.false in
     let exponent : let a = c.args in (a.s < a.p.tag) × (a.p.tag ≤ 31) = good_large _ _ c.requires.2 is-good in
     omega (arith, exponent)
 
@@ -106,7 +106,7 @@ pub offset_bounds-table-entry : goal.offset_bounds-table-entry
 offset_bounds-table-entry c =
     let given : State = state c.args.image.now c.args.table.now in
     let is_open : Open given c.args.s = opening_parts _ _ c.requires.0 in
-    let is-good : let a = c.args in good_tag a.s a.p ≡ true = sym c.frame_tag_good.ensures ∙ not-false _ c.if-not-frame_tag_good.false-raw in
+    let is-good : let a = c.args in good_tag a.s a.p ≡ true = sym c.frame_tag_good.ensures ∙ c.if-not-frame_tag_good.false in
     let exponent : let a = c.args in (a.s < a.p.tag) × (a.p.tag ≤ 31) = good_large _ _ c.requires.2 is-good in
     let starts : let a = c.args in frame_start a.p.tag a.p.address < length a.image.now = omega (arith, c.frame_start.ensures, c.if-image-frame_start.false) in
     let entry_in : c.entry_index-entry.result < length c.args.table.now = rw c.entry_index-entry.ensures (lt_of_lt_of_le (entry_used c.args.s _ _ c.args.p.address exponent.1 starts) is_open.entries) in
@@ -116,7 +116,7 @@ pub bounds-table-entry : goal.bounds-table-entry
 bounds-table-entry c =
     let given : State = state c.args.image.now c.args.table.now in
     let is_open : Open given c.args.s = opening_parts _ _ c.requires.0 in
-    let is-good : let a = c.args in good_tag a.s a.p ≡ true = sym c.frame_tag_good.ensures ∙ not-false _ c.if-not-frame_tag_good.false-raw in
+    let is-good : let a = c.args in good_tag a.s a.p ≡ true = sym c.frame_tag_good.ensures ∙ c.if-not-frame_tag_good.false in
     let exponent : let a = c.args in (a.s < a.p.tag) × (a.p.tag ≤ 31) = good_large _ _ c.requires.2 is-good in
     let starts : let a = c.args in frame_start a.p.tag a.p.address < length a.image.now = omega (arith, c.frame_start.ensures, c.if-image-frame_start.false) in
     let entry_in : c.entry_index-entry.result < length c.args.table.now = rw c.entry_index-entry.ensures (lt_of_lt_of_le (entry_used c.args.s _ _ c.args.p.address exponent.1 starts) is_open.entries) in
@@ -130,7 +130,7 @@ live_size-requires c =
 
 pub frame_holds-requires : goal.frame_holds-requires
 frame_holds-requires c =
-    let is-good : let a = c.args in good_tag a.s a.p ≡ true = sym c.frame_tag_good.ensures ∙ not-false _ c.if-not-frame_tag_good.false-raw in
+    let is-good : let a = c.args in good_tag a.s a.p ≡ true = sym c.frame_tag_good.ensures ∙ c.if-not-frame_tag_good.false in
     let exponent : let a = c.args in (a.s < a.p.tag) × (a.p.tag ≤ 31) = good_large _ _ c.requires.2 is-good in
     let given : State = state c.args.image.now c.args.table.now in
     let is_open : Open given c.args.s = opening_parts _ _ c.requires.0 in

@@ -16,7 +16,7 @@ unfolding reached_by
 returns-then-not-in_body c =
     sym
     (ap (λ (f : Found). reached_by f c.args.p c.args.n) c.in-At.is
-    ∙ ap (λ (t : Bool). demand t OutOfBounds (Accepted c.args.p.address)) (sym c.in_body.ensures ∙ not-true _ c.if-not-in_body.true-raw))
+    ∙ ap (λ (t : Bool). demand t OutOfBounds (Accepted c.args.p.address)) (sym c.in_body.ensures ∙ c.if-not-in_body.true))
 
 -- row 10 or 11
 pub returns-in-Refused : goal.returns-in-Refused
@@ -29,4 +29,4 @@ unfolding reached_by
 returns-else-not-in_body c =
     sym
     (ap (λ (f : Found). reached_by f c.args.p c.args.n) c.in-At.is
-    ∙ ap (λ (t : Bool). demand t OutOfBounds (Accepted c.args.p.address)) (sym c.in_body.ensures ∙ not-false _ c.if-not-in_body.false-raw))
+    ∙ ap (λ (t : Bool). demand t OutOfBounds (Accepted c.args.p.address)) (sym c.in_body.ensures ∙ c.if-not-in_body.false))

@@ -26,17 +26,17 @@ pub returns-then-not-slot_tag_good : goal.returns-then-not-slot_tag_good
 returns-then-not-slot_tag_good c =
     λ table.
     found-refused _ _ _
-    ∙ found_by c.args.s c.args.p (state _ table) _ (bad_tag _ _ (state _ table) (sym c.slot_tag_good.ensures ∙ not-true _ c.if-not-slot_tag_good.true-raw))
+    ∙ found_by c.args.s c.args.p (state _ table) _ (bad_tag _ _ (state _ table) (sym c.slot_tag_good.ensures ∙ c.if-not-slot_tag_good.true))
 
 -- row 11: the slot does not hold the object
 pub returns-then-not-slot_holds : goal.returns-then-not-slot_holds
 returns-then-not-slot_holds c =
-    let is-good : let a = c.args in good_tag a.s a.p ≡ true = sym c.slot_tag_good.ensures ∙ not-false _ c.if-not-slot_tag_good.false-raw in
+    let is-good : let a = c.args in good_tag a.s a.p ≡ true = sym c.slot_tag_good.ensures ∙ c.if-not-slot_tag_good.false in
     let header : ℕ = c.frame_start.result + c.args.p.tag in
     let led-to : (table : List ℕ) → let a = c.args in header ≡ header_place a.s a.p table = λ table. let a = c.args in ap (λ (n : ℕ). n + a.p.tag) c.frame_start.ensures ∙ place_small a.s a.p table c.requires.2 in
     let a = c.args in
     λ table.
-    found_dangling _ _ _ _ (sym c.slot_holds.ensures ∙ not-true _ c.if-not-slot_holds.true-raw)
+    found_dangling _ _ _ _ (sym c.slot_holds.ensures ∙ c.if-not-slot_holds.true)
     ∙ found_by a.s a.p (state _ table) _
     (led_small a.s a.p (state _ table) is-good header (led-to table) _ c.requires.2
     (sym c.live_size.ensures ∙ c.in-Size.is))
@@ -44,7 +44,7 @@ returns-then-not-slot_holds c =
 -- row 11: no object
 pub returns-in-None : goal.returns-in-None
 returns-in-None c =
-    let is-good : let a = c.args in good_tag a.s a.p ≡ true = sym c.slot_tag_good.ensures ∙ not-false _ c.if-not-slot_tag_good.false-raw in
+    let is-good : let a = c.args in good_tag a.s a.p ≡ true = sym c.slot_tag_good.ensures ∙ c.if-not-slot_tag_good.false in
     let header : ℕ = c.frame_start.result + c.args.p.tag in
     let led-to : (table : List ℕ) → let a = c.args in header ≡ header_place a.s a.p table = λ table. let a = c.args in ap (λ (n : ℕ). n + a.p.tag) c.frame_start.ensures ∙ place_small a.s a.p table c.requires.2 in
     let a = c.args in
@@ -56,14 +56,14 @@ returns-in-None c =
 -- the object
 pub returns-else-not-slot_holds : goal.returns-else-not-slot_holds
 returns-else-not-slot_holds c =
-    let is-good : let a = c.args in good_tag a.s a.p ≡ true = sym c.slot_tag_good.ensures ∙ not-false _ c.if-not-slot_tag_good.false-raw in
+    let is-good : let a = c.args in good_tag a.s a.p ≡ true = sym c.slot_tag_good.ensures ∙ c.if-not-slot_tag_good.false in
     let header : ℕ = c.frame_start.result + c.args.p.tag in
     let led-to : (table : List ℕ) → let a = c.args in header ≡ header_place a.s a.p table = λ table. let a = c.args in ap (λ (n : ℕ). n + a.p.tag) c.frame_start.ensures ∙ place_small a.s a.p table c.requires.2 in
     let object : let a = c.args in (sound a.image.now header ≡ true) × (is_live a.image.now header ≡ true) × (c.in-Size.size ≡ size_at a.image.now header) = object_is _ _ _ (sym c.live_size.ensures ∙ c.in-Size.is) in
     let a = c.args in
     λ table.
     ap At c.measure.ensures
-    ∙ found-verified _ _ _ _ _ (sym c.slot_holds.ensures ∙ not-false _ c.if-not-slot_holds.false-raw) object.2
+    ∙ found-verified _ _ _ _ _ (sym c.slot_holds.ensures ∙ c.if-not-slot_holds.false) object.2
     ∙ found_by a.s a.p (state _ table) _
     (led_small a.s a.p (state _ table) is-good header (led-to table) _ c.requires.2
     (sym c.live_size.ensures ∙ c.in-Size.is))

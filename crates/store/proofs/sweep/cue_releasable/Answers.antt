@@ -62,19 +62,19 @@ total_fits-requires c =
 
 -- row 21
 pub returns-then-not-held : goal.returns-then-not-held
-returns-then-not-held c = gathers_lost c.loop-d.invariant c.requires c.if-h-len.true (not-true _ c.if-not-held.true-raw)
+returns-then-not-held c = gathers_lost c.loop-d.invariant c.requires c.if-h-len.true (c.if-not-held.true)
 
 -- row 22
 pub returns-then-not-total_fits : goal.returns-then-not-total_fits
 returns-then-not-total_fits c =
-    gathers_wrong c.loop-d.invariant c.requires c.if-h-len.true (not-false _ c.if-not-held.false-raw)
-    (sym c.total_fits.ensures ∙ not-true _ c.if-not-total_fits.true-raw)
+    gathers_wrong c.loop-d.invariant c.requires c.if-h-len.true (c.if-not-held.false)
+    (sym c.total_fits.ensures ∙ c.if-not-total_fits.true)
 
 -- all tests are passed
 pub returns-else-not-total_fits : goal.returns-else-not-total_fits
 returns-else-not-total_fits c =
-    gathers_all c.loop-d.invariant c.requires c.if-h-len.true (not-false _ c.if-not-held.false-raw)
-    (sym c.total_fits.ensures ∙ not-false _ c.if-not-total_fits.false-raw)
+    gathers_all c.loop-d.invariant c.requires c.if-h-len.true (c.if-not-held.false)
+    (sym c.total_fits.ensures ∙ c.if-not-total_fits.false)
 
 -- row 7
 pub returns-else-h-len : goal.returns-else-h-len

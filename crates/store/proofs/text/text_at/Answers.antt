@@ -29,7 +29,7 @@ overflow_cast-o c =
     let given : State = state c.args.image.now c.args.table.now in
     let object : FoundAt c.args.s (unpack c.args.pointer) given c.in-At.o = read_found _ _ (state _ _) _ (sym c.locate.ensures ∙ c.in-At.is) in
     let tested : in_body c.args.image.now c.in-At.o.header (unpack c.args.pointer) 1 ≡ c.in_body.result = sym (found_body _ _ given _ object _) ∙ sym c.in_body.ensures in
-    let passed : in_body c.args.image.now c.in-At.o.header (unpack c.args.pointer) 1 ≡ true = tested ∙ not-false _ c.if-not-in_body.false-raw in
+    let passed : in_body c.args.image.now c.in-At.o.header (unpack c.args.pointer) 1 ≡ true = tested ∙ c.if-not-in_body.false in
     let end : ℕ = let h = c.in-At.o.header in h + 16 + size_at c.args.image.now h in
     let ends : ((unpack c.args.pointer).address < end) × (end ≤ length c.args.image.now) × (length c.args.image.now ≤ 1073741824) = let h = c.in-At.o.header in ( omega (arith, (body_range c.args.image.now h (unpack c.args.pointer) 1 passed).1), located-inside _ _ given h object.object, (opening_parts _ _ c.requires).short, ) in
     let remaining-is : to_z w64 (of_z w64 c.in-At.o.remaining) ≡ pos (end - (unpack c.args.pointer).address) = let fits : SFits w64 c.in-At.o.remaining = search rules in to_z-of_z fits ∙ found_remaining _ _ given _ object (omega (arith, ends.0)) in
@@ -40,7 +40,7 @@ find_text-requires c =
     let given : State = state c.args.image.now c.args.table.now in
     let object : FoundAt c.args.s (unpack c.args.pointer) given c.in-At.o = read_found _ _ (state _ _) _ (sym c.locate.ensures ∙ c.in-At.is) in
     let tested : in_body c.args.image.now c.in-At.o.header (unpack c.args.pointer) 1 ≡ c.in_body.result = sym (found_body _ _ given _ object _) ∙ sym c.in_body.ensures in
-    let passed : in_body c.args.image.now c.in-At.o.header (unpack c.args.pointer) 1 ≡ true = tested ∙ not-false _ c.if-not-in_body.false-raw in
+    let passed : in_body c.args.image.now c.in-At.o.header (unpack c.args.pointer) 1 ≡ true = tested ∙ c.if-not-in_body.false in
     let end : ℕ = let h = c.in-At.o.header in h + 16 + size_at c.args.image.now h in
     let ends : ((unpack c.args.pointer).address < end) × (end ≤ length c.args.image.now) × (length c.args.image.now ≤ 1073741824) = let h = c.in-At.o.header in ( omega (arith, (body_range c.args.image.now h (unpack c.args.pointer) 1 passed).1), located-inside _ _ given h object.object, (opening_parts _ _ c.requires).short, ) in
     let remaining-is : to_z w64 (of_z w64 c.in-At.o.remaining) ≡ pos (end - (unpack c.args.pointer).address) = let fits : SFits w64 c.in-At.o.remaining = search rules in to_z-of_z fits ∙ found_remaining _ _ given _ object (omega (arith, ends.0)) in
@@ -53,7 +53,7 @@ returns-then-not-in_body c =
     let given : State = state c.args.image.now c.args.table.now in
     let object : FoundAt c.args.s (unpack c.args.pointer) given c.in-At.o = read_found _ _ (state _ _) _ (sym c.locate.ensures ∙ c.in-At.is) in
     let tested : in_body c.args.image.now c.in-At.o.header (unpack c.args.pointer) 1 ≡ c.in_body.result = sym (found_body _ _ given _ object _) ∙ sym c.in_body.ensures in
-    text_outside _ _ (state _ _) _ object.tested (tested ∙ not-true _ c.if-not-in_body.true-raw)
+    text_outside _ _ (state _ _) _ object.tested (tested ∙ c.if-not-in_body.true)
 
 -- row 10 or 11
 pub returns-in-Refused : goal.returns-in-Refused
@@ -65,7 +65,7 @@ returns-in-Ends c =
     let given : State = state c.args.image.now c.args.table.now in
     let object : FoundAt c.args.s (unpack c.args.pointer) given c.in-At.o = read_found _ _ (state _ _) _ (sym c.locate.ensures ∙ c.in-At.is) in
     let tested : in_body c.args.image.now c.in-At.o.header (unpack c.args.pointer) 1 ≡ c.in_body.result = sym (found_body _ _ given _ object _) ∙ sym c.in_body.ensures in
-    let passed : in_body c.args.image.now c.in-At.o.header (unpack c.args.pointer) 1 ≡ true = tested ∙ not-false _ c.if-not-in_body.false-raw in
+    let passed : in_body c.args.image.now c.in-At.o.header (unpack c.args.pointer) 1 ≡ true = tested ∙ c.if-not-in_body.false in
     let end : ℕ = let h = c.in-At.o.header in h + 16 + size_at c.args.image.now h in
     let ends : ((unpack c.args.pointer).address < end) × (end ≤ length c.args.image.now) × (length c.args.image.now ≤ 1073741824) = let h = c.in-At.o.header in ( omega (arith, (body_range c.args.image.now h (unpack c.args.pointer) 1 passed).1), located-inside _ _ given h object.object, (opening_parts _ _ c.requires).short, ) in
     let remaining-is : to_z w64 (of_z w64 c.in-At.o.remaining) ≡ pos (end - (unpack c.args.pointer).address) = let fits : SFits w64 c.in-At.o.remaining = search rules in to_z-of_z fits ∙ found_remaining _ _ given _ object (omega (arith, ends.0)) in
@@ -78,7 +78,7 @@ returns-in-Endless c =
     let given : State = state c.args.image.now c.args.table.now in
     let object : FoundAt c.args.s (unpack c.args.pointer) given c.in-At.o = read_found _ _ (state _ _) _ (sym c.locate.ensures ∙ c.in-At.is) in
     let tested : in_body c.args.image.now c.in-At.o.header (unpack c.args.pointer) 1 ≡ c.in_body.result = sym (found_body _ _ given _ object _) ∙ sym c.in_body.ensures in
-    let passed : in_body c.args.image.now c.in-At.o.header (unpack c.args.pointer) 1 ≡ true = tested ∙ not-false _ c.if-not-in_body.false-raw in
+    let passed : in_body c.args.image.now c.in-At.o.header (unpack c.args.pointer) 1 ≡ true = tested ∙ c.if-not-in_body.false in
     let end : ℕ = let h = c.in-At.o.header in h + 16 + size_at c.args.image.now h in
     let ends : ((unpack c.args.pointer).address < end) × (end ≤ length c.args.image.now) × (length c.args.image.now ≤ 1073741824) = let h = c.in-At.o.header in ( omega (arith, (body_range c.args.image.now h (unpack c.args.pointer) 1 passed).1), located-inside _ _ given h object.object, (opening_parts _ _ c.requires).short, ) in
     let remaining-is : to_z w64 (of_z w64 c.in-At.o.remaining) ≡ pos (end - (unpack c.args.pointer).address) = let fits : SFits w64 c.in-At.o.remaining = search rules in to_z-of_z fits ∙ found_remaining _ _ given _ object (omega (arith, ends.0)) in

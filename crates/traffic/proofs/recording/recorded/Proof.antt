@@ -28,7 +28,7 @@ returns-2 c =
     let a = (start t).args in
     parts a.generator a.draws _ _ a.log.now _ _ _ t.traffic.ensures c.before.answer2.given.1 p.put_entries.ensures (search rules)
 
--- set_up_lem is refused, which does not come here
+-- set-up is refused, which does not come here
 returns-3 : tie.Need-returns-3
 returns-3 c =
     let p = c.before.before.before in

@@ -4,7 +4,7 @@ use Rattle.store.specs.State.{state}
 use Rattle.workload.proofs.Draws.{set_up-refused, set_up-followed}
 use Rattle.workload.proofs.drawing.traffic.Goals as goal
 
--- set_up_lem is refused: rows 1, 2, 3
+-- set-up is refused: rows 1, 2, 3
 pub returns-in-Refused : goal.returns-in-Refused
 returns-in-Refused c =
     let a = c.args in

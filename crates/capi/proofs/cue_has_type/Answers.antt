@@ -1,0 +1,9 @@
+-- `capi::cue_has_type`: `store::has_type`'s answer as a number and a value. Assumes nothing.
+use mathlib.Core.Path.{ap, ap₂, ◌∙◌}
+use Rattle.capi.specs.Exports.{answered, exported_answer}
+use borrow.Author.Rules.{rules}
+use Rattle.capi.proofs.cue_has_type.Goals as goal
+
+-- what `has_type` answered
+pub returns : goal.returns
+returns c = ap₂ answered c.returned.ensures c.value.ensures ∙ ap exported_answer c.has_type-a.ensures

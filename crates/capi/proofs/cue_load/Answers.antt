@@ -1,0 +1,11 @@
+-- `capi::cue_load`: `store::load`'s answer as a number and a value; it leaves all as it was. Assumes nothing.
+use mathlib.Core.Path.{◌∙◌}
+use Rattle.store.specs.State.{state}
+use Rattle.store.specs.laws.Refusals.{given_zero}
+use Rattle.capi.proofs.Outcomes.{gives, loads}
+use borrow.Author.Rules.{rules}
+use Rattle.capi.proofs.cue_load.Goals as goal
+
+-- what `load` answered
+pub returns : goal.returns
+returns c = gives _ _ _ _ _ _ c.give.ensures.value (c.give.ensures.place_after ∙ given_zero c.load-a.result) (loads _ _ (state _ _) _ c.load-a.ensures)
