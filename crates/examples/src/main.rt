@@ -12,9 +12,11 @@ use print::{decimal, text};
 use run::Run;
 use store::Answer;
 
-fn main() {
-    text(b"CueLedger's object store\n");
+fn main(rt: HostRuntime) {
+    let out = rt.stdout();
+    text(out, b"CueLedger's object store\n");
     let run = Run {
+        out,
         image: [7; 1024],
         table: [9; 384],
         bytes: 1024,
@@ -34,9 +36,9 @@ fn main() {
     let run = cases::loads(cases::damaged(cases::spare_totals(run)));
     let run = cases::other_orders(cases::orders(cases::types(run)));
     let run = cases::overheads(run);
-    text(b"\n");
-    decimal(run.made);
-    text(b" calls, ");
-    decimal(run.met);
-    text(b" answered as docs/FORMAT.md says\n");
+    text(out, b"\n");
+    decimal(out, run.made);
+    text(out, b" calls, ");
+    decimal(out, run.met);
+    text(out, b" answered as docs/FORMAT.md says\n");
 }

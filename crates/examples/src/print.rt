@@ -1,51 +1,45 @@
 // What the program writes.
 use crate::labels::LABELS;
-use libc::STDOUT_FILENO;
 use overhead::{Fraction, Report};
 use placement::Placement;
+use std::rt::Stdout;
 use store::{Answer, Comparison, Measurement, Usage};
 use workload::Traffic;
 
 // Text.
-pub fn text(t: &[u8]) {
-    io::write_all(STDOUT_FILENO, t);
+pub fn text(out: Stdout, t: &[u8]) {
+    let _ = out.write_all(t);
 }
 
 // A number.
-pub fn decimal(n: u64) {
-    io::print_decimal(STDOUT_FILENO, n);
+pub fn decimal(out: Stdout, n: u64) {
+    let _ = out.print(n);
 }
 
 // A signed number.
-fn signed(n: i64) {
-    if n < 0 {
-        text(b"-");
-        decimal((-1 - n) as u64 + 1);
-    } else {
-        decimal(n as u64);
-    }
+fn signed(out: Stdout, n: i64) {
+    let _ = out.print(n);
 }
 
 // A pointer, or the bytes of a load, in 16 digits.
-fn hex(n: u64) {
-    text(b"0x");
-    io::print_hex(STDOUT_FILENO, n, 16);
+fn hex(out: Stdout, n: u64) {
+    let _ = print!(out; "0x{n:016x}");
 }
 
 // A heading.
-pub fn heading(t: &[u8]) {
-    text(b"\n");
-    text(t);
-    text(b"\n");
+pub fn heading(out: Stdout, t: &[u8]) {
+    text(out, b"\n");
+    text(out, t);
+    text(out, b"\n");
 }
 
 // The label of the call with this number, 0 the first.
-pub fn label(call: u64) {
-    text(b"  ");
+pub fn label(out: Stdout, call: u64) {
+    text(out, b"  ");
     if call < 230 {
         let at = 32 * call as usize;
         let end = at + 32;
-        text(&LABELS[at..end]);
+        text(out, &LABELS[at..end]);
     }
 }
 
@@ -82,7 +76,7 @@ more than 65,536 sizes              \
 size outside 1 to 65,536            ";
 
 // Text without the blanks at its end.
-fn trimmed(t: &[u8]) {
+fn trimmed(out: Stdout, t: &[u8]) {
     let mut n = t.len();
     while 0 < n {
         if t[n - 1] != b' ' {
@@ -90,176 +84,176 @@ fn trimmed(t: &[u8]) {
         }
         n -= 1;
     }
-    text(&t[..n]);
+    text(out, &t[..n]);
 }
 
 // A refusal.
-fn refused(number: u32) {
-    text(b"refused ");
-    decimal(number as u64);
-    text(b": ");
+fn refused(out: Stdout, number: u32) {
+    text(out, b"refused ");
+    decimal(out, number as u64);
+    text(out, b": ");
     if number < 30 {
         let at = 36 * number as usize;
         let end = at + 36;
-        trimmed(&REASONS[at..end]);
+        trimmed(out, &REASONS[at..end]);
     }
 }
 
 // The answer of a compare.
-pub fn order(c: Comparison) {
+pub fn order(out: Stdout, c: Comparison) {
     let number = c.returned();
     if number != 0 {
-        refused(number);
+        refused(out, number);
     } else if c.value() < 0 {
-        text(b"-1: the left is below");
+        text(out, b"-1: the left is below");
     } else if c.value() == 0 {
-        text(b"0: none differs");
+        text(out, b"0: none differs");
     } else {
-        text(b"1: the left is above");
+        text(out, b"1: the left is above");
     }
 }
 
 // The answer of distances.
-pub fn ends(m: Measurement) {
+pub fn ends(out: Stdout, m: Measurement) {
     match m {
         Measurement::Distances(from_start, to_end) => {
-            signed(from_start);
-            text(b" from the start, ");
-            signed(to_end);
-            text(b" to the end");
+            signed(out, from_start);
+            text(out, b" from the start, ");
+            signed(out, to_end);
+            text(out, b" to the end");
         }
-        Measurement::Refused(r) => refused(r.number()),
+        Measurement::Refused(r) => refused(out, r.number()),
     }
 }
 
 // The state and the bytes of log that a load gives.
-fn given(state: u64, written: u64) {
-    text(b"state ");
-    hex(state);
-    text(b", bytes of log ");
-    decimal(written);
+fn given(out: Stdout, state: u64, written: u64) {
+    text(out, b"state ");
+    hex(out, state);
+    text(out, b", bytes of log ");
+    decimal(out, written);
 }
 
 // The answer of traffic.
-pub fn load(t: Traffic) {
+pub fn load(out: Stdout, t: Traffic) {
     match t {
-        Traffic::Done(state, written) => given(state, written),
+        Traffic::Done(state, written) => given(out, state, written),
         Traffic::LogFull(state, written) => {
-            refused(23);
-            text(b"; ");
-            given(state, written);
+            refused(out, 23);
+            text(out, b"; ");
+            given(out, state, written);
         }
-        Traffic::Refused(r) => refused(r.number()),
+        Traffic::Refused(r) => refused(out, r.number()),
     }
 }
 
 // The first so many places of an order.
-fn places(order: [u64; 8], count: usize) {
+fn places(out: Stdout, order: [u64; 8], count: usize) {
     let mut i = 0;
     while i < 8 {
         if i < count {
-            text(b" ");
-            decimal(order[i]);
+            text(out, b" ");
+            decimal(out, order[i]);
         }
         i += 1;
     }
 }
 
 // The answer of a search for an order of so many sizes.
-pub fn placed(p: Placement, count: usize) {
+pub fn placed(out: Stdout, p: Placement, count: usize) {
     if p.row != 0 {
-        refused(p.row);
+        refused(out, p.row);
     } else {
         let order = p.order;
-        text(b"order");
-        places(order, count);
-        text(b", large-framed ");
-        decimal(p.large);
-        text(b", tried ");
-        decimal(p.tried);
-        text(b", floor ");
-        decimal(p.floor);
+        text(out, b"order");
+        places(out, order, count);
+        text(out, b", large-framed ");
+        decimal(out, p.large);
+        text(out, b", tried ");
+        decimal(out, p.tried);
+        text(out, b", floor ");
+        decimal(out, p.floor);
     }
 }
 
 // A fraction, as it is.
-fn over(f: Fraction) {
-    decimal(f.extra);
-    text(b"/");
-    decimal(f.over);
+fn over(out: Stdout, f: Fraction) {
+    decimal(out, f.extra);
+    text(out, b"/");
+    decimal(out, f.over);
 }
 
 // The answer of a report.
-pub fn reported(r: Report) {
+pub fn reported(out: Stdout, r: Report) {
     if r.row != 0 {
-        refused(r.row);
+        refused(out, r.row);
     } else {
-        text(b"raw ");
-        decimal(r.raw);
-        text(b", headed ");
-        decimal(r.headed);
-        text(b", padded ");
-        decimal(r.padded);
-        text(b", end ");
-        decimal(r.end);
-        text(b", overheads ");
-        over(r.headers);
-        text(b" and ");
-        over(r.padding);
+        text(out, b"raw ");
+        decimal(out, r.raw);
+        text(out, b", headed ");
+        decimal(out, r.headed);
+        text(out, b", padded ");
+        decimal(out, r.padded);
+        text(out, b", end ");
+        decimal(out, r.end);
+        text(out, b", overheads ");
+        over(out, r.headers);
+        text(out, b" and ");
+        over(out, r.padding);
     }
 }
 
 // The answer of a tally.
-pub fn usage(u: Usage) {
+pub fn usage(out: Stdout, u: Usage) {
     match u {
         Usage::Counts(objects, live, free, overhead) => {
-            text(b"live objects ");
-            decimal(objects);
-            text(b", live bytes ");
-            decimal(live);
-            text(b", free bytes ");
-            decimal(free);
-            text(b", overhead bytes ");
-            decimal(overhead);
+            text(out, b"live objects ");
+            decimal(out, objects);
+            text(out, b", live bytes ");
+            decimal(out, live);
+            text(out, b", free bytes ");
+            decimal(out, free);
+            text(out, b", overhead bytes ");
+            decimal(out, overhead);
         }
-        Usage::Refused(r) => refused(r.number()),
+        Usage::Refused(r) => refused(out, r.number()),
     }
 }
 
 // What a table entry holds.
-pub fn entry(at: u64, value: u64) {
-    text(b"entry ");
-    decimal(at);
-    text(b" holds ");
-    decimal(value);
+pub fn entry(out: Stdout, at: u64, value: u64) {
+    text(out, b"entry ");
+    decimal(out, at);
+    text(out, b" holds ");
+    decimal(out, value);
 }
 
 // The table entry of a large-framed pointer to the first two slots.
-fn framed(flag: u64, tag: u64, table: &[u64]) {
+fn framed(out: Stdout, flag: u64, tag: u64, table: &[u64]) {
     if flag == 1 {
-        text(b"no table entry");
+        text(out, b"no table entry");
     } else if tag >= 7 {
         let at = (tag - 7) as usize;
         if at < table.len() {
-            entry(tag - 7, table[at]);
+            entry(out, tag - 7, table[at]);
         }
     }
 }
 
 // A pointer, its parts, and its table entry.
-fn parts(pointer: u64, table: &[u64]) {
+fn parts(out: Stdout, pointer: u64, table: &[u64]) {
     let flag = pointer >> 63;
     let tag = (pointer >> 48) & 0x7fff;
-    text(b"pointer ");
-    hex(pointer);
-    text(b", flag ");
-    decimal(flag);
-    text(b", tag ");
-    decimal(tag);
-    text(b", body at ");
-    decimal(pointer & 0xffff_ffff_ffff);
-    text(b", ");
-    framed(flag, tag, table);
+    text(out, b"pointer ");
+    hex(out, pointer);
+    text(out, b", flag ");
+    decimal(out, flag);
+    text(out, b", tag ");
+    decimal(out, tag);
+    text(out, b", body at ");
+    decimal(out, pointer & 0xffff_ffff_ffff);
+    text(out, b", ");
+    framed(out, flag, tag, table);
 }
 
 // How a value is shown: not at all, as bytes, as a number, as a pointer with its parts, as yes or no.
@@ -274,24 +268,24 @@ pub const PARTS: u32 = 3;
 pub const YES: u32 = 4;
 
 // Whether a type check says yes.
-fn yes(v: u64) {
+fn yes(out: Stdout, v: u64) {
     if v == 1 {
-        text(b"yes");
+        text(out, b"yes");
     } else {
-        text(b"no");
+        text(out, b"no");
     }
 }
 
 // An answer.
-pub fn answer(a: Answer, form: u32, table: &[u64]) {
+pub fn answer(out: Stdout, a: Answer, form: u32, table: &[u64]) {
     match a {
-        Answer::Refused(r) => refused(r.number()),
+        Answer::Refused(r) => refused(out, r.number()),
         Answer::Accepted(v) => match form {
-            DONE => text(b"accepted"),
-            BYTES => hex(v),
-            NUMBER => decimal(v),
-            YES => yes(v),
-            _ => parts(v, table),
+            DONE => text(out, b"accepted"),
+            BYTES => hex(out, v),
+            NUMBER => decimal(out, v),
+            YES => yes(out, v),
+            _ => parts(out, v, table),
         },
     }
 }

@@ -5,6 +5,7 @@ use crate::print::{YES, answer, ends, label, load, order, placed, reported, text
 use overhead::Report;
 use placement::Placement;
 use std::num::wrapping_add_u64;
+use std::rt::Stdout;
 use store::{Answer, Measurement, Refusal, Usage};
 use workload::Traffic;
 
@@ -177,10 +178,11 @@ pub fn too_long(size: u32) -> Report {
     overhead::report(&sizes)
 }
 
-// Image and table, of which the first `bytes` and `entries` are lent; the last answer; how many calls were made, and how many answered as
-// expected.
+// Where lines go; image and table, of which the first `bytes` and `entries` are lent; the last answer; how many calls were made, and how
+// many answered as expected.
 #[derive(Drop)]
 pub struct Run {
+    pub out: Stdout,
     pub image: [u8; 1024],
     pub table: [u64; 384],
     pub bytes: usize,
@@ -195,10 +197,10 @@ impl Run {
     fn count(mut self, met: bool) -> Run {
         self.made = wrapping_add_u64(self.made, 1);
         if met {
-            text(b"\n");
+            text(self.out, b"\n");
             self.met = wrapping_add_u64(self.met, 1);
         } else {
-            text(b" -- NOT AS EXPECTED\n");
+            text(self.out, b" -- NOT AS EXPECTED\n");
         }
         self
     }
@@ -209,6 +211,7 @@ impl Run {
         let mut table = self.table;
         let a = lent(call, &mut image, &mut table, self.bytes, self.entries);
         Run {
+            out: self.out,
             image: image,
             table: table,
             bytes: self.bytes,
@@ -224,8 +227,8 @@ impl Run {
         let run = self.quietly(call);
         let a = run.answer;
         let table = run.table;
-        label(run.made);
-        answer(a, form, &table);
+        label(run.out, run.made);
+        answer(run.out, a, form, &table);
         run.count(a.returned() == number && a.value() == value)
     }
 
@@ -234,8 +237,8 @@ impl Run {
         let image = self.image;
         let table = self.table;
         let c = store::compare(&image, &table, left, right, length);
-        label(self.made);
-        order(c);
+        label(self.out, self.made);
+        order(self.out, c);
         self.count(c.returned() == number && c.value() == value)
     }
 
@@ -244,8 +247,8 @@ impl Run {
         let image = self.image;
         let table = self.table;
         let m = store::distances(&image, &table, pointer);
-        label(self.made);
-        ends(m);
+        label(self.out, self.made);
+        ends(self.out, m);
         self.count(measured(m, number, from_start, to_end))
     }
 
@@ -254,8 +257,8 @@ impl Run {
         let image = self.image;
         let table = self.table;
         let a = cast(&image, &table, bytes, pointer, wanted);
-        label(self.made);
-        answer(a, YES, &table);
+        label(self.out, self.made);
+        answer(self.out, a, YES, &table);
         self.count(a.returned() == number && a.value() == value)
     }
 
@@ -274,8 +277,8 @@ impl Run {
         let t = drawn(&mut image, &mut table, s, draws, space);
         self.image = image;
         self.table = table;
-        label(self.made);
-        load(t);
+        label(self.out, self.made);
+        load(self.out, t);
         self.count(recorded(t, number, state, written))
     }
 
@@ -294,8 +297,8 @@ impl Run {
     ) -> Run {
         let p = searched(from, count, s, budget);
         let found = p.order_word();
-        label(self.made);
-        placed(p, count);
+        label(self.out, self.made);
+        placed(self.out, p, count);
         self.count(
             p.row == number
                 && found == word
@@ -318,8 +321,8 @@ impl Run {
         padding: u64,
         over: u64,
     ) -> Run {
-        label(self.made);
-        reported(r);
+        label(self.out, self.made);
+        reported(self.out, r);
         self.count(
             r.row == number
                 && r.raw == raw
@@ -338,8 +341,8 @@ impl Run {
         let image = self.image;
         let table = self.table;
         let u = tally_lent(&image, &table, self.bytes, self.entries);
-        label(self.made);
-        usage(u);
+        label(self.out, self.made);
+        usage(self.out, u);
         self.count(has(u, number, objects, live, free, overhead))
     }
 }

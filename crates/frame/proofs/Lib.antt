@@ -2,3 +2,5 @@
 mod Shifts
 mod Moves
 mod Tests
+-- What rests on the wrapper frames' laws, and other crates cite.
+pub mod Objects

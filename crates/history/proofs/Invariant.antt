@@ -12,7 +12,8 @@ use lib.ListN.{length, take, drop, replicate, take-append-drop, length-append, l
 use borrow.Author.Tests.{eq-eqb}
 use Rattle.frame.specs.Pointers.{unpack, pack, good_tag}
 use Rattle.frame.specs.Tags.{pointer_to, used_entries}
-use Rattle.frame.specs.laws.Objects.{PointerOf, unpack_address, own_pointer}
+use Rattle.frame.specs.laws.Objects.{PointerOf, unpack_address}
+use Rattle.frame.proofs.Objects.{own_pointer}
 use Rattle.block.specs.Layout.{superblock, superblock_good, slot_exponent, stored_total, with_total, is_live, extent_at, size_at, cue_at}
 use Rattle.block.specs.laws.Superblock.{superblock_front, exponent_front, total_front}
 use Rattle.block.specs.laws.Total.{length-with_total, with_total-behind, with_total_front}

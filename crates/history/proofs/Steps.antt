@@ -14,7 +14,8 @@ use lib.IntN.{ℤ}
 use borrow.Author.Tests.{eq-eqb, eqb-true, eqb-false, leb-true, le-leb}
 use Rattle.frame.specs.Pointers.{unpack, pack, good_tag, reach, moved}
 use Rattle.frame.specs.Tags.{pointer_to}
-use Rattle.frame.specs.laws.Objects.{unpack_address, own_pointer, moved_pointer, own_again}
+use Rattle.frame.specs.laws.Objects.{unpack_address, moved_pointer, own_again}
+use Rattle.frame.proofs.Objects.{own_pointer}
 use Rattle.frame.specs.declared.parts.Pointer.{Pointer}
 use Rattle.frame.specs.declared.parts.Moved.{Moved}
 use Rattle.frame.specs.declared.parts.Moved.TheVariants.{To, Outside}

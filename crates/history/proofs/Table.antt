@@ -11,7 +11,8 @@ use lib.Seq.{get_or-set_same, get_or-set_other}
 use lib.Dec.{leb, eqb}
 use borrow.Author.Tests.{eq-eqb, ne_eqb, eqb-true, eqb-false, leb-true, leb-false}
 use Rattle.frame.specs.Tags.{wrapper, used_entries, entry_of}
-use Rattle.frame.specs.laws.Wrappers.{entries_apart, object_entry_used}
+use Rattle.frame.specs.laws.Wrappers.{object_entry_used}
+use Rattle.frame.proofs.Objects.{entries_apart}
 use Rattle.frame.specs.laws.Tags.{by_frame}
 use Rattle.block.specs.laws.Booleans.{by_bool}
 use Rattle.store.specs.Calls.{noted}

@@ -4,12 +4,12 @@
 mod file;
 
 ghost use Rattle.std.specs.Prelude.{◌≤◌, ◌≡◌, length, take};
-ghost use Rattle.io.specs.Counts.{IsPrefixLen};
+ghost use Rattle.std.specs.Counts.{IsPrefixLen};
 ghost use Rattle.dump.specs.Dump.{table_bytes};
 ghost use Rattle.replay.specs.Program.{program_text, program_state};
 
-use file::write_named;
-use libc::{STDERR_FILENO, STDIN_FILENO, STDOUT_FILENO};
+use file::{is_given, write_named};
+use std::io::Read;
 
 // The bytes of text that a run has written, and the image and the table's entries that it leaves, 8 bytes for each entry.
 #[derive(Drop)]
@@ -42,19 +42,39 @@ fn answered(log: &[u8], text: &mut [u8]) -> Run
     }
 }
 
-fn main() {
-    if 3 < os::arg_count() {
-        io::write_all(STDERR_FILENO, b"usage: replay [IMAGE [TABLE]] <log\n");
+// Reads standard input until `buf` is full, the input ends or a read fails, and returns how many bytes it put at the start
+// of `buf`.
+fn read_input(rt: &impl Input, buf: &mut [u8]) -> usize
+    ensures { IsPrefixLen result buf.new }
+{
+    let mut input = rt.reader();
+    let mut done = 0;
+    while done < buf.len() {
+        let Ok(n) = input.read(&mut buf[done..]) else {
+            break;
+        };
+        if n == 0 {
+            break;
+        }
+        done += n;
+    }
+    done
+}
+
+// A failed write to standard output or standard error goes unsaid, and the exit status is 0 in each case.
+fn main(rt: HostRuntime) {
+    if is_given(&rt, 3) {
+        let _ = eprintln!(rt; "usage: replay [IMAGE [TABLE]] <log");
         return;
     }
-    let mut input = io::large_buffer();
-    let read = io::read_full(STDIN_FILENO, &mut input);
+    let mut input = [0u8; 65536];
+    let read = read_input(&rt, &mut input);
     let mut text = [0u8; 150739];
     let r = answered(&input[..read], &mut text);
     let n = r.bytes;
-    io::write_all(STDOUT_FILENO, &text[..n]);
+    let _ = rt.write_all(&text[..n]);
     let image = r.image;
-    write_named(1, &image);
+    write_named(&rt, 1, &image);
     let entries = r.entries;
-    write_named(2, &entries);
+    write_named(&rt, 2, &entries);
 }

@@ -13,7 +13,7 @@ use Rattle.frame.specs.Pointers.{unpack, pack}
 use Rattle.frame.specs.Tags.{pointer_to, used_entries}
 use Rattle.frame.specs.declared.parts.Pointer.{Pointer}
 use Rattle.frame.specs.laws.Wrappers.{object_entry_used}
-use Rattle.frame.specs.laws.Objects.{own_pointer}
+use Rattle.frame.proofs.Objects.{own_pointer}
 use Rattle.block.specs.Bytes.{encode, put}
 use Rattle.block.specs.laws.Fields.{length-encode}
 use Rattle.block.specs.laws.Writes.{length-put, field_put}

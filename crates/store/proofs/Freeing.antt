@@ -9,7 +9,8 @@ use lib.ListN.{length}
 use borrow.Author.Tests.{lt-ltb, eq-eqb}
 use Rattle.frame.specs.Pointers.{unpack, pack}
 use Rattle.frame.specs.Tags.{pointer_to}
-use Rattle.frame.specs.laws.Objects.{own_pointer, unpack_address}
+use Rattle.frame.specs.laws.Objects.{unpack_address}
+use Rattle.frame.proofs.Objects.{own_pointer}
 use Rattle.block.specs.laws.Booleans.{by_bool}
 use Rattle.block.specs.Layout.{slot_exponent, stored_total, header_at, extent_at, size_at, is_free, is_live, sound}
 use Rattle.block.specs.laws.Soundness.{sound-same, sound_low, sound-end, sound_live}

@@ -7,7 +7,7 @@ use native.Mathlib.Nat.{pow-suc}
 use native.Mathlib.Omega.{arith}
 use lib.ListN.{length, length-append}
 use borrow.Author.Tests.{lt-ltb, le-leb}
-use Rattle.io.specs.Digits.{hex_digit_ascii, last_digits}
+use Rattle.traffic.specs.Digits.{hex_digit_ascii, last_digits}
 use Rattle.traffic.specs.Number.{is_digit, all_digits, value_from, number_from, number_of}
 use Rattle.traffic.specs.Claims.{NumbersReadBack}
 

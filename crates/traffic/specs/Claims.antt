@@ -1,6 +1,6 @@
 -- What holds of the numbers that are read. Assumes nothing.
 use Rattle.std.specs.Prelude.{ℕ, suc, ◌^◌, ◌<◌, ◌≡◌}
-use Rattle.io.specs.Digits.{last_digits}
+use Rattle.traffic.specs.Digits.{last_digits}
 use Rattle.traffic.specs.Number.{number_of}
 use Rattle.traffic.specs.declared.number.Number.TheVariants.{Is}
 

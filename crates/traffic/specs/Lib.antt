@@ -1,4 +1,5 @@
 -- definitions
+pub mod Digits
 pub mod Number
 pub mod Program
 -- claims

@@ -1,31 +1,54 @@
-// Files that arguments name.
+// Arguments, and the files that they name.
+use std::env::FillError;
+use std::fmt::{Display, Formatter};
+use std::io::Write;
+use std::rt::{Env, Files};
+use std::{fmt, fs, io};
+
+// Whether there is an argument i; argument 0 is the program's name.
+pub fn is_given(rt: &impl Env, i: usize) -> bool {
+    !matches!(rt.arg(i, &mut [0u8; 1]), Err(FillError::NotPresent))
+}
 
 // Makes `bytes` the whole of the file that argument i names; a missing or an empty one names none. A failure is told on
-// standard error: a program has no exit status to tell it by.
-pub fn write_named(i: usize, bytes: &[u8]) {
-    if os::arg_count() <= i {
-        return;
+// standard error, and the exit status stays 0.
+pub fn write_named(rt: &(impl Env + Files + Eprint), i: usize, bytes: &[u8]) {
+    let mut word = [0u8; 4096];
+    match rt.arg(i, &mut word) {
+        Ok(0) | Err(FillError::NotPresent) => {}
+        Ok(n) => write_file(rt, &word[..n], bytes),
+        Err(FillError::TooLong) => fail(rt, "name of a dump", "File name too long"),
     }
-    let mut word = io::buffer();
-    let n = os::arg(i, &mut word);
-    if n == 0 {
-        // one of over 4,096 bytes is no empty one
-        if os::errno() != 0 {
-            os::fail(b"name of a dump");
+}
+
+// The same with the name itself. The library takes text alone as a name.
+fn write_file(rt: &(impl Files + Eprint), name: &[u8], bytes: &[u8]) {
+    match str::from_utf8(name) {
+        Ok(name) => {
+            if let Err(error) = fs::write(rt, name, bytes) {
+                fail(rt, name, Reason(error));
+            }
         }
-        return;
+        Err(_) => fail(rt, "name of a dump", "Not UTF-8"),
     }
-    let file = os::open_overwrite(&word[..n]);
-    if file < 0 {
-        os::fail(&word[..n]);
-        return;
-    }
-    if !io::write_all(file, bytes) {
-        os::fail(&word[..n]);
-        libc::close(file);
-        return;
-    }
-    if libc::close(file) < 0 {
-        os::fail(&word[..n]);
+}
+
+// Writes a line to standard error: what failed, a colon and why.
+fn fail(rt: &impl Eprint, what: &str, why: impl Display + Drop) {
+    let _ = eprintln!(rt; "{what}: {why}");
+}
+
+// Why the system declined: C's text, without the ` (os error 2)` that an error writes behind it.
+#[derive(Drop)]
+struct Reason(io::Error);
+
+impl Display for Reason {
+    fn fmt<W: fmt::Write>(&self, f: &mut Formatter<W>) -> fmt::Result {
+        let mut text = [0u8; 128];
+        let error = self.0;
+        let _ = write!(&mut text[..], "{error}");
+        let text = str::from_utf8(&text).unwrap_or("");
+        let (reason, _) = text.split_once(" (os error ").unwrap_or((text, ""));
+        f.write_str(reason.trim_end_matches('\0'))
     }
 }

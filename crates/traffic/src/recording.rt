@@ -1,6 +1,6 @@
 // The workload that the program records.
 ghost use Rattle.std.specs.Prelude.{◌≡◌, length};
-ghost use Rattle.io.specs.Counts.{IsPrefixLen};
+ghost use Rattle.std.specs.Counts.{IsPrefixLen};
 ghost use Rattle.dump.specs.Dump.{table_bytes};
 ghost use Rattle.workload.specs.Traffic.{bytes_written};
 ghost use Rattle.traffic.specs.Program.{program_run, is_full};

@@ -4,7 +4,7 @@ use Rattle.std.proofs.Common.{sym, ap, ◌∙◌}
 use Rattle.frame.specs.Pointers.{unpack, pack, good_tag, reach, at, moved}
 use Rattle.frame.specs.laws.Pointers.{moved_to, moved_range, moved_at, unpack-pack, unpack_range, pack-unpack, good_at, reach-at}
 use Rattle.frame.specs.Tags.{pointer_to, tag_matches}
-use Rattle.frame.specs.laws.Tags.{pointer_good, pointer_range, pointer_reach, pointer_matches, pointer_address, pointer_at, matches_at, matches_pointer}
+use Rattle.frame.specs.laws.Tags.{pointer_good, pointer_range, pointer_matches, pointer_address, pointer_at, matches_at, matches_pointer}
 use Rattle.frame.specs.declared.parts.Pointer.{Pointer}
 use Rattle.frame.specs.declared.parts.Moved.TheVariants.{To}
 
@@ -21,14 +21,6 @@ module _ (s h size : ℕ) (few : s ≤ 15) (inside : h + 16 + size ≤ 2 ^ 30) w
   -- its address is the start of the body
   pub unpack_address : (unpack (pack (pointer_to s h size))).address ≡ h + 16
   unpack_address = ap (λ (p : Pointer). p.address) unpack_pointer ∙ pointer_address s h size
-
-  -- is one of them
-  pub own_pointer : PointerOf s h size (pack (pointer_to s h size))
-  own_pointer =
-      record {
-        shape = unpack_pointer ∙ sym (pointer_at s h size) ∙ ap (at (pointer_to s h size)) (sym unpack_address);
-        near = ap (λ (a : ℕ). a / 2 ^ reach s (pointer_to s h size)) unpack_address ∙ pointer_reach s h size few inside;
-      }
 
 module _ (s h size word : ℕ) where
   -- it reaches as far as the object's own

@@ -1,7 +1,7 @@
 -- An object's tag and its pointer.
 -- In order: the test of a tag in constant time; the pointer to an object; its pointer with its entry. Not here: wrapper frames and entries (`Wrappers`). Assumes nothing.
 use Rattle.std.specs.Prelude.{ℕ, ◌+◌, ◌-◌, ◌*◌, ◌/◌, ◌^◌, ◌≤◌, ◌<◌, ◌≡◌, refl, Bool, true, false, cond, ◌&&◌, not, leb, eqb}
-use Rattle.std.proofs.Common.{sym, ap, ◌∙◌, le_refl, lt_of_not-le, lt_of_lt_of_le, mod-lt, arith, pow_pos, pow_mono, shr-shr}
+use Rattle.std.proofs.Common.{sym, ap, ◌∙◌, lt_of_not-le, lt_of_lt_of_le, mod-lt, arith, pow_pos, pow_mono, shr-shr}
 use Rattle.std.proofs.Math.Bool.{and-true}
 use Rattle.std.proofs.Math.Nat.{mul-add-div_right}
 use Rattle.std.proofs.Math.Decide.{ℕ_discrete}
@@ -11,7 +11,7 @@ use Rattle.frame.specs.Frame.{frame_start, same_frame}
 use Rattle.frame.specs.Pointers.{InRange, good_tag, reach, at}
 use Rattle.frame.specs.laws.Pointers.{iff_equal, and_left, and_right, good_small, good_large}
 use Rattle.frame.specs.Tags.{first_held, last_held, wrapper, is_small, tag_number, pointer_to, tag_matches, entry_of}
-use Rattle.frame.specs.laws.Wrappers.{wrapper_iff, wrapper-holds, wrapper-at_most, slot_place}
+use Rattle.frame.specs.laws.Wrappers.{wrapper_iff, wrapper-at_most, slot_place}
 use Rattle.frame.specs.declared.parts.Pointer.{Pointer}
 use Rattle.frame.specs.declared.tag.Tagged.{Tagged}
 use Rattle.frame.specs.declared.tag.Tagged.TheVariants.{Small, Large}
@@ -192,14 +192,6 @@ module _ (s h size : ℕ) (few : s ≤ 15) (inside : h + 16 + size ≤ 2 ^ 30) w
       rw (pointer_small s h size l)
       (record { tag = rw slot_place (lt_of_lt_of_le (mod-lt h (pow_pos s)) (pow_mono few)); address = omega arith }))
       (λ l. rw (pointer_large s h size l) (record { tag = omega (arith, wrapper-at_most h size inside); address = omega arith }))
-
-  -- its address stands in the header's slot or frame
-  pub pointer_reach : (h + 16) / 2 ^ reach s (pointer_to s h size) ≡ h / 2 ^ reach s (pointer_to s h size)
-  unfolding reach
-  pointer_reach =
-      by_frame s h size
-      (λ l. rw (pointer_small s h size l) (wrapper-holds s h size (h + 16) (omega arith) (omega arith) l))
-      (λ l. rw (pointer_large s h size l) (wrapper-holds (wrapper h size) h size (h + 16) (omega arith) (omega arith) (le_refl (wrapper h size))))
 
 -- it has that very flag and tag number
 pub pointer_matches : (s h size : ℕ) → tag_matches s h size (pointer_to s h size) ≡ true

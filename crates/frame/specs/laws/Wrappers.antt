@@ -1,7 +1,7 @@
 -- Wrapper frames, places in a slot, and table entries. Assumes nothing.
 use Rattle.std.specs.Prelude.{ℕ, ◌+◌, ◌-◌, ◌*◌, ◌/◌, ◌%◌, ◌^◌, ◌≤◌, ◌<◌, ◌≡◌, ◌↔◌}
 use Rattle.std.proofs.Common.{sym, ap, ◌∙◌, lt_of_not-le, div-mul-le_self, mul_assoc, mul-div_cancel, arith, pow_pos, pow-add}
-use Rattle.std.proofs.Math.Nat.{mod-eq-sub-div-mul, eq_of_mul-eq-mul_right}
+use Rattle.std.proofs.Math.Nat.{mod-eq-sub-div-mul}
 use Rattle.std.proofs.Math.Pow.{shr_mono}
 use Rattle.frame.specs.Frame.{frame_start}
 use Rattle.frame.specs.laws.Frames.{number_iff, number_least, between, frames_apart}
@@ -76,17 +76,6 @@ wrappers_apart h₁ size₁ h₂ size₂ behind n q =
     let first₁ = between (first_held h₁) h₁ (last_held h₁ size₁) N (omega arith) (omega arith) (omega arith) in
     let first₂ = between (first_held h₂) h₂ (last_held h₂ size₂) N (omega arith) (omega arith) (omega arith) in
     frames_apart (first_held h₁) (last_held h₁ size₁) (first_held h₂) (last_held h₂ size₂) (omega arith) (omega arith) (omega arith) n (sym first₁ ∙ q ∙ first₂)
-
--- so two large-framed ones never have the same entry
-pub entries_apart : (s h₁ size₁ h₂ size₂ : ℕ) → h₁ + 16 + size₁ ≤ h₂ → h₂ + 16 + size₂ ≤ 2 ^ 30
-    → s < wrapper h₁ size₁ → s < wrapper h₂ size₂ → entry_of s h₁ size₁ ≡ entry_of s h₂ size₂ → ⊥
-entries_apart s h₁ size₁ h₂ size₂ behind u k₁ k₂ e =
-    let N = wrapper h₁ size₁ in
-    let m₁ = wrapper-at_most h₁ size₁ (omega arith) in
-    let m₂ = wrapper-at_most h₂ size₂ u in
-    let r = entry_frame s N h₁ (wrapper h₂ size₂) h₂ k₁ k₂ (omega arith) (omega arith) e in
-    let starts : h₁ / 2 ^ N * 2 ^ N ≡ h₂ / 2 ^ N * 2 ^ N = r.0 ∙ ap (λ (n : ℕ). frame_start n h₂) (sym r.1) in
-    wrappers_apart h₁ size₁ h₂ size₂ behind r.1 (eq_of_mul-eq-mul_right (2 ^ N) (pow_pos N) (h₁ / 2 ^ N) (h₂ / 2 ^ N) starts)
 
 -- the entry of a frame that starts in the image is a used one
 pub entry_used : (s n L a : ℕ) → n ≤ 31 → frame_start n a < L → entry_at s n a < used_entries s L

@@ -8,7 +8,8 @@ use Rattle.std.proofs.lemmas.Bool.{lt-leb, eqb-false}
 use Rattle.frame.specs.Pointers.{reach, at}
 use Rattle.frame.specs.Tags.{wrapper, is_small, pointer_to, tag_matches, entry_at, entry_of}
 use Rattle.frame.specs.laws.Pointers.{reach-large}
-use Rattle.frame.specs.laws.Wrappers.{entry_same, entries_apart}
+use Rattle.frame.specs.laws.Wrappers.{entry_same}
+use Rattle.frame.proofs.Objects.{entries_apart}
 use Rattle.frame.specs.laws.Tags.{tagged, by_frame, pointer_small, pointer_large, matches_pointer, tagged_small, tagged-large}
 use Rattle.frame.specs.declared.parts.Pointer.{Pointer}
 use Rattle.frame.specs.declared.tag.Tagged.{Tagged}

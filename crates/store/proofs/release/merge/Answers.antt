@@ -8,4 +8,4 @@ use Rattle.store.proofs.release.merge.Goals as goal
 pub returns : goal.returns
 returns c =
     let a = c.args in
-    cc (merged-over a.image.now a.from a.to (omega arith) (omega arith))
+    rw (c.write_free.ensures, c.fill.ensures) (merged-over a.image.now a.from a.to (omega arith) (omega arith))
