@@ -5,18 +5,24 @@ use std::io::Write;
 use std::rt::{Env, Files};
 use std::{fmt, fs, io};
 
-// Whether there is an argument i; argument 0 is the program's name.
-pub fn is_given(rt: &impl Env, i: usize) -> bool {
-    !matches!(rt.arg(i, &mut [0u8; 1]), Err(FillError::NotPresent))
-}
+// The words that name the files of a dump begin with these: `IMAGE=winch.image TABLE=winch.table`.
+pub const IMAGE: &[u8] = b"IMAGE=";
 
-// Makes `bytes` the whole of the file that argument i names; a missing or an empty one names none. A failure is told on
-// standard error, and the exit status stays 0.
-pub fn write_named(rt: &(impl Env + Files + Eprint), i: usize, bytes: &[u8]) {
-    let mut word = [0u8; 4096];
+pub const TABLE: &[u8] = b"TABLE=";
+
+// Such a word has at most 4,096 bytes of name.
+const LONGEST: usize = 4102;
+
+// Makes `bytes` the whole of the file that argument i names by `key`; an empty name is none. A failure is told on standard
+// error, and the exit status stays 0.
+pub fn write_named(rt: &(impl Env + Files + Eprint), i: usize, key: &[u8], bytes: &[u8]) {
+    let mut word = [0u8; LONGEST];
     match rt.arg(i, &mut word) {
-        Ok(0) | Err(FillError::NotPresent) => {}
-        Ok(n) => write_file(rt, &word[..n], bytes),
+        Ok(n) => match word[..n].strip_prefix(key) {
+            Some(name) if !name.is_empty() => write_file(rt, name, bytes),
+            _ => {}
+        },
+        Err(FillError::NotPresent) => {}
         Err(FillError::TooLong) => fail(rt, "name of a dump", "File name too long"),
     }
 }

@@ -1,4 +1,4 @@
-// Runs a recorded call log from standard input, and prints the answers. `replay [IMAGE [TABLE]]`: files for a dump.
+// Runs a recorded call log from standard input, and prints the answers. `replay [IMAGE=file] [TABLE=file]`: files for a dump.
 #![tactic(auto)]
 
 mod file;
@@ -8,7 +8,7 @@ ghost use Rattle.std.specs.Counts.{IsPrefixLen};
 ghost use Rattle.dump.specs.Dump.{table_bytes};
 ghost use Rattle.replay.specs.Program.{program_text, program_state};
 
-use file::{is_given, write_named};
+use file::{IMAGE, TABLE, write_named};
 use std::io::Read;
 
 // The bytes of text that a run has written, and the image and the table's entries that it leaves, 8 bytes for each entry.
@@ -63,10 +63,6 @@ fn read_input(rt: &impl Input, buf: &mut [u8]) -> usize
 
 // A failed write to standard output or standard error goes unsaid, and the exit status is 0 in each case.
 fn main(rt: HostRuntime) {
-    if is_given(&rt, 3) {
-        let _ = eprintln!(rt; "usage: replay [IMAGE [TABLE]] <log");
-        return;
-    }
     let mut input = [0u8; 65536];
     let read = read_input(&rt, &mut input);
     let mut text = [0u8; 150739];
@@ -74,7 +70,9 @@ fn main(rt: HostRuntime) {
     let n = r.bytes;
     let _ = rt.write_all(&text[..n]);
     let image = r.image;
-    write_named(&rt, 1, &image);
     let entries = r.entries;
-    write_named(&rt, 2, &entries);
+    for i in 1..3 {
+        write_named(&rt, i, IMAGE, &image);
+        write_named(&rt, i, TABLE, &entries);
+    }
 }

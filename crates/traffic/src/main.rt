@@ -1,12 +1,12 @@
-// Writes the log of a repeatable workload to standard output: `traffic [STATE [DRAWS [IMAGE [TABLE]]]]`, the last two files for a
-// dump.
+// Writes the log of a repeatable workload to standard output: `traffic [STATE [DRAWS]] [IMAGE=file] [TABLE=file]`, the last
+// two for a dump.
 #![tactic(auto)]
 
 mod file;
 mod number;
 mod recording;
 
-use file::{is_given, write_named};
+use file::{IMAGE, TABLE, is_given, names, write_named};
 use number::{Number, read_number};
 use recording::recorded;
 use std::env::FillError;
@@ -19,8 +19,16 @@ enum Request {
     Malformed,
 }
 
-// Argument i as a number; `default` where it is missing. One of over 64 bytes is refused, as an empty one is.
+// Whether argument i names a file for a dump.
+fn is_dump(rt: &impl Env, i: usize) -> bool {
+    names(rt, i, IMAGE) || names(rt, i, TABLE)
+}
+
+// Argument i as a number; `default` where it is missing or names a file. One of over 64 bytes is refused, as an empty one is.
 fn argument(rt: &impl Env, i: usize, default: u64) -> Number {
+    if is_dump(rt, i) {
+        return Number::Is(default);
+    }
     let mut word = [0u8; 64];
     match rt.arg(i, &mut word) {
         Ok(n) => read_number(&word[..n]),
@@ -29,9 +37,17 @@ fn argument(rt: &impl Env, i: usize, default: u64) -> Number {
     }
 }
 
-// Reads the numbers among the arguments, of which there are four at most; argument 0 is the program's name.
+// Whether argument i may stand where no number may: it is missing, or names a file.
+fn is_behind(rt: &impl Env, i: usize) -> bool {
+    !is_given(rt, i) || is_dump(rt, i)
+}
+
+// Reads the numbers among the arguments, two at most; those behind them name files, two at most. Argument 0 is the program's name.
 fn requested(rt: &impl Env) -> Request {
-    if is_given(rt, 5) {
+    if is_given(rt, 5) || !is_behind(rt, 3) || !is_behind(rt, 4) {
+        return Request::Malformed;
+    }
+    if is_dump(rt, 1) && !is_behind(rt, 2) {
         return Request::Malformed;
     }
     let Number::Is(generator) = argument(rt, 1, 0) else {
@@ -47,7 +63,7 @@ fn requested(rt: &impl Env) -> Request {
 fn main(rt: HostRuntime) {
     let Request::Run(generator, draws) = requested(&rt) else {
         let _ = eprintln!(rt;
-            "usage: traffic [STATE [DRAWS [IMAGE [TABLE]]]]: numbers below 2^64, 0 and 1000 by default; files for a dump"
+            "usage: traffic [STATE [DRAWS]] [IMAGE=file] [TABLE=file]: numbers below 2^64, 0 and 1000 by default; files for a dump"
         );
         return;
     };
@@ -62,7 +78,9 @@ fn main(rt: HostRuntime) {
         );
     }
     let image = w.image;
-    write_named(&rt, 3, &image);
     let entries = w.entries;
-    write_named(&rt, 4, &entries);
+    for i in 1..5 {
+        write_named(&rt, i, IMAGE, &image);
+        write_named(&rt, i, TABLE, &entries);
+    }
 }
