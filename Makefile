@@ -35,7 +35,7 @@ rig: $(archive)
 replay traffic: export IMAGE := $(IMAGE)
 replay traffic: export TABLE := $(TABLE)
 replay: log_is_named target/bin/replay
-	@target/bin/replay "$$IMAGE" "$$TABLE" <"$$LOG"
+	@target/bin/replay IMAGE="$$IMAGE" TABLE="$$TABLE" <"$$LOG"
 
 log_is_named:
 	@[ -n "$${LOG:-}" ] || { echo 'usage: make replay LOG=file [IMAGE=file [TABLE=file]]' >&2; exit 2; }
@@ -43,7 +43,7 @@ log_is_named:
 traffic: export STATE := $(STATE)
 traffic: export DRAWS := $(DRAWS)
 traffic: target/bin/traffic
-	@target/bin/traffic "$$STATE" "$$DRAWS" "$$IMAGE" "$$TABLE"
+	@target/bin/traffic "$$STATE" "$$DRAWS" IMAGE="$$IMAGE" TABLE="$$TABLE"
 
 report: sizes_are_named $(archive)
 	@cargo run --offline --locked --release --quiet --manifest-path rust/Cargo.toml --example overhead -- "$$SIZES"
