@@ -1,8 +1,5 @@
-use Prim.Native.Nat.{◌-◌, ◌≤◌}
 use native.Mathlib.Omega.{arith}
-use lib.ListN.{length}
-use borrow.Author.Rules.{rules}
-use Rattle.dump.proofs.Entries.{Putting, begun, turn, ended}
+use Rattle.dump.proofs.Entries.{begun, turn, ended}
 use Rattle.dump.proofs.put_entries.Goals as goal
 
 pub loop-i-init : goal.loop-i-init

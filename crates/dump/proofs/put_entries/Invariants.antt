@@ -1,9 +1,7 @@
 -- `dump::put_entries`. Invariant: to put the entries left is to put all. Measure: the entries left. Assumes nothing.
 use Prim.Native.Nat.{◌-◌, ◌≤◌}
-use native.Mathlib.Omega.{arith}
 use lib.ListN.{length}
-use borrow.Author.Rules.{rules}
-use Rattle.dump.proofs.Entries.{Putting, begun, turn, ended}
+use Rattle.dump.proofs.Entries.{Putting}
 use Rattle.dump.proofs.put_entries.Given as goal
 
 abbrev pub invariant-loop-i : goal.invariant-loop-i

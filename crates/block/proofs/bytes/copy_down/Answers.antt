@@ -1,5 +1,4 @@
-use Rattle.std.proofs.Common.{◌≡◌, ◌-◌, ◌≤◌, length, take, drop, sym, refl, arith, rules}
-use Rattle.block.specs.Bytes.{put}
+use Rattle.std.proofs.Common.{◌≡◌, sym, refl, arith}
 use Rattle.block.specs.laws.Writes.{put_nil}
 use Rattle.block.proofs.Runs.{down_turn}
 use Rattle.block.proofs.bytes.copy_down.Goals as goal
@@ -11,12 +10,11 @@ pub loop-i-smaller : goal.loop-i-smaller
 loop-i-smaller c = omega (arith, c.part-k.ensures.2 (omega arith))
 
 pub loop-i-preserved : goal.loop-i-preserved
-loop-i-preserved c =
-    (
-      omega arith,
-      omega arith,
-      rw c.copy_part.ensures (down_turn _ _ _ _ c.args.n _ _ (omega arith) (omega arith) (omega arith) c.loop-i.invariant.2),
-    )
+loop-i-preserved c = (
+  omega arith,
+  omega arith,
+  rw c.copy_part.ensures (down_turn _ _ _ _ c.args.n _ _ (omega arith) (omega arith) (omega arith) c.loop-i.invariant.2),
+)
 
 pub returns : goal.returns
 returns c =

@@ -1,9 +1,7 @@
 -- `block::bytes::copy_down`. Invariant: just the first i bytes are copied; those still to be read stand above them. Measure: the bytes left.
 -- Assumes nothing.
-use Rattle.std.proofs.Common.{◌≡◌, ◌-◌, ◌≤◌, length, take, drop, sym, refl, arith, rules}
+use Rattle.std.proofs.Common.{◌≡◌, ◌-◌, ◌≤◌, length, take, drop}
 use Rattle.block.specs.Bytes.{put}
-use Rattle.block.specs.laws.Writes.{put_nil}
-use Rattle.block.proofs.Runs.{down_turn}
 use Rattle.block.proofs.bytes.copy_down.Given as goal
 
 abbrev pub invariant-loop-i : goal.invariant-loop-i

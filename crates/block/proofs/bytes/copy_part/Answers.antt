@@ -1,5 +1,4 @@
 -- `block::bytes::copy_part`: what was gathered is scattered. Assumes nothing.
-use Rattle.std.proofs.Common.{rules}
 use Rattle.block.proofs.bytes.copy_part.Goals as goal
 
 pub returns : goal.returns

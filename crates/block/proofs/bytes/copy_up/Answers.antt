@@ -1,6 +1,5 @@
-use Rattle.std.proofs.Common.{◌≡◌, ◌+◌, ◌-◌, ◌≤◌, length, take, drop, sym, refl, ◌∙◌, add-zero, arith, rules}
+use Rattle.std.proofs.Common.{◌≡◌, ◌-◌, sym, refl, ◌∙◌, add-zero, arith}
 use native.Mathlib.Nat.{sub-zero}
-use Rattle.block.specs.Bytes.{put}
 use Rattle.block.specs.laws.Writes.{put_nil}
 use Rattle.block.proofs.Runs.{up_turn}
 use Rattle.block.proofs.bytes.copy_up.Goals as goal
@@ -14,12 +13,11 @@ pub loop-i-smaller : goal.loop-i-smaller
 loop-i-smaller c = omega (arith, c.part-k.ensures.2 (omega arith))
 
 pub loop-i-preserved : goal.loop-i-preserved
-loop-i-preserved c =
-    (
-      omega arith,
-      omega arith,
-      rw c.copy_part.ensures (up_turn _ _ _ _ c.args.n _ _ (omega arith) (omega arith) (omega arith) (omega arith) c.loop-i.invariant.2),
-    )
+loop-i-preserved c = (
+  omega arith,
+  omega arith,
+  rw c.copy_part.ensures (up_turn _ _ _ _ c.args.n _ _ (omega arith) (omega arith) (omega arith) (omega arith) c.loop-i.invariant.2),
+)
 
 pub returns : goal.returns
 returns c =

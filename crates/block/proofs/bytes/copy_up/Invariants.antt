@@ -1,10 +1,7 @@
 -- `block::bytes::copy_up`. Invariant: just the bytes from i on are copied; those still to be read stand below them. Measure: i, the bytes left.
 -- Assumes nothing.
-use Rattle.std.proofs.Common.{◌≡◌, ◌+◌, ◌-◌, ◌≤◌, length, take, drop, sym, refl, ◌∙◌, add-zero, arith, rules}
-use native.Mathlib.Nat.{sub-zero}
+use Rattle.std.proofs.Common.{◌≡◌, ◌+◌, ◌-◌, ◌≤◌, length, take, drop}
 use Rattle.block.specs.Bytes.{put}
-use Rattle.block.specs.laws.Writes.{put_nil}
-use Rattle.block.proofs.Runs.{up_turn}
 use Rattle.block.proofs.bytes.copy_up.Given as goal
 
 abbrev pub invariant-loop-i : goal.invariant-loop-i

@@ -1,6 +1,5 @@
-use Rattle.std.proofs.Common.{◌≡◌, ◌+◌, ◌-◌, ◌≤◌, length, replicate, sym, refl, ◌∙◌, add-zero, arith, length-set}
+use Rattle.std.proofs.Common.{◌+◌, ◌-◌, sym, refl, ◌∙◌, add-zero, arith, length-set}
 use native.Mathlib.Nat.{sub-zero}
-use Rattle.block.specs.Bytes.{put}
 use Rattle.block.proofs.Runs.{fill_turn, fill_none}
 use Rattle.block.proofs.bytes.fill.Goals as goal
 

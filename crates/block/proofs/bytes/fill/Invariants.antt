@@ -1,8 +1,6 @@
 -- `block::bytes::fill`. Invariant: to fill what is left is to fill all. Measure: the bytes left. Assumes nothing.
-use Rattle.std.proofs.Common.{◌≡◌, ◌+◌, ◌-◌, ◌≤◌, length, replicate, sym, refl, ◌∙◌, add-zero, arith, length-set}
-use native.Mathlib.Nat.{sub-zero}
+use Rattle.std.proofs.Common.{◌≡◌, ◌+◌, ◌-◌, ◌≤◌, length, replicate}
 use Rattle.block.specs.Bytes.{put}
-use Rattle.block.proofs.Runs.{fill_turn, fill_none}
 use Rattle.block.proofs.bytes.fill.Given as goal
 
 abbrev pub invariant-loop-i : goal.invariant-loop-i

@@ -1,4 +1,4 @@
-use Rattle.std.proofs.Common.{◌≡◌, ◌-◌, ◌≤◌, length, take, drop, sym, refl, arith, length-drop, length-set, get_or-drop}
+use Rattle.std.proofs.Common.{◌≡◌, ◌-◌, length, drop, sym, refl, arith, length-drop, length-set, get_or-drop}
 use Rattle.block.proofs.Runs.{gather_turn}
 use Rattle.block.proofs.bytes.gather.Goals as goal
 

@@ -1,6 +1,5 @@
 -- `block::bytes::gather`. Invariant: the buffer's first i bytes are those read. Measure: the bytes left. Assumes nothing.
-use Rattle.std.proofs.Common.{◌≡◌, ◌-◌, ◌≤◌, length, take, drop, sym, refl, arith, length-drop, length-set, get_or-drop}
-use Rattle.block.proofs.Runs.{gather_turn}
+use Rattle.std.proofs.Common.{◌≡◌, ◌-◌, ◌≤◌, length, take, drop}
 use Rattle.block.proofs.bytes.gather.Given as goal
 
 abbrev pub invariant-loop-i : goal.invariant-loop-i

@@ -1,5 +1,5 @@
 -- `block::bytes::read1`: a field of one byte is that byte. Assumes nothing.
-use Rattle.std.proofs.Common.{sym, arith, rules}
+use Rattle.std.proofs.Common.{sym, arith}
 use Rattle.block.specs.laws.Fields.{field_one}
 use Rattle.block.proofs.bytes.read1.Goals as goal
 

@@ -1,5 +1,5 @@
 -- `block::bytes::read3`: 2 bytes and 1 are the field, and so their sum fits 3 bytes. Assumes nothing.
-use Rattle.std.proofs.Common.{◌+◌, ◌*◌, ◌^◌, ◌<◌, arith, rules}
+use Rattle.std.proofs.Common.{◌+◌, ◌*◌, ◌^◌, ◌<◌, arith}
 use Rattle.block.specs.laws.Fields.{parts_are, parts_fit}
 use Rattle.block.proofs.bytes.read3.Goals as goal
 

@@ -1,5 +1,5 @@
 -- `block::bytes::read4`: the two halves are the field, and so their sum fits 4 bytes. Assumes nothing.
-use Rattle.std.proofs.Common.{◌+◌, ◌*◌, ◌^◌, ◌<◌, arith, rules}
+use Rattle.std.proofs.Common.{◌+◌, ◌*◌, ◌^◌, ◌<◌, arith}
 use Rattle.block.specs.laws.Fields.{parts_are, parts_fit}
 use Rattle.block.proofs.bytes.read4.Goals as goal
 

@@ -1,5 +1,5 @@
 -- `block::bytes::read8`: the two halves are the field, and so their sum fits 8 bytes. Assumes nothing.
-use Rattle.std.proofs.Common.{◌+◌, ◌*◌, ◌^◌, ◌<◌, arith, rules}
+use Rattle.std.proofs.Common.{◌+◌, ◌*◌, ◌^◌, ◌<◌, arith}
 use Rattle.block.specs.laws.Fields.{parts_are, parts_fit}
 use Rattle.block.proofs.bytes.read8.Goals as goal
 

@@ -1,5 +1,5 @@
 -- `block::bytes::read_field`: a short field, 8 bytes, or 4 bytes and the rest, whose sum fits 8 bytes. Assumes nothing.
-use Rattle.std.proofs.Common.{◌≡◌, ◌+◌, ◌-◌, ◌*◌, ◌^◌, ◌<◌, ◌≤◌, ap, ◌∙◌, lt_of_lt_of_le, zero-lt-suc, arith, rules}
+use Rattle.std.proofs.Common.{◌≡◌, ◌+◌, ◌-◌, ◌*◌, ◌^◌, ◌<◌, ◌≤◌, ap, ◌∙◌, lt_of_lt_of_le, zero-lt-suc, arith}
 use native.Mathlib.Nat.{pow-le-pow_right}
 use Rattle.block.specs.Bytes.{field}
 use Rattle.block.specs.laws.Fields.{parts_are, parts_fit}

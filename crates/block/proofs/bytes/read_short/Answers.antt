@@ -1,5 +1,5 @@
 -- `block::bytes::read_short`: one way out for each width, by the read of that width. Assumes nothing.
-use Rattle.std.proofs.Common.{◌≡◌, arith, rules}
+use Rattle.std.proofs.Common.{◌≡◌, arith}
 use Rattle.block.proofs.bytes.read_short.Goals as goal
 
 -- 1

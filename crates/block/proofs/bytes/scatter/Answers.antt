@@ -1,5 +1,4 @@
-use Rattle.std.proofs.Common.{◌≡◌, ◌-◌, ◌≤◌, length, take, sym, refl, arith, length-set}
-use Rattle.block.specs.Bytes.{put}
+use Rattle.std.proofs.Common.{◌≡◌, sym, refl, arith, length-set}
 use Rattle.block.specs.laws.Writes.{put_nil}
 use Rattle.block.proofs.Runs.{scatter_turn}
 use Rattle.block.proofs.bytes.scatter.Goals as goal

@@ -1,8 +1,6 @@
 -- `block::bytes::scatter`. Invariant: the buffer's first i bytes are put. Measure: the bytes left. Assumes nothing.
-use Rattle.std.proofs.Common.{◌≡◌, ◌-◌, ◌≤◌, length, take, sym, refl, arith, length-set}
+use Rattle.std.proofs.Common.{◌≡◌, ◌-◌, ◌≤◌, length, take}
 use Rattle.block.specs.Bytes.{put}
-use Rattle.block.specs.laws.Writes.{put_nil}
-use Rattle.block.proofs.Runs.{scatter_turn}
 use Rattle.block.proofs.bytes.scatter.Given as goal
 
 abbrev pub invariant-loop-i : goal.invariant-loop-i

@@ -1,5 +1,5 @@
 -- `block::bytes::write2`: the two halves, one behind the other, are the number's 2 bytes. Assumes nothing.
-use Rattle.std.proofs.Common.{◌∙◌, rules}
+use Rattle.std.proofs.Common.{◌∙◌}
 use Rattle.block.specs.laws.Writes.{put_parts}
 use Rattle.block.proofs.bytes.write2.Goals as goal
 

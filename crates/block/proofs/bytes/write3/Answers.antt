@@ -1,5 +1,5 @@
 -- `block::bytes::write3`: 2 bytes and 1, one behind the other, are the number's 3 bytes. Assumes nothing.
-use Rattle.std.proofs.Common.{◌∙◌, rules}
+use Rattle.std.proofs.Common.{◌∙◌}
 use Rattle.block.specs.laws.Writes.{put_parts}
 use Rattle.block.proofs.bytes.write3.Goals as goal
 

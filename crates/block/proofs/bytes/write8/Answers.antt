@@ -1,5 +1,5 @@
 -- `block::bytes::write8`: the two halves, one behind the other, are the number's 8 bytes. Assumes nothing.
-use Rattle.std.proofs.Common.{◌∙◌, rules}
+use Rattle.std.proofs.Common.{◌∙◌}
 use Rattle.block.specs.laws.Writes.{put_parts}
 use Rattle.block.proofs.bytes.write8.Goals as goal
 

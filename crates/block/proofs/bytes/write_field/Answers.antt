@@ -1,5 +1,5 @@
 -- `block::bytes::write_field`: a short field, 8 bytes, or 4 bytes and the rest behind them. Assumes nothing.
-use Rattle.std.proofs.Common.{◌≡◌, ℕ, ◌+◌, ◌-◌, ap, ◌∙◌, arith, rules}
+use Rattle.std.proofs.Common.{◌≡◌, ℕ, ◌+◌, ◌-◌, ap, ◌∙◌, arith}
 use Rattle.block.specs.Bytes.{encode, put}
 use Rattle.block.specs.laws.Writes.{put_parts}
 use Rattle.block.proofs.bytes.write_field.Goals as goal

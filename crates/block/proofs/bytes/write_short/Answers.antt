@@ -1,5 +1,5 @@
 -- `block::bytes::write_short`: one way out for each width, by the write of that width. Assumes nothing.
-use Rattle.std.proofs.Common.{◌≡◌, arith, rules}
+use Rattle.std.proofs.Common.{◌≡◌, arith}
 use Rattle.block.proofs.bytes.write_short.Goals as goal
 
 -- 1

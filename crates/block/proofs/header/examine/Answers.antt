@@ -1,5 +1,5 @@
 -- `block::header::examine`: where the first three tests pass, there is room for a header at h, behind the superblock, and `is_sound` decides. Assumes nothing.
-use Rattle.std.proofs.Common.{sym, ap, ◌∙◌, arith, rules}
+use Rattle.std.proofs.Common.{sym, ap, ◌∙◌, arith}
 use Rattle.block.specs.laws.Soundness.{unsound_low, unsound_past, examined-sound, examined_unsound}
 use Rattle.block.specs.declared.header.Examined.TheVariants as examining
 use Rattle.block.proofs.header.examine.Goals as goal

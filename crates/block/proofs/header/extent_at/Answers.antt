@@ -1,6 +1,5 @@
 -- `block::header::extent_at` reads one field of `header_at`. Assumes nothing.
 use Rattle.block.specs.Layout.{header_at}
-use Rattle.std.proofs.Common.{rules}
 use Rattle.block.proofs.header.extent_at.Goals as goal
 
 pub returns : goal.returns

@@ -1,5 +1,5 @@
 -- `block::header::free_sound`: the fields are read, and the tests are those of `free_by`. Assumes nothing.
-use Rattle.std.proofs.Common.{sym, rules}
+use Rattle.std.proofs.Common.{sym}
 use Rattle.block.specs.Layout.{header_at}
 use Rattle.block.proofs.Headers.{free_by}
 use Rattle.block.proofs.header.free_sound.Goals as goal

@@ -1,5 +1,5 @@
 -- `block::header::is_sound`: each kind has its test. Assumes nothing.
-use Rattle.std.proofs.Common.{sym, arith, rules}
+use Rattle.std.proofs.Common.{sym, arith}
 use Rattle.block.specs.laws.Soundness.{unsound_kind}
 use Rattle.block.proofs.header.is_sound.Goals as goal
 

@@ -1,6 +1,5 @@
 -- `block::header::kind_at` reads one field of `header_at`. Assumes nothing.
 use Rattle.block.specs.Layout.{header_at}
-use Rattle.std.proofs.Common.{rules}
 use Rattle.block.proofs.header.kind_at.Goals as goal
 
 pub returns : goal.returns

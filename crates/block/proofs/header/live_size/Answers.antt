@@ -1,7 +1,6 @@
 -- `block::header::live_size`: no room, another kind, and an unsound header are no object; else the size is read. Assumes nothing.
-use Rattle.std.proofs.Common.{◌≡◌, ◌+◌, ◌≤◌, true, length, sym, ap, ◌∙◌, arith, rules}
-use borrow.Author.Tests.{not-true, not-false}
-use Rattle.block.specs.Layout.{kind_at, sound}
+use Rattle.std.proofs.Common.{◌≡◌, ◌+◌, ◌≤◌, length, sym, ap, ◌∙◌, arith}
+use Rattle.block.specs.Layout.{kind_at}
 use Rattle.block.specs.laws.Soundness.{object_live, object_unsound, object_dead}
 use Rattle.block.specs.declared.header.Object.TheVariants as object
 use Rattle.block.proofs.Headers.{roomy, unroomy}

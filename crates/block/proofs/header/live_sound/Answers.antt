@@ -1,5 +1,5 @@
 -- `block::header::live_sound`: the fields are read, and the tests are those of `live_by`. Assumes nothing.
-use Rattle.std.proofs.Common.{◌^◌, ◌<◌, sym, arith, rules}
+use Rattle.std.proofs.Common.{◌^◌, ◌<◌, sym, arith}
 use Rattle.block.specs.Layout.{header_at}
 use Rattle.block.specs.laws.Headers.{header_at-fitting}
 use Rattle.block.proofs.Headers.{live_by}

@@ -1,6 +1,5 @@
 -- `block::header::read_header` reads the fields of `header_at` one by one. Assumes nothing.
 use Rattle.block.specs.Layout.{header_at}
-use Rattle.std.proofs.Common.{rules}
 use Rattle.block.proofs.header.read_header.Goals as goal
 
 pub returns : goal.returns

@@ -1,6 +1,5 @@
 -- `block::header::type_at` reads one field of `header_at`. Assumes nothing.
 use Rattle.block.specs.Layout.{header_at}
-use Rattle.std.proofs.Common.{rules}
 use Rattle.block.proofs.header.type_at.Goals as goal
 
 pub returns : goal.returns

@@ -1,7 +1,6 @@
 -- `block::header::write_header`: five fields, one behind the other. Assumes nothing.
 use Rattle.block.specs.Layout.{header}
 use Rattle.block.proofs.Headers.{put-fields}
-use Rattle.std.proofs.Common.{rules}
 use Rattle.block.proofs.header.write_header.Goals as goal
 
 pub returns : goal.returns

@@ -1,4 +1,4 @@
-use Rattle.std.proofs.Common.{◌≡◌, ◌+◌, ◌-◌, ◌≤◌, sym, ◌∙◌, arith}
+use Rattle.std.proofs.Common.{◌+◌, sym, ◌∙◌, arith}
 use Rattle.block.specs.laws.Order.{big_one, Decide, compare_runs, compare_after, compare-start, compare-end, compare_turn}
 use Rattle.block.proofs.order.compare_bytes.Goals as goal
 

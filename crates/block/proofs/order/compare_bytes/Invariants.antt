@@ -1,6 +1,6 @@
 -- `block::order::compare_bytes`. Invariant: the runs stand to each other as they do after their first i bytes. Measure: the bytes left. Assumes nothing.
-use Rattle.std.proofs.Common.{◌≡◌, ◌+◌, ◌-◌, ◌≤◌, sym, ◌∙◌, arith}
-use Rattle.block.specs.laws.Order.{big_one, Decide, compare_runs, compare_after, compare-start, compare-end, compare_turn}
+use Rattle.std.proofs.Common.{◌≡◌, ◌-◌, ◌≤◌}
+use Rattle.block.specs.laws.Order.{compare_runs, compare_after}
 use Rattle.block.proofs.order.compare_bytes.Given as goal
 
 abbrev pub invariant-loop-i : goal.invariant-loop-i

@@ -1,5 +1,5 @@
 -- `block::order::compare_runs`: the same words are passed; the next word decides, or the bytes that are left. Assumes nothing.
-use Rattle.std.proofs.Common.{◌+◌, sym, ◌∙◌, arith, rules}
+use Rattle.std.proofs.Common.{◌+◌, sym, ◌∙◌, arith}
 use Rattle.block.specs.laws.Order.{Decide, compare_runs, compare_after, compare_turn}
 use Rattle.block.proofs.order.compare_runs.Goals as goal
 

@@ -1,5 +1,5 @@
 -- `block::order::read8_be`: the two halves are the big-endian number, and so their sum fits 8 bytes. Assumes nothing.
-use Rattle.std.proofs.Common.{◌+◌, ◌*◌, ◌^◌, ◌<◌, arith, rules}
+use Rattle.std.proofs.Common.{◌+◌, ◌*◌, ◌^◌, ◌<◌, arith}
 use Rattle.block.specs.laws.Order.{big_parts_are, big_parts_fit}
 use Rattle.block.proofs.order.read8_be.Goals as goal
 

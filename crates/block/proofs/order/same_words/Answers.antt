@@ -1,6 +1,6 @@
-use Rattle.std.proofs.Common.{◌≡◌, ◌-◌, ◌≤◌, sym, refl, ◌∙◌, arith}
+use Rattle.std.proofs.Common.{sym, refl, ◌∙◌, arith}
 use Rattle.block.specs.Bytes.{Bytes}
-use Rattle.block.specs.laws.Order.{same_big, compare_runs, compare_after, compare-start, compare_turn}
+use Rattle.block.specs.laws.Order.{same_big, compare-start, compare_turn}
 use Rattle.block.proofs.order.same_words.Goals as goal
 
 pub loop-i-init : goal.loop-i-init

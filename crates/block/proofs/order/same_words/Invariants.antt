@@ -1,7 +1,6 @@
 -- `block::order::same_words`. Invariant: the runs stand to each other as they do after their first i bytes. Measure: the bytes left. Assumes nothing.
-use Rattle.std.proofs.Common.{◌≡◌, ◌-◌, ◌≤◌, sym, refl, ◌∙◌, arith}
-use Rattle.block.specs.Bytes.{Bytes}
-use Rattle.block.specs.laws.Order.{same_big, compare_runs, compare_after, compare-start, compare_turn}
+use Rattle.std.proofs.Common.{◌≡◌, ◌-◌, ◌≤◌}
+use Rattle.block.specs.laws.Order.{compare_runs, compare_after}
 use Rattle.block.proofs.order.same_words.Given as goal
 
 abbrev pub invariant-loop-i : goal.invariant-loop-i

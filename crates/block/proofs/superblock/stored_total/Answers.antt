@@ -1,6 +1,5 @@
 -- `block::superblock::stored_total` reads the last field. Assumes nothing.
 use Rattle.block.specs.laws.Total.{total_bound}
-use Rattle.std.proofs.Common.{rules}
 use Rattle.block.proofs.superblock.stored_total.Goals as goal
 
 pub returns : goal.returns

@@ -1,5 +1,5 @@
 -- `block::superblock::write_superblock`: five fields, one behind the other, as a header's. Assumes nothing.
-use Rattle.std.proofs.Common.{length, rules}
+use Rattle.std.proofs.Common.{length}
 use Rattle.block.specs.Layout.{superblock}
 use Rattle.block.proofs.Headers.{put-fields}
 use Rattle.block.proofs.superblock.write_superblock.Goals as goal

@@ -1,6 +1,5 @@
 -- `block::superblock::write_total` writes the last field. Assumes nothing.
 use Rattle.block.specs.Layout.{with_total}
-use Rattle.std.proofs.Common.{rules}
 use Rattle.block.proofs.superblock.write_total.Goals as goal
 
 pub returns : goal.returns

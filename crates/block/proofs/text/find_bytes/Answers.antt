@@ -1,5 +1,5 @@
-use Rattle.std.proofs.Common.{◌≡◌, ◌-◌, ◌≤◌, sym, refl, ◌∙◌, arith, ne_eqb}
-use Rattle.block.specs.laws.Text.{zero_one, text_after, text_end, text_stops, text_turn}
+use Rattle.std.proofs.Common.{sym, refl, ◌∙◌, arith, ne_eqb}
+use Rattle.block.specs.laws.Text.{zero_one, text_end, text_stops, text_turn}
 use Rattle.block.proofs.text.find_bytes.Goals as goal
 
 pub loop-i-init : goal.loop-i-init

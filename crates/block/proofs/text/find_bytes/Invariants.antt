@@ -1,6 +1,6 @@
 -- `block::text::find_bytes`. Invariant: the text is the one after the first i bytes. Measure: the bytes left. Assumes nothing.
-use Rattle.std.proofs.Common.{◌≡◌, ◌-◌, ◌≤◌, sym, refl, ◌∙◌, arith, ne_eqb}
-use Rattle.block.specs.laws.Text.{zero_one, text_after, text_end, text_stops, text_turn}
+use Rattle.std.proofs.Common.{◌≡◌, ◌-◌, ◌≤◌}
+use Rattle.block.specs.laws.Text.{text_after}
 use Rattle.block.proofs.text.find_bytes.Given as goal
 
 abbrev pub invariant-loop-i : goal.invariant-loop-i

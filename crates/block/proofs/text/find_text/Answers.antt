@@ -1,6 +1,5 @@
-use Rattle.std.proofs.Common.{◌≡◌, ◌-◌, ◌≤◌, take, drop, sym, ◌∙◌, arith}
-use Rattle.block.specs.Text.{text_of}
-use Rattle.block.specs.laws.Text.{text_after, text_start, text_turn}
+use Rattle.std.proofs.Common.{sym, ◌∙◌, arith}
+use Rattle.block.specs.laws.Text.{text_start, text_turn}
 use Rattle.block.proofs.text.find_text.Goals as goal
 
 pub loop-i-init : goal.loop-i-init

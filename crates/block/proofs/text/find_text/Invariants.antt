@@ -1,7 +1,7 @@
 -- `block::text::find_text`. Invariant: the text is the one after the first i bytes. Measure: the bytes left. Assumes nothing.
-use Rattle.std.proofs.Common.{◌≡◌, ◌-◌, ◌≤◌, take, drop, sym, ◌∙◌, arith}
+use Rattle.std.proofs.Common.{◌≡◌, ◌-◌, ◌≤◌, take, drop}
 use Rattle.block.specs.Text.{text_of}
-use Rattle.block.specs.laws.Text.{text_after, text_start, text_turn}
+use Rattle.block.specs.laws.Text.{text_after}
 use Rattle.block.proofs.text.find_text.Given as goal
 
 abbrev pub invariant-loop-i : goal.invariant-loop-i

@@ -1,5 +1,5 @@
 -- `block::text::has_zero2`: one of the two bytes is zero. Assumes nothing.
-use Rattle.std.proofs.Common.{◌+◌, rules}
+use Rattle.std.proofs.Common.{◌+◌}
 use Rattle.block.specs.laws.Text.{zero_one, zero_parts}
 use Rattle.block.proofs.text.has_zero2.Goals as goal
 

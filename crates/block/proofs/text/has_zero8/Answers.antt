@@ -1,5 +1,4 @@
 -- `block::text::has_zero8`: a zero in one of the two halves. Assumes nothing.
-use Rattle.std.proofs.Common.{rules}
 use Rattle.block.specs.laws.Text.{zero_parts}
 use Rattle.block.proofs.text.has_zero8.Goals as goal
 

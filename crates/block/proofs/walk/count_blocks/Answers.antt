@@ -1,7 +1,7 @@
-use Rattle.std.proofs.Common.{◌-◌, length, sym, ap, ◌∙◌, ⊎_elim, arith, rules}
+use Rattle.std.proofs.Common.{sym, ap, ◌∙◌, arith}
 use Rattle.block.specs.Walk.{count_of, count_blocks}
 use Rattle.block.specs.laws.Turns.{Seen, seen_at, size-inside, at_unsound}
-use Rattle.block.proofs.Counting.{Counting, counts_none, counts_all, counts_live, counts-free}
+use Rattle.block.proofs.Counting.{counts_none, counts_all, counts_live, counts-free}
 use Rattle.block.proofs.walk.count_blocks.Goals as goal
 use Rattle.block.proofs.walk.count_blocks.Goals.{then-d-eq2, else-d-eq2}
 
@@ -39,8 +39,8 @@ loop-d-preserved c =
     let w = c.loop-d.invariant in
     let s = seen in
     elim c.if-d-eq2.branch [
-      then-d-eq2 j ↦ rw (j.objects-is, j.free-is) (counts_live w s j.if-d-eq2.true)
-    | else-d-eq2 j ↦ rw (j.objects-is, j.free-is) (counts-free w s j.if-d-eq2.false)
+      | then-d-eq2 j ↦ rw (j.objects-is, j.free-is) (counts_live w s j.if-d-eq2.true)
+      | else-d-eq2 j ↦ rw (j.objects-is, j.free-is) (counts-free w s j.if-d-eq2.false)
     ]
 
 -- the image's end

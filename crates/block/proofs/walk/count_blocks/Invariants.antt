@@ -1,8 +1,6 @@
 -- `block::walk::count_blocks`. Invariant: the blocks up to h are counted (`Counting`). Measure: the bytes from h to the image's end. Assumes nothing.
-use Rattle.std.proofs.Common.{◌-◌, length, sym, ap, ◌∙◌, ⊎_elim, arith, rules}
-use Rattle.block.specs.Walk.{count_of, count_blocks}
-use Rattle.block.specs.laws.Turns.{Seen, seen_at, size-inside, at_unsound}
-use Rattle.block.proofs.Counting.{Counting, counts_none, counts_all, counts_live, counts-free}
+use Rattle.std.proofs.Common.{◌-◌, length}
+use Rattle.block.proofs.Counting.{Counting}
 use Rattle.block.proofs.walk.count_blocks.Given as goal
 
 abbrev pub invariant-loop-d : goal.invariant-loop-d

@@ -1,8 +1,8 @@
-use Rattle.std.proofs.Common.{◌≡◌, ◌-◌, false, length, sym, ap, ◌∙◌, ⊎_elim, arith, rules, eq-eqb, ne_eqb}
+use Rattle.std.proofs.Common.{◌≡◌, false, sym, ap, ◌∙◌, ⊎_elim, arith, eq-eqb, ne_eqb}
 use mathlib.Core.Bool.{and-false}
 use borrow.Author.Tests.{lt-leb}
 use Rattle.block.specs.Walk.{fitting, fit_of, first_fit}
-use Rattle.block.specs.laws.Turns.{Walking, Seen, seen_at, begins, at-end, at_unsound, at_stop, goes_on}
+use Rattle.block.specs.laws.Turns.{Seen, seen_at, begins, at-end, at_unsound, at_stop, goes_on}
 use Rattle.block.proofs.walk.first_fit.Goals as goal
 
 pub loop-d-init : goal.loop-d-init

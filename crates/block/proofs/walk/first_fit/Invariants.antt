@@ -1,9 +1,8 @@
 -- `block::walk::first_fit`. Invariant: the walk from h on is what is left of the whole walk (`Walking`). Measure: the bytes from h to the image's end.
 -- Assumes nothing.
-use Rattle.std.proofs.Common.{◌≡◌, ◌-◌, false, length, sym, ap, ◌∙◌, ⊎_elim, arith, rules, eq-eqb, ne_eqb}
-use mathlib.Core.Bool.{and-false}
-use Rattle.block.specs.Walk.{fitting, fit_of, first_fit}
-use Rattle.block.specs.laws.Turns.{Walking, Seen, seen_at, begins, at-end, at_unsound, at_stop, goes_on}
+use Rattle.std.proofs.Common.{◌-◌, length}
+use Rattle.block.specs.Walk.{fitting}
+use Rattle.block.specs.laws.Turns.{Walking}
 use Rattle.block.proofs.walk.first_fit.Given as goal
 
 abbrev pub invariant-loop-d : goal.invariant-loop-d

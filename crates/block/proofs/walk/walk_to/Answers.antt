@@ -1,7 +1,7 @@
-use Rattle.std.proofs.Common.{ℕ, ◌-◌, length, sym, ap, ◌∙◌, arith, rules, eq-eqb, ne_eqb, le-leb}
+use Rattle.std.proofs.Common.{sym, ◌∙◌, arith, eq-eqb, ne_eqb, le-leb}
 use borrow.Author.Tests.{lt-leb}
-use Rattle.block.specs.Walk.{reaching, met_of, walk_to}
-use Rattle.block.specs.laws.Turns.{Walking, Seen, seen_at, begins, at_stop, goes_on}
+use Rattle.block.specs.Walk.{met_of, walk_to}
+use Rattle.block.specs.laws.Turns.{Seen, seen_at, begins, at_stop, goes_on}
 use Rattle.block.specs.laws.WalkTo.{walk_to_lost}
 use Rattle.block.proofs.walk.walk_to.Goals as goal
 

@@ -1,7 +1,6 @@
 -- `descriptors::checking::end_within`: the definition's two tests, the second without a sum that could wrap. Assumes nothing.
 use mathlib.Core.Path.{sym}
 use native.Mathlib.Omega.{arith}
-use borrow.Author.Rules.{rules}
 use Rattle.descriptors.specs.laws.Fields.{ends_early, ends_past, ends-inside}
 use Rattle.descriptors.proofs.checking.end_within.Goals as goal
 

@@ -1,6 +1,5 @@
 -- `descriptors::checking::field_end`: the field's type is looked up; where it is found, its size tells. Assumes nothing.
 use mathlib.Core.Path.{◌≡◌, sym, ◌∙◌}
-use borrow.Author.Rules.{rules}
 use Rattle.descriptors.specs.Descriptors.{look_up}
 use Rattle.descriptors.specs.laws.Lookups.{step, found_at}
 use Rattle.descriptors.specs.laws.Fields.{unnamed_ends}

@@ -2,8 +2,6 @@
 use mathlib.Core.Path.{◌≡◌, sym, ap, ◌∙◌}
 use mathlib.Core.Bool.{true}
 use native.Mathlib.Omega.{arith}
-use borrow.Author.Rules.{rules}
-use borrow.Author.Tests.{not-true, not-false}
 use Rattle.descriptors.specs.Descriptors.{good_head, length_at}
 use Rattle.descriptors.specs.laws.Lookups.{whole-inside}
 use Rattle.descriptors.specs.laws.Lists.{Headed, headed, headed-length}

@@ -1,7 +1,5 @@
-use Prim.Native.Nat.{◌-◌}
 use native.Mathlib.Omega.{arith}
-use borrow.Author.Rules.{rules}
-use Rattle.descriptors.specs.laws.Checks.{Fielding, fielding_begins, fielding_ends, fielding_fails, fielding_goes_on}
+use Rattle.descriptors.specs.laws.Checks.{fielding_begins, fielding_ends, fielding_fails, fielding_goes_on}
 use Rattle.descriptors.proofs.checking.good_fields.Goals as goal
 
 pub loop-k-init : goal.loop-k-init

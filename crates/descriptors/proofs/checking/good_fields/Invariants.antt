@@ -1,9 +1,7 @@
 -- `descriptors::checking::good_fields`. Invariant: what is left from field k on, behind `from`, says what all fields say (`Fielding`). Measure: the fields that
 -- are left. Assumes nothing.
 use Prim.Native.Nat.{◌-◌}
-use native.Mathlib.Omega.{arith}
-use borrow.Author.Rules.{rules}
-use Rattle.descriptors.specs.laws.Checks.{Fielding, fielding_begins, fielding_ends, fielding_fails, fielding_goes_on}
+use Rattle.descriptors.specs.laws.Checks.{Fielding}
 use Rattle.descriptors.proofs.checking.good_fields.Given as goal
 
 abbrev pub invariant-loop-k : goal.invariant-loop-k

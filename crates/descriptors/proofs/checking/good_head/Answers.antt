@@ -1,8 +1,6 @@
 -- `descriptors::checking::good_head`: the definition's tests in their order. Assumes nothing.
 use mathlib.Core.Path.{sym, ◌∙◌}
 use native.Mathlib.Omega.{arith}
-use borrow.Author.Rules.{rules}
-use borrow.Author.Tests.{not-true, not-false}
 use Rattle.descriptors.specs.laws.Checks.{head_missing, head_cut, head_shapeless, head_by_size}
 use Rattle.descriptors.proofs.checking.good_head.Goals as goal
 

@@ -1,9 +1,7 @@
-use Prim.Native.Nat.{ℕ, ◌+◌, ◌-◌}
+use Prim.Native.Nat.{ℕ, ◌+◌}
 use mathlib.Core.Path.{◌≡◌, sym, ap, ◌∙◌, subst}
 use mathlib.Core.Bool.{true}
 use native.Mathlib.Omega.{arith}
-use lib.ListN.{length}
-use borrow.Author.Tests.{not-true, not-false}
 use Rattle.descriptors.specs.Descriptors.{length_at, good_descriptor}
 use Rattle.descriptors.specs.laws.Lists.{Headed, headed-length, good_parts}
 use Rattle.descriptors.specs.laws.Checks.{Checking, checking_begins, checking_ends, checking_fails, checking_goes_on}

@@ -1,5 +1,5 @@
 -- The descriptor that is looked up stands before p, and the last field at or before o tells. Assumes nothing.
-use Rattle.std.proofs.Common.{ℕ, ◌-◌, ◌<◌, sym, ap, ◌∙◌, arith, rules}
+use Rattle.std.proofs.Common.{◌-◌, ◌<◌, sym, ap, ◌∙◌, arith}
 use Rattle.descriptors.specs.Layouts.{type_has}
 use Rattle.descriptors.specs.laws.Lookups.{found_at}
 use Rattle.descriptors.specs.laws.Lists.{head_here, named_stands}

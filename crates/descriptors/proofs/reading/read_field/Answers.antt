@@ -1,6 +1,5 @@
 -- `descriptors::reading::read_field`: the definition's two fields. Assumes nothing.
 use Rattle.descriptors.specs.Descriptors.{field_at}
-use borrow.Author.Rules.{rules}
 use Rattle.descriptors.proofs.reading.read_field.Goals as goal
 
 pub returns : goal.returns

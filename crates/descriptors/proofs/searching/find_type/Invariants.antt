@@ -1,12 +1,7 @@
 -- `descriptors::searching::find_type`. Invariant: what is left of the search comes to what the whole search comes to (`Searching`). Measure: the bytes before
 -- `end` that are left. Assumes nothing.
-use Prim.Native.Nat.{ℕ, ◌+◌, ◌-◌}
-use mathlib.Core.Path.{◌≡◌, sym, ap, ◌∙◌, subst}
-use native.Mathlib.Omega.{arith}
-use Rattle.descriptors.specs.Descriptors.{length_at, type_at}
-use Rattle.descriptors.specs.laws.Lookups.{Step, step}
-use Rattle.descriptors.specs.declared.descriptor.Descriptor.{Descriptor}
-use Rattle.descriptors.proofs.Turns.{Searching, begins, ends, finds, turns}
+use Prim.Native.Nat.{◌-◌}
+use Rattle.descriptors.proofs.Turns.{Searching}
 use Rattle.descriptors.proofs.searching.find_type.Given as goal
 
 abbrev pub invariant-loop-p : goal.invariant-loop-p

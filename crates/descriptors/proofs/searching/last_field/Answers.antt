@@ -1,16 +1,14 @@
-use Prim.Native.Nat.{◌-◌, ◌≤◌}
+use Prim.Native.Nat.{◌-◌}
 use mathlib.Core.Path.{◌≡◌, refl, sym, ap, ◌∙◌}
 use native.Mathlib.Omega.{arith}
 use Rattle.descriptors.specs.Descriptors.{field_at}
-use Rattle.descriptors.specs.Layouts.{last_starting}
 use Rattle.descriptors.specs.laws.Layouts.{last_ended, last_found, last_on}
 use Rattle.descriptors.specs.declared.descriptor.Field.{Field}
 use Rattle.descriptors.proofs.searching.last_field.Goals as goal
 
 pub loop-k-preserved : goal.loop-k-preserved
 loop-k-preserved c =
-    let reads : c.read_field-f.result.offset ≡ (field_at c.args.list.now c.args.p (c.loop-k.k - 1)).offset = ap (λ (d : Field). d.offset) c.read_field-f.ensures in
-    (
+    let reads : c.read_field-f.result.offset ≡ (field_at c.args.list.now c.args.p (c.loop-k.k - 1)).offset = ap (λ (d : Field). d.offset) c.read_field-f.ensures in (
       omega (arith, c.loop-k.invariant.0),
       sym (last_on _ _ _ _ c.if-k-eq0.false (omega (arith, reads, c.if-f-o.false))) ∙ c.loop-k.invariant.1,
     )

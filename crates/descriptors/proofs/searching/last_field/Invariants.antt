@@ -1,11 +1,7 @@
 -- `descriptors::searching::last_field`. Invariant: the last of the first k fields is that of all n. Measure: k. Assumes nothing.
-use Prim.Native.Nat.{◌-◌, ◌≤◌}
-use mathlib.Core.Path.{◌≡◌, refl, sym, ap, ◌∙◌}
-use native.Mathlib.Omega.{arith}
-use Rattle.descriptors.specs.Descriptors.{field_at}
+use Prim.Native.Nat.{◌≤◌}
+use mathlib.Core.Path.{◌≡◌}
 use Rattle.descriptors.specs.Layouts.{last_starting}
-use Rattle.descriptors.specs.laws.Layouts.{last_ended, last_found, last_on}
-use Rattle.descriptors.specs.declared.descriptor.Field.{Field}
 use Rattle.descriptors.proofs.searching.last_field.Given as goal
 
 abbrev pub invariant-loop-k : goal.invariant-loop-k

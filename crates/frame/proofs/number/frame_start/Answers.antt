@@ -1,5 +1,4 @@
 -- `frame::frame_start`: a shift to the right and back drops the low n bits. Assumes nothing.
-use borrow.Author.Rules.{rules}
 use Rattle.frame.proofs.Shifts.{shr_shl}
 use Rattle.frame.proofs.number.frame_start.Goals as goal
 

@@ -3,7 +3,6 @@ use Prim.Native.Nat.{◌+◌, ◌/◌, ◌^◌, ◌≤◌}
 use native.Mathlib.Omega.{arith}
 use lib.Pow.{shr_le}
 use Rattle.frame.specs.Tags.{entry_at}
-use borrow.Author.Rules.{rules}
 use Rattle.frame.proofs.tag.entry_index.Goals as goal
 
 pub returns : goal.returns

@@ -9,7 +9,6 @@ use native.Mathlib.Omega.{arith}
 use Rattle.frame.specs.Tags.{wrapper}
 use Rattle.frame.specs.laws.Wrappers.{wrapper-at_most}
 use Rattle.frame.specs.laws.Tags.{tagged, small_test, pointer_small, pointer_large}
-use borrow.Author.Rules.{rules}
 use Rattle.frame.proofs.tag.tag_object.Goals as goal
 
 pub entry_index-entry-requires : goal.entry_index-entry-requires

@@ -4,7 +4,6 @@ use mathlib.Core.Path.{refl}
 use native.Mathlib.Omega.{arith}
 use lib.Pow.{shr_le}
 use Rattle.frame.specs.Tags.{used_entries}
-use borrow.Author.Rules.{rules}
 use Rattle.frame.proofs.tag.used_entries.Goals as goal
 
 pub returns : goal.returns

@@ -1,6 +1,5 @@
 -- `overhead::padding::padded`: 2 to the length in bits of one less than the bytes to hold (`by_length`). Assumes nothing.
 use native.Mathlib.Omega.{arith}
-use borrow.Author.Rules.{rules}
 use Rattle.overhead.proofs.Turns.{some_length, by_length}
 use Rattle.overhead.proofs.padding.padded.Goals as goal
 

@@ -1,7 +1,6 @@
 -- `overhead::reporting::fraction`: the definition's two cases. Assumes nothing.
 use mathlib.Core.Path.{sym}
 use native.Mathlib.Omega.{arith}
-use borrow.Author.Rules.{rules}
 use Rattle.overhead.specs.laws.Rows.{fraction_none, fraction_some}
 use Rattle.overhead.proofs.reporting.fraction.Goals as goal
 

@@ -1,7 +1,5 @@
 -- `overhead::reporting::report`: the definition's tests in their order; no overhead is negative (`sums-ordered`). Assumes nothing.
 use mathlib.Core.Path.{sym, ◌∙◌}
-use borrow.Author.Rules.{rules}
-use borrow.Author.Tests.{not-true, not-false}
 use Rattle.overhead.specs.laws.Totals.{sums-ordered}
 use Rattle.overhead.specs.laws.Rows.{report_long, report_bad, report-given}
 use Rattle.overhead.proofs.reporting.report.Goals as goal

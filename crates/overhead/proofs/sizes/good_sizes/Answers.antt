@@ -1,10 +1,5 @@
-use Prim.Native.Nat.{◌-◌, ◌≤◌}
-use mathlib.Core.Path.{◌≡◌, refl, sym, ◌∙◌}
+use mathlib.Core.Path.{refl, sym, ◌∙◌}
 use native.Mathlib.Omega.{arith}
-use lib.ListN.{length, drop}
-use borrow.Author.Rules.{rules}
-use borrow.Author.Tests.{not-true, not-false}
-use Rattle.overhead.specs.Overhead.{good_sizes}
 use Rattle.overhead.proofs.Turns.{good_turn, bad_turn, good_end}
 use Rattle.overhead.proofs.sizes.good_sizes.Goals as goal
 

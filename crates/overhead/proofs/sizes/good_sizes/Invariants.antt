@@ -1,12 +1,8 @@
 -- `overhead::sizes::good_sizes`. Invariant: the sizes from i on are good where all are. Measure: the sizes that are left. Assumes nothing.
 use Prim.Native.Nat.{◌-◌, ◌≤◌}
-use mathlib.Core.Path.{◌≡◌, refl, sym, ◌∙◌}
-use native.Mathlib.Omega.{arith}
+use mathlib.Core.Path.{◌≡◌}
 use lib.ListN.{length, drop}
-use borrow.Author.Rules.{rules}
-use borrow.Author.Tests.{not-true, not-false}
 use Rattle.overhead.specs.Overhead.{good_sizes}
-use Rattle.overhead.proofs.Turns.{good_turn, bad_turn, good_end}
 use Rattle.overhead.proofs.sizes.good_sizes.Given as goal
 
 abbrev pub invariant-loop-i : goal.invariant-loop-i

@@ -1,9 +1,6 @@
-use Prim.Native.Nat.{◌-◌}
 use mathlib.Core.Path.{refl}
 use native.Mathlib.Omega.{arith}
-use lib.ListN.{length}
-use borrow.Author.Rules.{rules}
-use Rattle.overhead.proofs.Turns.{Summing, summing_begins, Turn, turn, summing_goes_on, summing_ends}
+use Rattle.overhead.proofs.Turns.{summing_begins, Turn, turn, summing_goes_on, summing_ends}
 use Rattle.overhead.proofs.totals.sums.Goals as goal
 
 pub loop-i-init : goal.loop-i-init

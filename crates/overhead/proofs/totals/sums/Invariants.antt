@@ -1,11 +1,8 @@
 -- `overhead::totals::sums`. Invariant: each sum, with that over the sizes from i on, is that over all sizes (`Summing`); so no sum passes that over all, which
 -- fits. Measure: the sizes that are left. Assumes nothing.
 use Prim.Native.Nat.{◌-◌}
-use mathlib.Core.Path.{refl}
-use native.Mathlib.Omega.{arith}
 use lib.ListN.{length}
-use borrow.Author.Rules.{rules}
-use Rattle.overhead.proofs.Turns.{Summing, summing_begins, Turn, turn, summing_goes_on, summing_ends}
+use Rattle.overhead.proofs.Turns.{Summing}
 use Rattle.overhead.proofs.totals.sums.Given as goal
 
 abbrev pub invariant-loop-i : goal.invariant-loop-i

@@ -1,5 +1,5 @@
 -- `block::order::Ordering::sign`: each arm by the ordering that it knows. Assumes nothing.
-use Rattle.std.proofs.Common.{◌≡◌, sym, ap, rules}
+use Rattle.std.proofs.Common.{◌≡◌, sym, ap}
 use Rattle.block.specs.Order.{sign}
 use Rattle.block.specs.declared.order.Ordering.{Ordering}
 use Rattle.block.proofs.order.Ordering.sign.Goals as goal

@@ -1,5 +1,4 @@
 -- `frame::Pointer::frame_holds`: the header's half of the frame, then the last byte's. Assumes nothing.
-use borrow.Author.Rules.{rules}
 use borrow.Author.Tests.{eq-eqb, ne_eqb}
 use native.Mathlib.Omega.{arith}
 use lib.Pow.{shr_le}

@@ -1,5 +1,4 @@
 -- `frame::Pointer::frame_tag_good`: `good_tag`, test by test. Assumes nothing.
-use borrow.Author.Rules.{rules}
 use borrow.Author.Tests.{lt-ltb, le-ltb}
 use Rattle.frame.specs.Pointers.{good_tag}
 use Rattle.frame.proofs.parts.Pointer.frame_tag_good.Goals as goal

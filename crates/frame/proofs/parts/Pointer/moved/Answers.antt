@@ -1,5 +1,4 @@
 -- `frame::Pointer::moved`: each way out is a law of `Moves`, over the tests that were passed before it. Assumes nothing.
-use borrow.Author.Rules.{rules}
 use Rattle.frame.proofs.Moves.{far, sum_fits, negative, address_fits, past, within, elsewhere}
 use Rattle.frame.proofs.parts.Pointer.moved.Goals as goal
 

@@ -1,5 +1,4 @@
 -- `frame::Pointer::pack`: the three parts have no bit in common, so that `|` adds them. Assumes nothing.
-use borrow.Author.Rules.{rules}
 use Rattle.frame.specs.Pointers.{pack}
 use Rattle.frame.proofs.Shifts.{packed}
 use Rattle.frame.proofs.parts.Pointer.pack.Goals as goal

@@ -1,9 +1,7 @@
 -- `frame::Pointer::reach`: `good_tag`, by the flag. Assumes nothing.
-use borrow.Author.Rules.{rules}
-use borrow.Author.Tests.{not-true, not-false}
 use mathlib.Core.Path.{sym, ◌∙◌}
 use native.Mathlib.Omega.{arith}
-use Rattle.frame.specs.Pointers.{good_tag, reach}
+use Rattle.frame.specs.Pointers.{reach}
 use Rattle.frame.specs.laws.Pointers.{good_large, reach_of}
 use Rattle.frame.proofs.parts.Pointer.reach.Goals as goal
 

@@ -1,5 +1,4 @@
 -- `frame::Pointer::slot_tag_good`: nothing is left of the tag number above the slot's bits. Assumes nothing.
-use borrow.Author.Rules.{rules}
 use Rattle.frame.specs.Pointers.{good_tag}
 use Rattle.frame.proofs.Shifts.{shr_none}
 use Rattle.frame.proofs.parts.Pointer.slot_tag_good.Goals as goal

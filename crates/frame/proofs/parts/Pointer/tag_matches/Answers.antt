@@ -1,12 +1,10 @@
 -- `frame::Pointer::tag_matches`: each way out is a way through the test (`Tests`). Assumes nothing.
 use Prim.Native.Nat.{◌≤◌, ◌<◌}
 use mathlib.Core.Path.{sym, ◌∙◌}
-use borrow.Author.Tests.{not-true, not-false}
 use native.Mathlib.Nat.{div-mul-le_self}
 use native.Mathlib.Omega.{arith}
 use Rattle.frame.specs.laws.Pointers.{good_large}
 use Rattle.frame.proofs.Tests.{Held, not_small, small, not_within, within}
-use borrow.Author.Rules.{rules}
 use Rattle.frame.proofs.parts.Pointer.tag_matches.Goals as goal
 
 pub overflow_sub-result : goal.overflow_sub-result

@@ -1,6 +1,5 @@
 -- `frame::tag::Tagged::pointer`: the pointer of either case. Assumes nothing.
 use Rattle.frame.specs.laws.Tags.{tagged_pointer}
-use borrow.Author.Rules.{rules}
 use Rattle.frame.proofs.tag.Tagged.pointer.Goals as goal
 
 -- a small-framed object's
