@@ -240,7 +240,7 @@ fn told(case: &Case, folder: &Path, names: &[&str]) -> Vec<String> {
 /// A folder, one that is missing, a full device, names that are too long; whichever of the two files it is, the other is written.
 #[test]
 fn not_writable() {
-    // the system's longest path has 4,095 bytes, and the longest argument that is read 4,096
+    // the system's longest path has 4,095 bytes, and the longest name that is read 4,096
     let [path, word, longer] = [4095, 4096, 4097].map(|length| "x/".repeat(length).split_off(length));
     let name = "x".repeat(256);
     for case in [Case::replay(show()), Case::traffic(7, 500)] {
@@ -253,6 +253,10 @@ fn not_writable() {
             (&word, format!("{word}: File name too long")),
             (&longer, "name of a dump: File name too long".to_string()),
         ] {
+            // `traffic` reads no word that is longer, and refuses it
+            if !case.words.is_empty() && name == longer {
+                continue;
+            }
             let folder = Folder::new();
             assert_eq!(told(&case, &folder.0, &[name, name]), [&line[..], &line]);
             assert!(folder.files().is_empty());
@@ -283,6 +287,7 @@ fn refused_arguments() {
         &["x", "10", "IMAGE=image", "TABLE=table"],
         &["x", "IMAGE=image"],
         &["0", "x", "IMAGE=image"],
+        &["0", "10", &format!("IMAGE={}", "x".repeat(4097))],
     ] {
         let folder = Folder::new();
         let case = Case { words: Vec::new(), ..Case::traffic(0, 10) };
