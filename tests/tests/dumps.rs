@@ -231,7 +231,7 @@ fn words_without_meaning() {
 fn told(case: &Case, folder: &Path, names: &[&str]) -> Vec<String> {
     let Output { status, stdout, stderr } = case.run(folder, &words(names));
     assert!(stdout == case.output, "{names:?}");
-    assert_eq!(status.code(), Some(0), "a Rattle program has no other");
+    assert_eq!(status.code(), Some(0), "{names:?}");
     let text = String::from_utf8(stderr).unwrap();
     assert!(text.is_empty() || text.ends_with('\n'), "{text:?}");
     text.lines().map(str::to_string).collect()
