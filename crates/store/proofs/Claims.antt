@@ -21,12 +21,12 @@ use Rattle.block.specs.Layout.{slot_exponent, header_at, size_at, extent_at, fie
 use Rattle.block.specs.laws.Soundness.{sound_low, sound-end, sound_live_at}
 use Rattle.block.specs.declared.header.Header.{Header}
 use Rattle.store.specs.State.{State, state, Outcome, IsAccepted, returned, value, comparison_number, comparison_value, distances_number, start_distance, end_distance, usage_number, live_objects, live_bytes, free_bytes, overhead_bytes}
-use Rattle.store.specs.Calls.{set_up_checks, set_up, fresh, cleared, taken_extent, allocate_checks, noted, allotted, allocate_for, free_release, free, move, move_answer, load, load_answer, store_checks, store, fill_checks, fill, copy_checks, copy, compare, copy_text_checks, copy_text, release_checks, pointers_to, cue_pointers, free_each, release_cue, free_total, tally, opening, from_start, to_end, distances, has_type}
+use Rattle.store.specs.Calls.{set_up_checks, set_up, fresh, cleared, taken_extent, allocate_checks, noted, allotted, allocate_for, free_release, free, move, move_answer, load, load_answer, store_checks, store, fill_checks, fill, copy_checks, copy, compare, copy_text_checks, copy_text, release_checks, pointers_to, cue_pointers, free_each, release_cue, free_total, tally, from_start, to_end, distances, has_type}
 use Rattle.store.specs.laws.Shapes.{shape_itself, shape_then}
 use Rattle.store.specs.laws.Refusals.{not-accepted}
 use Rattle.store.specs.laws.SetUp.{Settable, settable_parts, set_up_declined, set_up_done, length-fresh}
 use Rattle.store.specs.laws.Opening.{Open, opening_kept}
-use Rattle.store.specs.laws.TagReading.{Stands, Located, located_object, located_leads, located-at, FoundAt, read_found, read-refused}
+use Rattle.store.specs.laws.TagReading.{Stands, Located, located_object, located_leads, located-at, FoundAt, read_found}
 use Rattle.store.specs.laws.Access.{accessed_again}
 use Rattle.store.specs.laws.Distances.{distances-sum, start_is, end_is, found_body, found_base, distances-found, distances_refused}
 use Rattle.store.specs.laws.Allocate.{Allocates, allocate_parts, allocate_declined, allocate_done, CarvedHeader, carved-header, length-allotted, allotted_exponent, allotted-header}

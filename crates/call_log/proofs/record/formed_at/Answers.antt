@@ -1,8 +1,6 @@
 -- `call_log::record::formed_at`: each way out is a law of `Reading`. Assumes nothing.
 use mathlib.Core.Path.{sym, ◌∙◌}
 use native.Mathlib.Omega.{arith}
-use borrow.Author.Rules.{rules}
-use borrow.Author.Tests.{not-false, not-true}
 use Rattle.call_log.proofs.Reading.{kind_low, kind_high, length_wrong, value_wrong, well_formed_lem}
 use Rattle.call_log.proofs.record.formed_at.Goals as goal
 

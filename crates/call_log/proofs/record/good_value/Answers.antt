@@ -1,7 +1,6 @@
 -- `call_log::record::good_value`: only kind 21 has such a value. Assumes nothing.
 use mathlib.Core.Path.{◌≡◌, refl, ap}
 use native.Mathlib.Omega.{arith}
-use borrow.Author.Rules.{rules}
 use borrow.Author.Tests.{eq-eqb, ne_eqb}
 use Rattle.call_log.specs.Records.{field_bytes, good_value}
 use Rattle.call_log.proofs.record.good_value.Goals as goal

@@ -1,6 +1,5 @@
 -- `call_log::record::next_at`: the end, or a way out that is a law of `Reading`. Assumes nothing.
 use mathlib.Core.Path.{sym, ◌∙◌}
-use borrow.Author.Rules.{rules}
 use Rattle.call_log.specs.laws.Records.{next-end}
 use Rattle.call_log.proofs.Reading.{few_left, too_short, too_long, not_cut}
 use Rattle.call_log.proofs.record.next_at.Goals as goal

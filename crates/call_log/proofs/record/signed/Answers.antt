@@ -1,5 +1,4 @@
 -- `call_log::record::signed`: below 2^63 the number itself, above it what is missing to 2^64, below zero. Assumes nothing.
-use borrow.Author.Rules.{rules}
 use Rattle.call_log.proofs.Reading.{word_low, word_fits, word_high}
 use Rattle.call_log.proofs.record.signed.Goals as goal
 

@@ -1,5 +1,4 @@
 -- `call_log::record::u16_at`: a number in 2 bytes has 16 bits. Assumes nothing.
-use borrow.Author.Rules.{rules}
 use Rattle.block.specs.laws.Fields.{field_bound}
 use Rattle.call_log.proofs.record.u16_at.Goals as goal
 

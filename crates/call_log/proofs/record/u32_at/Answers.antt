@@ -1,5 +1,4 @@
 -- `call_log::record::u32_at`: a number in 4 bytes has 32 bits. Assumes nothing.
-use borrow.Author.Rules.{rules}
 use Rattle.block.specs.laws.Fields.{field_bound}
 use Rattle.call_log.proofs.record.u32_at.Goals as goal
 

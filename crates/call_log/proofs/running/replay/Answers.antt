@@ -1,13 +1,11 @@
-use Prim.Native.Nat.{◌-◌, ◌≤◌}
+use Prim.Native.Nat.{◌≤◌}
 use mathlib.Core.Path.{◌≡◌, refl, sym, ◌∙◌}
 use native.Mathlib.Omega.{arith}
 use lib.ListN.{length}
-use borrow.Author.Rules.{rules}
-use Rattle.store.specs.State.{state}
 use Rattle.call_log.specs.Records.{next_at}
 use Rattle.call_log.specs.laws.Records.{next-behind}
 use Rattle.call_log.specs.declared.record.Next.TheVariants.{Record}
-use Rattle.call_log.proofs.Turns.{Running, not-begun, ended, broken, went_on}
+use Rattle.call_log.proofs.Turns.{not-begun, ended, broken, went_on}
 use Rattle.call_log.proofs.running.replay.Goals as goal
 
 -- the line of a malformed record fits

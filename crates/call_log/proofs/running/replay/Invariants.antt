@@ -1,15 +1,10 @@
 -- `call_log::running::replay`. Invariant: the rest of the log, run from here, gives the rest of the whole run (`Running`). Measure: what is left of the log.
 -- Assumes nothing.
-use Prim.Native.Nat.{◌-◌, ◌≤◌}
-use mathlib.Core.Path.{◌≡◌, refl, sym, ◌∙◌}
-use native.Mathlib.Omega.{arith}
+use Prim.Native.Nat.{◌-◌}
+use mathlib.Core.Path.{◌≡◌}
 use lib.ListN.{length}
-use borrow.Author.Rules.{rules}
 use Rattle.store.specs.State.{state}
-use Rattle.call_log.specs.Records.{next_at}
-use Rattle.call_log.specs.laws.Records.{next-behind}
-use Rattle.call_log.specs.declared.record.Next.TheVariants.{Record}
-use Rattle.call_log.proofs.Turns.{Running, not-begun, ended, broken, went_on}
+use Rattle.call_log.proofs.Turns.{Running}
 use Rattle.call_log.proofs.running.replay.Given as goal
 
 abbrev pub invariant-loop-f : goal.invariant-loop-f

@@ -1,6 +1,5 @@
 -- `call_log::text::digit`: the two cases are those of the definition. Assumes nothing.
 use mathlib.Core.Path.{refl}
-use borrow.Author.Rules.{rules}
 use borrow.Author.Tests.{lt-ltb, le-ltb}
 use Rattle.call_log.specs.Text.{digit}
 use Rattle.call_log.proofs.text.digit.Goals as goal

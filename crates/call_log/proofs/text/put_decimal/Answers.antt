@@ -1,6 +1,5 @@
 -- `call_log::text::put_decimal`: one digit or two, which are the number in decimal. Assumes nothing.
 use mathlib.Core.Path.{refl, ◌∙◌}
-use borrow.Author.Rules.{rules}
 use Rattle.call_log.proofs.Texts.{decimal_one, decimal_two, decimal-put}
 use Rattle.call_log.proofs.text.put_decimal.Goals as goal
 

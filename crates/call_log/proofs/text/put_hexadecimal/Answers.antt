@@ -1,9 +1,8 @@
-use Prim.Native.Nat.{◌+◌, ◌-◌, ◌/◌, ◌^◌, ◌≤◌}
+use Prim.Native.Nat.{◌+◌, ◌-◌}
 use mathlib.Core.Path.{◌≡◌, refl, sym, ap, ◌∙◌}
 use native.Mathlib.Nat.{add-zero, div-one}
 use native.Mathlib.Omega.{arith}
-use lib.ListN.{length, set, length-set}
-use Rattle.block.specs.Bytes.{put}
+use lib.ListN.{set, length-set}
 use Rattle.block.specs.laws.Writes.{put_nil}
 use Rattle.call_log.specs.Text.{hexadecimal}
 use Rattle.call_log.proofs.Texts.{hex_turn, rest_turn}

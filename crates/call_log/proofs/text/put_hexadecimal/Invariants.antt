@@ -1,13 +1,9 @@
 -- `call_log::text::put_hexadecimal`. Invariant: the digits behind the first i are put, and `rest` has the others. Measure: i. Assumes nothing.
 use Prim.Native.Nat.{◌+◌, ◌-◌, ◌/◌, ◌^◌, ◌≤◌}
-use mathlib.Core.Path.{◌≡◌, refl, sym, ap, ◌∙◌}
-use native.Mathlib.Nat.{add-zero, div-one}
-use native.Mathlib.Omega.{arith}
-use lib.ListN.{length, set, length-set}
+use mathlib.Core.Path.{◌≡◌}
+use lib.ListN.{length}
 use Rattle.block.specs.Bytes.{put}
-use Rattle.block.specs.laws.Writes.{put_nil}
 use Rattle.call_log.specs.Text.{hexadecimal}
-use Rattle.call_log.proofs.Texts.{hex_turn, rest_turn}
 use Rattle.call_log.proofs.text.put_hexadecimal.Given as goal
 
 abbrev pub invariant-loop-i : goal.invariant-loop-i

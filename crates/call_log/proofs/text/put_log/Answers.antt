@@ -1,5 +1,4 @@
 -- `call_log::text::put_log`: four bytes, one behind the other. Assumes nothing.
-use borrow.Author.Rules.{rules}
 use Rattle.call_log.proofs.Texts.{word-put}
 use Rattle.call_log.proofs.text.put_log.Goals as goal
 

@@ -3,7 +3,6 @@ use Prim.Native.Nat.{◌≤◌}
 use mathlib.Core.Path.{sym}
 use native.Mathlib.Omega.{arith}
 use lib.ListN.{length}
-use borrow.Author.Rules.{rules}
 use Rattle.call_log.specs.Text.{decimal}
 use Rattle.call_log.proofs.Texts.{length-decimal, length_closed, put_next}
 use Rattle.call_log.proofs.text.put_number.Goals as goal

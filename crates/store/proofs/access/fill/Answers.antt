@@ -6,7 +6,6 @@ use Rattle.store.specs.State.{state, outcome}
 use Rattle.store.specs.Calls.{fill_checks}
 use Rattle.store.specs.laws.Fill.{fill_parts, fill_declined, fill_done}
 use Rattle.store.specs.declared.answer.Answer.TheVariants.{Accepted}
-use borrow.Author.Rules.{rules}
 use Rattle.store.proofs.access.fill.Goals as goal
 
 -- row 4, 5, 6, 10, 11 or 13

@@ -1,7 +1,6 @@
 -- `store::fillable` meets its contract: 4 and 5 (`opening`), 6, then 10, 11 and 13 by the flag. Assumes nothing.
 use mathlib.Core.Path.{◌≡◌, sym, ap, ◌∙◌}
 use native.Mathlib.Omega.{arith}
-use Rattle.frame.specs.Pointers.{unpack}
 use Rattle.frame.specs.declared.parts.Pointer.{Pointer}
 use Rattle.store.specs.State.{state}
 use Rattle.store.specs.Calls.{opening, accessed, fill_checks}
@@ -9,7 +8,6 @@ use Rattle.store.specs.laws.Opening.{opening_parts}
 use Rattle.store.specs.laws.TagReading.{asks_small, asks_large}
 use Rattle.store.specs.laws.Fill.{fill_shut, fill_empty, fill_access}
 use Rattle.store.specs.declared.answer.Answer.TheVariants.{Accepted}
-use borrow.Author.Rules.{rules}
 use Rattle.store.proofs.access.fillable.Goals as goal
 
 -- row 6

@@ -2,13 +2,11 @@
 use mathlib.Core.Path.{◌≡◌, sym, ◌∙◌}
 use mathlib.Core.Bool.{true}
 use native.Mathlib.Omega.{arith}
-use borrow.Author.Tests.{not-true, not-false}
 use Rattle.store.specs.State.{State, state}
 use Rattle.store.specs.Calls.{opening, good_width}
 use Rattle.store.specs.laws.Opening.{opening_parts}
 use Rattle.store.specs.declared.answer.Answer.TheVariants.{Accepted}
 use Rattle.store.specs.laws.Load.{load_shut, load_width}
-use borrow.Author.Rules.{rules}
 use Rattle.store.proofs.access.load.Goals as goal
 
 -- row 14

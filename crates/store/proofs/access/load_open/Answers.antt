@@ -1,8 +1,7 @@
 -- `store::load_open` meets its contract: 10, 11 and 13 by the flag, then the field (`loaded`). Assumes nothing.
-use Prim.Native.Nat.{ℕ, ◌<◌, ◌^◌}
+use Prim.Native.Nat.{◌<◌, ◌^◌}
 use mathlib.Core.Path.{◌≡◌, sym, ap, ◌∙◌}
 use native.Mathlib.Omega.{arith}
-use Rattle.frame.specs.Pointers.{unpack}
 use Rattle.frame.specs.declared.parts.Pointer.{Pointer}
 use Rattle.block.specs.Bytes.{field}
 use Rattle.store.specs.State.{State, state, and_then}
@@ -12,7 +11,6 @@ use Rattle.store.specs.laws.Access.{accessed_parts, width_range}
 use Rattle.store.specs.laws.Load.{load_open}
 use Rattle.store.specs.declared.answer.Answer.{Answer}
 use Rattle.store.specs.declared.answer.Answer.TheVariants.{Accepted}
-use borrow.Author.Rules.{rules}
 use Rattle.store.proofs.access.load_open.Goals as goal
 
 pub access_small-a-requires : goal.access_small-a-requires

@@ -7,7 +7,6 @@ use Rattle.store.specs.State.{and_then}
 use Rattle.store.specs.laws.Access.{width_range}
 use Rattle.store.specs.declared.answer.Answer.{Answer}
 use Rattle.store.specs.declared.answer.Answer.TheVariants.{Accepted}
-use borrow.Author.Rules.{rules}
 use Rattle.store.proofs.access.loaded.Goals as goal
 
 -- what follows an address

@@ -2,8 +2,6 @@
 use mathlib.Core.Path.{◌≡◌, sym, ap, ◌∙◌}
 use mathlib.Core.Bool.{true}
 use native.Mathlib.Omega.{arith}
-use borrow.Author.Tests.{not-true, not-false}
-use Rattle.frame.specs.Pointers.{unpack}
 use Rattle.frame.specs.declared.parts.Pointer.{Pointer}
 use Rattle.store.specs.State.{state}
 use Rattle.store.specs.Calls.{opening, good_width, accessed, store_checks}
@@ -12,7 +10,6 @@ use Rattle.store.specs.laws.TagReading.{asks_small, asks_large}
 use Rattle.store.specs.laws.Access.{width_range}
 use Rattle.store.specs.laws.Store.{store_shut, store_width, store-large, store_access}
 use Rattle.store.specs.declared.answer.Answer.TheVariants.{Accepted}
-use borrow.Author.Rules.{rules}
 use Rattle.store.proofs.access.storable.Goals as goal
 
 -- row 14

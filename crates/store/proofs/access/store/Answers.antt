@@ -7,7 +7,6 @@ use Rattle.store.specs.Calls.{store_checks}
 use Rattle.store.specs.laws.Access.{width_range}
 use Rattle.store.specs.laws.Store.{store_parts, store_declined, store_done}
 use Rattle.store.specs.declared.answer.Answer.TheVariants.{Accepted}
-use borrow.Author.Rules.{rules}
 use Rattle.store.proofs.access.store.Goals as goal
 
 pub write_field-requires : goal.write_field-requires

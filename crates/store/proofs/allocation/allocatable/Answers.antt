@@ -3,7 +3,6 @@ use mathlib.Core.Path.{◌≡◌, sym, ap, ◌∙◌}
 use Prim.Native.Nat.{◌+◌, ◌^◌, ◌≤◌, ◌<◌}
 use native.Mathlib.Omega.{arith}
 use lib.ListN.{length}
-use borrow.Author.Tests.{not-true, not-false}
 use Rattle.frame.specs.Tags.{wrapper, entry_of}
 use Rattle.frame.specs.declared.tag.Tagged.{Tagged}
 use Rattle.block.specs.Walk.{LowestFit, first_fit}
@@ -15,7 +14,6 @@ use Rattle.store.specs.laws.Opening.{opening_parts}
 use Rattle.store.specs.laws.Entries.{holds_for, tagged_in, tagged-holds}
 use Rattle.store.specs.laws.Allocate.{site_refused, site_at, allocate_unsound, allocate_full, allocate_taken, allocate_wrong, allocate-given}
 use Rattle.store.proofs.Carving.{fit_needs}
-use borrow.Author.Rules.{rules}
 use Rattle.store.proofs.allocation.allocatable.Goals as goal
 
 pub tag_object-t-requires : goal.tag_object-t-requires

@@ -11,7 +11,6 @@ use Rattle.store.specs.laws.Allocate.{Allocates, allocate_parts, allocate_shut, 
 use Rattle.store.specs.laws.Entries.{noted_for, tagged_in, tagged-noted}
 use Rattle.store.specs.declared.answer.Answer.TheVariants.{Accepted}
 use Rattle.store.proofs.Carving.{fit_needs}
-use borrow.Author.Rules.{rules}
 use Rattle.store.proofs.allocation.allocate_for.Goals as goal
 
 pub note-requires : goal.note-requires

@@ -1,7 +1,6 @@
 -- `store::allocation::allot` meets its contract: the total is read and the extent taken from it before the block is carved. Assumes nothing.
 use native.Mathlib.Omega.{arith}
 use Rattle.block.specs.laws.Soundness.{sound_in}
-use borrow.Author.Rules.{rules}
 use Rattle.store.proofs.allocation.allot.Goals as goal
 
 pub stored_total-requires : goal.stored_total-requires

@@ -2,7 +2,6 @@
 use native.Mathlib.Omega.{arith}
 use Rattle.block.specs.laws.Soundness.{sound_in, sound-end}
 use Rattle.store.specs.laws.Allocate.{carved-whole, carved_rest}
-use borrow.Author.Rules.{rules}
 use Rattle.store.proofs.allocation.carve.Goals as goal
 
 pub overflow_add-h : goal.overflow_add-h

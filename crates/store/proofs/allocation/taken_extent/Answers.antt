@@ -2,7 +2,6 @@
 use native.Mathlib.Omega.{arith}
 use Rattle.block.specs.laws.Soundness.{sound_in}
 use Rattle.store.specs.laws.Allocate.{taken_whole, taken_rest}
-use borrow.Author.Rules.{rules}
 use Rattle.store.proofs.allocation.taken_extent.Goals as goal
 
 -- all of it

@@ -7,7 +7,6 @@ use Rattle.descriptors.specs.laws.Lists.{head_here, end_reached, lookup_stands}
 use Rattle.descriptors.specs.declared.descriptor.Descriptor.{Descriptor}
 use Rattle.descriptors.specs.declared.descriptor.Lookup.TheVariants.{At}
 use Rattle.store.specs.laws.Casts.{described_unlisted, described_short, described-at}
-use borrow.Author.Rules.{rules}
 use Rattle.store.proofs.casting.described.Goals as goal
 
 pub read_descriptor-d-requires : goal.read_descriptor-d-requires

@@ -5,7 +5,6 @@ use native.Mathlib.Omega.{arith}
 use mir.Syntax.{w64}
 use mir.Val.{SFits, to_z, of_z}
 use mir.Facts.{to_z-of_z}
-use borrow.Author.Tests.{not-true, not-false}
 use Rattle.frame.specs.Pointers.{unpack}
 use Rattle.block.specs.Layout.{type_at}
 use Rattle.block.specs.declared.header.Header.{Header}

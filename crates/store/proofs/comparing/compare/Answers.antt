@@ -14,7 +14,6 @@ use Rattle.store.specs.laws.Copy.{copy_shut, copy_empty, copy-refused, copy_acce
 use Rattle.store.specs.laws.Compare.{compare_declined, compare_done}
 use Rattle.store.specs.declared.answer.Answer.TheVariants.{Accepted}
 use Rattle.store.specs.declared.comparing.Comparison.TheVariants as comparison
-use borrow.Author.Rules.{rules}
 use Rattle.store.proofs.comparing.compare.Goals as goal
 
 pub compare_runs-o-requires : goal.compare_runs-o-requires

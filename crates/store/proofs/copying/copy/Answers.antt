@@ -11,7 +11,6 @@ use Rattle.store.specs.State.{state, outcome}
 use Rattle.store.specs.Calls.{copy_checks}
 use Rattle.store.specs.laws.Copy.{copy_parts, copy_declined, copy_done}
 use Rattle.store.specs.declared.answer.Answer.TheVariants.{Accepted}
-use borrow.Author.Rules.{rules}
 use Rattle.store.proofs.copying.copy.Goals as goal
 
 pub copy_within-requires : goal.copy_within-requires

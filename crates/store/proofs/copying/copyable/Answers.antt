@@ -7,7 +7,6 @@ use Rattle.store.specs.Calls.{opening}
 use Rattle.store.specs.laws.Opening.{opening_parts}
 use Rattle.store.specs.laws.Copy.{copy_shut, copy_empty, copy-refused, copy_access}
 use Rattle.store.specs.declared.answer.Answer.TheVariants.{Accepted}
-use borrow.Author.Rules.{rules}
 use Rattle.store.proofs.copying.copyable.Goals as goal
 
 -- row 6

@@ -4,7 +4,6 @@ use Rattle.store.specs.State.{state}
 use Rattle.store.specs.Calls.{opening}
 use Rattle.store.specs.laws.Tally.{tally_shut, tally_unsound, tally-counts}
 use Rattle.store.specs.declared.answer.Answer.TheVariants.{Accepted}
-use borrow.Author.Rules.{rules}
 use Rattle.store.proofs.counting.tally.Goals as goal
 
 -- row 4 or 5

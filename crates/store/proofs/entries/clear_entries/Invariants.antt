@@ -1,11 +1,9 @@
 -- `store::entries::clear_entries` meets its contract. The loop's invariant: the first i entries are zero, the rest is as it was. The measure is what is left of n.
 -- Assumes nothing.
-use mathlib.Core.Path.{◌≡◌, refl, ap, ◌∙◌}
-use mathlib.Core.List.{List, ◌++◌}
-use Prim.Native.Nat.{ℕ, ◌-◌, ◌≤◌}
-use native.Mathlib.Omega.{arith}
-use lib.ListN.{length, drop, set, replicate, length-set}
-use Rattle.store.proofs.Fresh.{clear_turn}
+use mathlib.Core.Path.{◌≡◌}
+use mathlib.Core.List.{◌++◌}
+use Prim.Native.Nat.{◌-◌, ◌≤◌}
+use lib.ListN.{length, drop, replicate}
 use Rattle.store.proofs.entries.clear_entries.Given as goal
 
 abbrev pub invariant-loop-i : goal.invariant-loop-i

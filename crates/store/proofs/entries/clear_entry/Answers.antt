@@ -8,7 +8,6 @@ use borrow.Author.Tests.{not-true, not-false}
 use Rattle.frame.specs.Frame.{frame_start}
 use Rattle.frame.specs.laws.Pointers.{good_large, reach-large}
 use Rattle.store.specs.laws.Entries.{cleared_small, cleared-large}
-use borrow.Author.Rules.{rules}
 use Rattle.store.proofs.entries.clear_entry.Goals as goal
 
 pub entry_index-entry-requires : goal.entry_index-entry-requires

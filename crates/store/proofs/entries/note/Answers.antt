@@ -3,7 +3,6 @@ use Prim.Native.Nat.{◌<◌}
 use native.Mathlib.Omega.{arith}
 use lib.ListN.{length}
 use Rattle.store.specs.laws.Entries.{EntryIn, noted_for}
-use borrow.Author.Rules.{rules}
 use Rattle.store.proofs.entries.note.Goals as goal
 
 -- small-framed

@@ -5,7 +5,6 @@ use Rattle.frame.specs.declared.parts.Pointer.{Pointer}
 use Rattle.store.specs.State.{State, state}
 use Rattle.store.specs.Calls.{accessed}
 use Rattle.store.specs.laws.TagReading.{asks_small, asks_large}
-use borrow.Author.Rules.{rules}
 use Rattle.store.proofs.locate.access.Goals as goal
 
 pub access_small-requires : goal.access_small-requires

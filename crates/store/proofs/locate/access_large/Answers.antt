@@ -3,7 +3,6 @@ use mathlib.Core.Path.{ap, ◌∙◌}
 use Rattle.store.specs.State.{state}
 use Rattle.store.specs.laws.Access.{reached_by, reached_by_lem}
 use Rattle.store.specs.declared.locate.Found.{Found}
-use borrow.Author.Rules.{rules}
 use Rattle.store.proofs.locate.access_large.Goals as goal
 
 pub returns : goal.returns

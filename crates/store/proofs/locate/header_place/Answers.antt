@@ -6,7 +6,6 @@ use native.Mathlib.Nat.{div-mul-le_self}
 use native.Mathlib.Omega.{arith}
 use Rattle.frame.specs.laws.Pointers.{good_large, reach-large}
 use Rattle.store.specs.laws.TagReading.{place_small, place-large}
-use borrow.Author.Rules.{rules}
 use Rattle.store.proofs.locate.header_place.Goals as goal
 
 pub overflow_add-result : goal.overflow_add-result

@@ -6,7 +6,6 @@ use mathlib.Core.Bool.{true}
 use native.Mathlib.Nat.{lt_of_lt_of_le}
 use native.Mathlib.Omega.{arith}
 use lib.ListN.{length, get_or}
-use borrow.Author.Tests.{not-true, not-false}
 use Rattle.frame.specs.Frame.{frame_start}
 use Rattle.frame.specs.Pointers.{good_tag}
 use Rattle.frame.specs.laws.Pointers.{good_large, reach-large}

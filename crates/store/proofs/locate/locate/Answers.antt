@@ -13,7 +13,6 @@ use Rattle.store.specs.State.{State, state}
 use Rattle.store.specs.Calls.{read_tag}
 use Rattle.store.specs.laws.Opening.{Open, opening_parts}
 use Rattle.store.specs.laws.TagReading.{bad_tag, starts_past, starts_in, found_by, found-refused}
-use borrow.Author.Rules.{rules}
 use Rattle.store.proofs.locate.locate.Goals as goal
 
 pub frame_start-requires : goal.frame_start-requires

@@ -7,7 +7,6 @@ use mir.Syntax.{w64}
 use mir.Val.{SFits, to_z, of_z}
 use mir.Facts.{to_z-of_z, to_z_pos}
 use Rattle.store.specs.laws.Distances.{difference_fits, start_is, end_is}
-use borrow.Author.Rules.{rules}
 use Rattle.store.proofs.locate.measure.Goals as goal
 
 -- a difference in the machine

@@ -1,13 +1,11 @@
 -- `store::reached` meets its contract: what reading the tag gave, then 13 (`in_body`). Assumes nothing.
-use mathlib.Core.Path.{◌≡◌, sym, ap, ◌∙◌}
+use mathlib.Core.Path.{sym, ap, ◌∙◌}
 use mathlib.Core.Bool.{Bool}
-use borrow.Author.Tests.{not-true, not-false}
 use Rattle.store.specs.State.{demand}
 use Rattle.store.specs.laws.Access.{reached_by}
 use Rattle.store.specs.declared.answer.Refusal.TheVariants.{OutOfBounds}
 use Rattle.store.specs.declared.answer.Answer.TheVariants.{Accepted}
 use Rattle.store.specs.declared.locate.Found.{Found}
-use borrow.Author.Rules.{rules}
 use Rattle.store.proofs.locate.reached.Goals as goal
 
 -- row 13

@@ -1,13 +1,12 @@
 -- `store::small_object` meets its contract: 10 by the tag number; 11 where no live header stands at its place of the slot, or the slot does not hold its object.
 -- Assumes nothing.
 use Prim.Native.Nat.{ℕ, ◌+◌, ◌^◌, ◌≤◌}
-use mathlib.Core.Path.{◌≡◌, refl, sym, ap, ◌∙◌}
+use mathlib.Core.Path.{◌≡◌, sym, ap, ◌∙◌}
 use mathlib.Core.Bool.{true}
 use mathlib.Core.List.{List}
 use native.Mathlib.Nat.{div-mul-le_self}
 use native.Mathlib.Omega.{arith}
 use lib.ListN.{length}
-use borrow.Author.Tests.{not-true, not-false}
 use Rattle.frame.specs.Pointers.{good_tag}
 use Rattle.block.specs.Layout.{size_at, is_live, sound}
 use Rattle.block.specs.laws.Soundness.{sound-end, sound_live, object_is}
@@ -15,7 +14,6 @@ use Rattle.store.specs.State.{state}
 use Rattle.store.specs.Calls.{header_place}
 use Rattle.store.specs.laws.TagReading.{place_small, bad_tag, led_nowhere, led_small, found_by, found-refused, found-verified, found_dangling}
 use Rattle.store.specs.declared.locate.Found.TheVariants.{At}
-use borrow.Author.Rules.{rules}
 use Rattle.store.proofs.locate.small_object.Goals as goal
 
 pub overflow_add-h : goal.overflow_add-h

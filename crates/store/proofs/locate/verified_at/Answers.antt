@@ -14,7 +14,6 @@ use Rattle.block.specs.declared.header.Header.{Header}
 use Rattle.store.specs.Calls.{verified}
 use Rattle.store.specs.laws.TagReading.{not_sound, not_live, no_match, match, found-verified, found_dangling}
 use Rattle.store.specs.declared.locate.Found.TheVariants.{At}
-use borrow.Author.Rules.{rules}
 use Rattle.store.proofs.locate.verified_at.Goals as goal
 
 -- the block is not live

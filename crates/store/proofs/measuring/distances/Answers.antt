@@ -1,7 +1,6 @@
 -- `store::distances` meets its contract: 4 and 5 (`opening`), then what reading the tag gave. Assumes nothing.
 use mathlib.Core.Path.{◌≡◌, sym, ap, ◌∙◌}
 use native.Mathlib.Omega.{arith}
-use Rattle.frame.specs.Pointers.{unpack}
 use Rattle.frame.specs.declared.parts.Pointer.{Pointer}
 use Rattle.store.specs.State.{State, state}
 use Rattle.store.specs.Calls.{opening, read_tag, distances}
@@ -9,7 +8,6 @@ use Rattle.store.specs.laws.Opening.{opening_parts}
 use Rattle.store.specs.laws.TagReading.{asks_small, asks_large}
 use Rattle.store.specs.laws.Distances.{measured_by, distances_shut, distances-read}
 use Rattle.store.specs.declared.answer.Answer.TheVariants.{Accepted}
-use borrow.Author.Rules.{rules}
 use Rattle.store.proofs.measuring.distances.Goals as goal
 
 -- small-framed

@@ -8,7 +8,6 @@ use Rattle.store.specs.Calls.{opening, move_answer}
 use Rattle.store.specs.laws.Opening.{Open, opening_parts}
 use Rattle.store.specs.laws.Move.{move_shut, move_answer_lem}
 use Rattle.store.specs.declared.answer.Answer.TheVariants.{Accepted}
-use borrow.Author.Rules.{rules}
 use Rattle.store.proofs.moving.offset.Goals as goal
 
 -- row 4 or 5

@@ -7,7 +7,6 @@ use mir.Facts.{to_z-of_z}
 use Rattle.frame.specs.Pointers.{InRange, moved, reach}
 use Rattle.frame.specs.laws.Pointers.{Reaches, unpack_range, reach-within, reach_bad, moved_range}
 use Rattle.store.specs.laws.Move.{moved_bad, moved_out, moved_in}
-use borrow.Author.Rules.{rules}
 use Rattle.store.proofs.moving.offset_in.Goals as goal
 
 pub pack-requires : goal.pack-requires

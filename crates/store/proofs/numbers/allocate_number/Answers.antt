@@ -1,7 +1,6 @@
 -- `store::allocate_number` meets its contract: the parts of what `allocate_for` answers and leaves. Assumes nothing.
 use mathlib.Core.Path.{ap, ◌∙◌}
 use Rattle.store.specs.State.{Outcome, returned, value}
-use borrow.Author.Rules.{rules}
 use Rattle.store.proofs.numbers.allocate_number.Goals as goal
 
 -- what `allocate_for` answered and left

@@ -1,7 +1,6 @@
 -- `store::free_number` meets its contract: the parts of what `free` answers and leaves. Assumes nothing.
 use mathlib.Core.Path.{ap, ◌∙◌}
 use Rattle.store.specs.State.{Outcome, returned}
-use borrow.Author.Rules.{rules}
 use Rattle.store.proofs.numbers.free_number.Goals as goal
 
 -- what `free` answered and left

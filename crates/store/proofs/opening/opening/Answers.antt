@@ -9,7 +9,6 @@ use Rattle.block.specs.laws.Superblock.{superblock_parts, opened_is_good, opened
 use Rattle.store.specs.State.{state}
 use Rattle.store.specs.declared.answer.Answer.TheVariants.{Accepted}
 use Rattle.store.specs.laws.Opening.{opening-passes, not_open, table_short}
-use borrow.Author.Rules.{rules}
 use Rattle.store.proofs.opening.opening.Goals as goal
 
 pub used_entries-used-requires : goal.used_entries-used-requires

@@ -7,7 +7,6 @@ use Rattle.store.specs.laws.Free.{based_by}
 use Rattle.store.specs.declared.answer.Refusal.TheVariants.{NotBase}
 use Rattle.store.specs.declared.answer.Answer.TheVariants.{Accepted}
 use Rattle.store.specs.declared.locate.Found.{Found}
-use borrow.Author.Rules.{rules}
 use Rattle.store.proofs.release.at_base.Goals as goal
 
 -- row 15

@@ -1,13 +1,11 @@
 -- `store::release::base_of` meets its contract: what reading the tag gave, then 15 (`at_base`). Assumes nothing.
 use mathlib.Core.Path.{◌≡◌, ap, ◌∙◌}
-use Rattle.frame.specs.Pointers.{unpack}
 use Rattle.frame.specs.declared.parts.Pointer.{Pointer}
 use Rattle.store.specs.State.{State, state}
 use Rattle.store.specs.Calls.{read_tag, free_checks}
 use Rattle.store.specs.laws.TagReading.{asks_small, asks_large}
 use Rattle.store.specs.laws.Free.{based_by, free_based}
 use Rattle.store.specs.declared.locate.Found.{Found}
-use borrow.Author.Rules.{rules}
 use Rattle.store.proofs.release.base_of.Goals as goal
 
 -- small-framed

@@ -12,14 +12,13 @@ use Rattle.block.specs.declared.header.Header.{Header}
 use Rattle.store.specs.Calls.{released}
 use Rattle.store.specs.laws.Free.{released_lost}
 use Rattle.store.proofs.Merging.{Meets, before_in, released_last, released_bad, released-next}
-use borrow.Author.Rules.{rules}
 use Rattle.store.proofs.release.coalesce.Goals as goal
 
 pub overflow_add-next : goal.overflow_add-next
 overflow_add-next c =
     let image : List ℕ = c.args.image.now in
     let next : ℕ = c.args.h + c.extent_at.result in
-    let meets : let a = c.args in Meets image a.h c.in-After.before next = record { met = sym c.walk_to.ensures ∙ c.in-After.is; follows = ap (λ (n : ℕ). c.args.h + n) c.extent_at.ensures; is_sound = c.requires; } in
+    let meets : let a = c.args in Meets image a.h c.in-After.before next = record { met = sym c.walk_to.ensures ∙ c.in-After.is; follows = ap (λ (n : ℕ). c.args.h + n) c.extent_at.ensures; is_sound = c.requires } in
     omega (arith, meets.follows, sound-end _ _ meets.is_sound)
 
 -- nothing follows
@@ -27,7 +26,7 @@ pub returns-then-next-image : goal.returns-then-next-image
 returns-then-next-image c =
     let image : List ℕ = c.args.image.now in
     let next : ℕ = c.args.h + c.extent_at.result in
-    let meets : let a = c.args in Meets image a.h c.in-After.before next = record { met = sym c.walk_to.ensures ∙ c.in-After.is; follows = ap (λ (n : ℕ). c.args.h + n) c.extent_at.ensures; is_sound = c.requires; } in
+    let meets : let a = c.args in Meets image a.h c.in-After.before next = record { met = sym c.walk_to.ensures ∙ c.in-After.is; follows = ap (λ (n : ℕ). c.args.h + n) c.extent_at.ensures; is_sound = c.requires } in
     rw c.merge_start-from.ensures (sym (released_last meets (omega arith)))
 
 pub merge_end-requires : goal.merge_end-requires
@@ -48,7 +47,7 @@ pub returns-in-Unsound : goal.returns-in-Unsound
 returns-in-Unsound c =
     let image : List ℕ = c.args.image.now in
     let next : ℕ = c.args.h + c.extent_at.result in
-    let meets : let a = c.args in Meets image a.h c.in-After.before next = record { met = sym c.walk_to.ensures ∙ c.in-After.is; follows = ap (λ (n : ℕ). c.args.h + n) c.extent_at.ensures; is_sound = c.requires; } in
+    let meets : let a = c.args in Meets image a.h c.in-After.before next = record { met = sym c.walk_to.ensures ∙ c.in-After.is; follows = ap (λ (n : ℕ). c.args.h + n) c.extent_at.ensures; is_sound = c.requires } in
     let inside : next < length image = omega (arith, meets.follows, sound-end _ _ meets.is_sound) in
     sym (released_bad meets inside (examined_is_unsound _ _ (sym c.examine.ensures ∙ c.in-Unsound.is)))
 
@@ -57,7 +56,7 @@ pub returns-in-Sound : goal.returns-in-Sound
 returns-in-Sound c =
     let image : List ℕ = c.args.image.now in
     let next : ℕ = c.args.h + c.extent_at.result in
-    let meets : let a = c.args in Meets image a.h c.in-After.before next = record { met = sym c.walk_to.ensures ∙ c.in-After.is; follows = ap (λ (n : ℕ). c.args.h + n) c.extent_at.ensures; is_sound = c.requires; } in
+    let meets : let a = c.args in Meets image a.h c.in-After.before next = record { met = sym c.walk_to.ensures ∙ c.in-After.is; follows = ap (λ (n : ℕ). c.args.h + n) c.extent_at.ensures; is_sound = c.requires } in
     let inside : next < length image = omega (arith, meets.follows, sound-end _ _ meets.is_sound) in
     let seen : (sound image next ≡ true) × (c.in-Sound.d ≡ header_at image next) = examined_is_sound _ _ _ (sym c.examine.ensures ∙ c.in-Sound.is) in
     rw (c.merge_start-from.ensures, c.merge_end.ensures) (sym (released-next meets inside _ seen.1 seen.0))
@@ -69,5 +68,5 @@ pub merge_start-from-requires : goal.merge_start-from-requires
 merge_start-from-requires c =
     let image : List ℕ = c.args.image.now in
     let next : ℕ = c.args.h + c.extent_at.result in
-    let meets : let a = c.args in Meets image a.h c.in-After.before next = record { met = sym c.walk_to.ensures ∙ c.in-After.is; follows = ap (λ (n : ℕ). c.args.h + n) c.extent_at.ensures; is_sound = c.requires; } in
+    let meets : let a = c.args in Meets image a.h c.in-After.before next = record { met = sym c.walk_to.ensures ∙ c.in-After.is; follows = ap (λ (n : ℕ). c.args.h + n) c.extent_at.ensures; is_sound = c.requires } in
     before_in meets

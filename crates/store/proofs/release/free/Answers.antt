@@ -15,7 +15,6 @@ use Rattle.store.specs.laws.TagReading.{Located}
 use Rattle.store.specs.laws.Free.{Frees, free_parts, free_shut, free_declined, free_done}
 use Rattle.store.specs.declared.answer.Answer.TheVariants.{Accepted}
 use Rattle.store.specs.declared.release.Release.TheVariants as release
-use borrow.Author.Rules.{rules}
 use Rattle.store.proofs.release.free.Goals as goal
 
 pub give_back-requires : goal.give_back-requires

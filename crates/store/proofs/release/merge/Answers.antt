@@ -1,7 +1,6 @@
 -- `store::release::merge` meets its contract: the bytes from `from` to `to` are filled with zeros, then the free header is put. Assumes nothing.
 use native.Mathlib.Omega.{arith}
 use Rattle.store.proofs.Merging.{merged-over}
-use borrow.Author.Rules.{rules}
 use Rattle.store.proofs.release.merge.Goals as goal
 
 -- one free block

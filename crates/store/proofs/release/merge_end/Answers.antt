@@ -1,6 +1,5 @@
 -- `store::release::merge_end`: the block is free, or it is not. Assumes nothing.
 use borrow.Author.Tests.{eq-eqb, ne_eqb}
-use borrow.Author.Rules.{rules}
 use Rattle.store.proofs.release.merge_end.Goals as goal
 
 -- it is free

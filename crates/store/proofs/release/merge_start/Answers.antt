@@ -2,7 +2,6 @@
 use mathlib.Core.Path.{sym, ◌∙◌}
 use native.Mathlib.Omega.{arith}
 use Rattle.store.proofs.Merging.{starts_first, starts_before, starts_here}
-use borrow.Author.Rules.{rules}
 use Rattle.store.proofs.release.merge_start.Goals as goal
 
 -- h is the first block

@@ -9,7 +9,6 @@ use Rattle.store.specs.Calls.{released, total_fits, totalled}
 use Rattle.store.specs.laws.Free.{released-place, totalled-refused, totalled_merges, totalled_wrong}
 use Rattle.store.specs.declared.release.Release.{Release}
 use Rattle.store.specs.declared.release.Release.TheVariants as release
-use borrow.Author.Rules.{rules}
 use Rattle.store.proofs.release.mergeable.Goals as goal
 
 -- row 7

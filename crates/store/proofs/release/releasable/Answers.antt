@@ -4,7 +4,6 @@ use Rattle.store.specs.State.{state}
 use Rattle.store.specs.Calls.{free_checks}
 use Rattle.store.specs.laws.Free.{free_unchecked, free_checked, free-sound}
 use Rattle.store.specs.declared.answer.Answer.TheVariants.{Accepted}
-use borrow.Author.Rules.{rules}
 use Rattle.store.proofs.release.releasable.Goals as goal
 
 -- row 10, 11 or 15

@@ -3,7 +3,6 @@ use mathlib.Core.Path.{refl}
 use native.Mathlib.Omega.{arith}
 use lib.ListN.{length}
 use Rattle.store.proofs.Fresh.{laid_out}
-use borrow.Author.Rules.{rules}
 use Rattle.store.proofs.setup.lay_out.Goals as goal
 
 -- a fresh image

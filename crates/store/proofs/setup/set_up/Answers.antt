@@ -5,7 +5,6 @@ use Rattle.store.specs.State.{State, state}
 use Rattle.store.specs.Calls.{set_up_checks}
 use Rattle.store.specs.declared.answer.Answer.TheVariants.{Accepted}
 use Rattle.store.specs.laws.SetUp.{Settable, settable_parts, set_up_declined, set_up_done}
-use borrow.Author.Rules.{rules}
 use Rattle.store.proofs.setup.set_up.Goals as goal
 
 -- row 1, 2 or 3

@@ -7,7 +7,6 @@ use lib.ListN.{length}
 use Rattle.block.specs.Layout.{good_exponent, good_length}
 use Rattle.store.specs.laws.SetUp.{set_up_exponent, set_up-length, set_up_few, set_up-passes}
 use Rattle.store.proofs.Fresh.{within_low, within_high, within_in}
-use borrow.Author.Rules.{rules}
 use Rattle.store.proofs.setup.settable.Goals as goal
 
 -- row 1: the exponent is too low

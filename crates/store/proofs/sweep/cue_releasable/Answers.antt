@@ -1,11 +1,6 @@
 use mathlib.Core.Path.{◌≡◌, sym, ◌∙◌}
 use mathlib.Core.Bool.{true}
-use mathlib.Core.Logic.{⊎_elim}
-use Prim.Native.Nat.{◌-◌}
 use native.Mathlib.Omega.{arith}
-use lib.ListN.{length}
-use borrow.Author.Rules.{rules}
-use borrow.Author.Tests.{not-true, not-false}
 use Rattle.block.specs.Walk.{is_of_cue}
 use Rattle.block.specs.laws.Gathering.{cue_live}
 use Rattle.block.specs.laws.Soundness.{sound_low}
@@ -13,7 +8,7 @@ use Rattle.block.specs.laws.Turns.{Seen, seen_at, live_holds}
 use Rattle.store.specs.State.{state}
 use Rattle.store.specs.laws.Opening.{opening_parts}
 use Rattle.store.proofs.Carving.{entry_needs}
-use Rattle.store.proofs.Gathering.{Gathers, gathers_none, gathers_taken, gathers_passed, gathers_unsound, gathers_lost, gathers_wrong, gathers_all}
+use Rattle.store.proofs.Gathering.{gathers_none, gathers_taken, gathers_passed, gathers_unsound, gathers_lost, gathers_wrong, gathers_all}
 use Rattle.store.proofs.sweep.cue_releasable.Goals as goal
 use Rattle.store.proofs.sweep.cue_releasable.Goals.{then-is_of_cue, else-is_of_cue}
 
@@ -51,8 +46,8 @@ loop-d-preserved c =
     let g = c.loop-d.invariant in
     let t = sym c.is_of_cue.ensures in
     elim c.if-is_of_cue.branch [
-      then-is_of_cue w ↦ rw (w.held-is, w.still_held-held.ensures, w.count-is, w.given-is) (gathers_taken g seen (t ∙ w.if-is_of_cue.true))
-    | else-is_of_cue w ↦ rw (w.held-is, w.count-is, w.given-is) (gathers_passed g seen (t ∙ w.if-is_of_cue.false))
+      | then-is_of_cue w ↦ rw (w.held-is, w.still_held-held.ensures, w.count-is, w.given-is) (gathers_taken g seen (t ∙ w.if-is_of_cue.true))
+      | else-is_of_cue w ↦ rw (w.held-is, w.count-is, w.given-is) (gathers_passed g seen (t ∙ w.if-is_of_cue.false))
     ]
 
 pub total_fits-requires : goal.total_fits-requires

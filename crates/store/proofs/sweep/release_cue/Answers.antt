@@ -6,7 +6,6 @@ use Rattle.store.specs.Calls.{opening, release_checks}
 use Rattle.store.specs.laws.Opening.{opening_parts}
 use Rattle.store.specs.laws.Release.{release_shut, release_declined, release_done}
 use Rattle.store.specs.declared.answer.Answer.TheVariants.{Accepted}
-use borrow.Author.Rules.{rules}
 use Rattle.store.proofs.sweep.release_cue.Goals as goal
 
 pub sweep-requires : goal.sweep-requires

@@ -1,5 +1,4 @@
 -- `store::sweep::settle` meets its contract: a run is written, or there is none. Assumes nothing.
-use borrow.Author.Rules.{rules}
 use Rattle.store.specs.laws.Sweep.{settled}
 use Rattle.store.proofs.sweep.settle.Goals as goal
 

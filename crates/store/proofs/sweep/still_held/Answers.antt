@@ -4,7 +4,6 @@ use mathlib.Core.Bool.{Bool, ◌&&◌}
 use Rattle.frame.specs.declared.tag.Tagged.{Tagged}
 use Rattle.store.specs.Calls.{entry_holds}
 use Rattle.store.specs.laws.Entries.{holds_for, tagged_in, tagged-holds}
-use borrow.Author.Rules.{rules}
 use Rattle.store.proofs.sweep.still_held.Goals as goal
 
 pub entry_holds-requires : goal.entry_holds-requires

@@ -1,6 +1,6 @@
 use mathlib.Core.Path.{◌≡◌, refl, sym, ap, ◌∙◌}
 use mathlib.Core.Bool.{true}
-use Prim.Native.Nat.{◌-◌, ◌<◌, ◌≤◌, ◌+◌, ◌^◌}
+use Prim.Native.Nat.{◌<◌, ◌≤◌, ◌+◌, ◌^◌}
 use native.Mathlib.Omega.{arith}
 use lib.ListN.{length}
 use Rattle.frame.specs.Tags.{wrapper, entry_of}
@@ -10,12 +10,11 @@ use Rattle.block.specs.Walk.{is_of_cue}
 use Rattle.block.specs.laws.Soundness.{sound_in}
 use Rattle.block.specs.laws.Turns.{Seen}
 use Rattle.store.specs.State.{state}
-use Rattle.store.specs.Calls.{noted, free_each, cue_pointers}
+use Rattle.store.specs.Calls.{noted}
 use Rattle.store.specs.laws.Opening.{opening_parts}
 use Rattle.store.specs.laws.Entries.{noted_for, tagged_in, tagged-noted}
 use Rattle.store.proofs.Gathering.{pass_begins}
-use Rattle.store.proofs.Runs.{Pass, pass_ends, pass_sees, pass_passes, pass_needs, pass_next, pass_gains, pass_sum, pass_takes}
-use borrow.Author.Rules.{rules}
+use Rattle.store.proofs.Runs.{pass_ends, pass_sees, pass_passes, pass_needs, pass_next, pass_gains, pass_sum, pass_takes}
 use Rattle.store.proofs.sweep.sweep.Goals as goal
 
 pub loop-h-init : goal.loop-h-init

@@ -11,7 +11,6 @@ use Rattle.store.specs.State.{state, outcome}
 use Rattle.store.specs.Calls.{copy_text_checks}
 use Rattle.store.specs.laws.CopyText.{copy_text_parts, copy_text_declined, copy_text_done}
 use Rattle.store.specs.declared.answer.Answer.TheVariants.{Accepted}
-use borrow.Author.Rules.{rules}
 use Rattle.store.proofs.text.copy_text.Goals as goal
 
 pub copy_within-requires : goal.copy_within-requires

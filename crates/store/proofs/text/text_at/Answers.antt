@@ -20,7 +20,6 @@ use Rattle.store.specs.laws.TagReading.{FoundAt, read_found, located-inside, rea
 use Rattle.store.specs.laws.Access.{body_range}
 use Rattle.store.specs.laws.Distances.{found_body, found_remaining}
 use Rattle.store.specs.laws.CopyText.{text_ended, text_endless, text_unread, text_outside, text_within}
-use borrow.Author.Tests.{not-true, not-false}
 use borrow.Author.Rules.{rules}
 use Rattle.store.proofs.text.text_at.Goals as goal
 
@@ -31,7 +30,7 @@ overflow_cast-o c =
     let tested : in_body c.args.image.now c.in-At.o.header (unpack c.args.pointer) 1 ≡ c.in_body.result = sym (found_body _ _ given _ object _) ∙ sym c.in_body.ensures in
     let passed : in_body c.args.image.now c.in-At.o.header (unpack c.args.pointer) 1 ≡ true = tested ∙ c.if-not-in_body.false in
     let end : ℕ = let h = c.in-At.o.header in h + 16 + size_at c.args.image.now h in
-    let ends : ((unpack c.args.pointer).address < end) × (end ≤ length c.args.image.now) × (length c.args.image.now ≤ 1073741824) = let h = c.in-At.o.header in ( omega (arith, (body_range c.args.image.now h (unpack c.args.pointer) 1 passed).1), located-inside _ _ given h object.object, (opening_parts _ _ c.requires).short, ) in
+    let ends : ((unpack c.args.pointer).address < end) × (end ≤ length c.args.image.now) × (length c.args.image.now ≤ 1073741824) = let h = c.in-At.o.header in (omega (arith, (body_range c.args.image.now h (unpack c.args.pointer) 1 passed).1), located-inside _ _ given h object.object, (opening_parts _ _ c.requires).short) in
     let remaining-is : to_z w64 (of_z w64 c.in-At.o.remaining) ≡ pos (end - (unpack c.args.pointer).address) = let fits : SFits w64 c.in-At.o.remaining = search rules in to_z-of_z fits ∙ found_remaining _ _ given _ object (omega (arith, ends.0)) in
     rw remaining-is (tt, record { fits = omega (arith, ends.1, ends.2) })
 
@@ -42,7 +41,7 @@ find_text-requires c =
     let tested : in_body c.args.image.now c.in-At.o.header (unpack c.args.pointer) 1 ≡ c.in_body.result = sym (found_body _ _ given _ object _) ∙ sym c.in_body.ensures in
     let passed : in_body c.args.image.now c.in-At.o.header (unpack c.args.pointer) 1 ≡ true = tested ∙ c.if-not-in_body.false in
     let end : ℕ = let h = c.in-At.o.header in h + 16 + size_at c.args.image.now h in
-    let ends : ((unpack c.args.pointer).address < end) × (end ≤ length c.args.image.now) × (length c.args.image.now ≤ 1073741824) = let h = c.in-At.o.header in ( omega (arith, (body_range c.args.image.now h (unpack c.args.pointer) 1 passed).1), located-inside _ _ given h object.object, (opening_parts _ _ c.requires).short, ) in
+    let ends : ((unpack c.args.pointer).address < end) × (end ≤ length c.args.image.now) × (length c.args.image.now ≤ 1073741824) = let h = c.in-At.o.header in (omega (arith, (body_range c.args.image.now h (unpack c.args.pointer) 1 passed).1), located-inside _ _ given h object.object, (opening_parts _ _ c.requires).short) in
     let remaining-is : to_z w64 (of_z w64 c.in-At.o.remaining) ≡ pos (end - (unpack c.args.pointer).address) = let fits : SFits w64 c.in-At.o.remaining = search rules in to_z-of_z fits ∙ found_remaining _ _ given _ object (omega (arith, ends.0)) in
     let e = ends in
     rw remaining-is (omega (arith, ap (λ (p : Pointer). p.address) c.unpack-at.ensures, e.0, e.1))
@@ -67,7 +66,7 @@ returns-in-Ends c =
     let tested : in_body c.args.image.now c.in-At.o.header (unpack c.args.pointer) 1 ≡ c.in_body.result = sym (found_body _ _ given _ object _) ∙ sym c.in_body.ensures in
     let passed : in_body c.args.image.now c.in-At.o.header (unpack c.args.pointer) 1 ≡ true = tested ∙ c.if-not-in_body.false in
     let end : ℕ = let h = c.in-At.o.header in h + 16 + size_at c.args.image.now h in
-    let ends : ((unpack c.args.pointer).address < end) × (end ≤ length c.args.image.now) × (length c.args.image.now ≤ 1073741824) = let h = c.in-At.o.header in ( omega (arith, (body_range c.args.image.now h (unpack c.args.pointer) 1 passed).1), located-inside _ _ given h object.object, (opening_parts _ _ c.requires).short, ) in
+    let ends : ((unpack c.args.pointer).address < end) × (end ≤ length c.args.image.now) × (length c.args.image.now ≤ 1073741824) = let h = c.in-At.o.header in (omega (arith, (body_range c.args.image.now h (unpack c.args.pointer) 1 passed).1), located-inside _ _ given h object.object, (opening_parts _ _ c.requires).short) in
     let remaining-is : to_z w64 (of_z w64 c.in-At.o.remaining) ≡ pos (end - (unpack c.args.pointer).address) = let fits : SFits w64 c.in-At.o.remaining = search rules in to_z-of_z fits ∙ found_remaining _ _ given _ object (omega (arith, ends.0)) in
     let searched : text_answer c.find_text.result ≡ text_at c.args.s (unpack c.args.pointer) given = ap text_answer (c.find_text.ensures ∙ ap₂ (λ (n : ℤ) (p : Pointer). text_of (take (nat_abs n) (drop p.address c.args.image.now))) remaining-is c.unpack-at.ensures) ∙ text_within _ _ (state _ _) _ object.tested passed in
     text_ended _ ∙ ap text_answer (sym c.in-Ends.is) ∙ searched
@@ -80,7 +79,7 @@ returns-in-Endless c =
     let tested : in_body c.args.image.now c.in-At.o.header (unpack c.args.pointer) 1 ≡ c.in_body.result = sym (found_body _ _ given _ object _) ∙ sym c.in_body.ensures in
     let passed : in_body c.args.image.now c.in-At.o.header (unpack c.args.pointer) 1 ≡ true = tested ∙ c.if-not-in_body.false in
     let end : ℕ = let h = c.in-At.o.header in h + 16 + size_at c.args.image.now h in
-    let ends : ((unpack c.args.pointer).address < end) × (end ≤ length c.args.image.now) × (length c.args.image.now ≤ 1073741824) = let h = c.in-At.o.header in ( omega (arith, (body_range c.args.image.now h (unpack c.args.pointer) 1 passed).1), located-inside _ _ given h object.object, (opening_parts _ _ c.requires).short, ) in
+    let ends : ((unpack c.args.pointer).address < end) × (end ≤ length c.args.image.now) × (length c.args.image.now ≤ 1073741824) = let h = c.in-At.o.header in (omega (arith, (body_range c.args.image.now h (unpack c.args.pointer) 1 passed).1), located-inside _ _ given h object.object, (opening_parts _ _ c.requires).short) in
     let remaining-is : to_z w64 (of_z w64 c.in-At.o.remaining) ≡ pos (end - (unpack c.args.pointer).address) = let fits : SFits w64 c.in-At.o.remaining = search rules in to_z-of_z fits ∙ found_remaining _ _ given _ object (omega (arith, ends.0)) in
     let searched : text_answer c.find_text.result ≡ text_at c.args.s (unpack c.args.pointer) given = ap text_answer (c.find_text.ensures ∙ ap₂ (λ (n : ℤ) (p : Pointer). text_of (take (nat_abs n) (drop p.address c.args.image.now))) remaining-is c.unpack-at.ensures) ∙ text_within _ _ (state _ _) _ object.tested passed in
     text_endless ∙ ap text_answer (sym c.in-Endless.is) ∙ searched

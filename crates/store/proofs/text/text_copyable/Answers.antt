@@ -9,7 +9,6 @@ use Rattle.store.specs.Calls.{opening, text_at}
 use Rattle.store.specs.laws.Opening.{opening_parts}
 use Rattle.store.specs.laws.CopyText.{text_inside, copy_text_shut, copy_text_unread, copy_text-refused, copy_text_passed}
 use Rattle.store.specs.declared.answer.Answer.TheVariants.{Accepted}
-use borrow.Author.Rules.{rules}
 use Rattle.store.proofs.text.text_copyable.Goals as goal
 
 -- row 4 or 5

@@ -6,7 +6,6 @@ use Rattle.store.specs.Calls.{opening}
 use Rattle.store.specs.laws.Opening.{opening_parts}
 use Rattle.store.specs.laws.Total.{free_total_shut, free_total-given}
 use Rattle.store.specs.declared.answer.Answer.TheVariants.{Accepted}
-use borrow.Author.Rules.{rules}
 use Rattle.store.proofs.total.free_total.Goals as goal
 
 -- row 4 or 5

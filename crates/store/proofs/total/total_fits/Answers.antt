@@ -1,6 +1,5 @@
 -- `store::total::total_fits` is one test. Assumes nothing.
 use Rattle.store.specs.Calls.{total_fits}
-use borrow.Author.Rules.{rules}
 use Rattle.store.proofs.total.total_fits.Goals as goal
 
 pub returns : goal.returns

@@ -3,7 +3,6 @@ use mathlib.Core.Path.{sym, ap, ◌∙◌}
 use Rattle.store.specs.State.{returned}
 use Rattle.store.specs.laws.Refusals.{given}
 use Rattle.store.specs.declared.answer.Answer.{Answer}
-use borrow.Author.Rules.{rules}
 use Rattle.store.proofs.answer.Answer.give.Goals as goal
 
 -- the refusal's number; the place is as it was

@@ -3,7 +3,6 @@
 use mathlib.Core.Path.{◌≡◌, sym, ap}
 use Rattle.store.specs.State.{refusal_number}
 use Rattle.store.specs.declared.answer.Refusal.{Refusal}
-use borrow.Author.Rules.{rules}
 use Rattle.store.proofs.answer.Refusal.number.Goals as goal
 
 -- the number of a refusal that is known

@@ -1,7 +1,6 @@
 -- `store::Comparison::returned` meets its contract: 0, or the refusal's number. Assumes nothing.
 use mathlib.Core.Path.{sym, ap, ◌∙◌}
 use Rattle.store.specs.State.{comparison_number}
-use borrow.Author.Rules.{rules}
 use Rattle.store.proofs.comparing.Comparison.returned.Goals as goal
 
 -- the refusal's number
