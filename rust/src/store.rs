@@ -306,8 +306,8 @@ impl<'a> Store<'a> {
     /// record may be taken for one to the record's first field, and one moved to a field's offset for one to that field. Before the base,
     /// between fields, at the end and past it the answer is no, and for a type that is not listed too. Nothing is written.
     ///
-    /// `descriptors` lists the types, one after another: [`descriptor`](crate::descriptor) makes their bytes. Time and stack grow with the
-    /// list: see `include/cueledger.h`.
+    /// `descriptors` lists the types, one after another: [`descriptor`](crate::descriptor) makes their bytes. Time grows with the list:
+    /// see `include/cueledger.h`.
     ///
     /// Refused with, in this order: [`BadDescriptor`](Refusal::BadDescriptor), whatever the pointer; [`BadTag`](Refusal::BadTag),
     /// [`Dangling`](Refusal::Dangling); [`Undescribed`](Refusal::Undescribed).

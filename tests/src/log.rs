@@ -206,11 +206,11 @@ pub fn left(input: &[u8]) -> Dump {
     made(&read(cut(input)).calls).1
 }
 
-/// The compiled program: `CUELEDGER_REPLAY`, or where the toolchain puts it.
+/// The compiled program: `CUELEDGER_REPLAY`, or where `make` puts it.
 pub fn program() -> PathBuf {
     let built = || concat!(env!("CARGO_MANIFEST_DIR"), "/../target/bin/replay").into();
     let path = std::env::var_os("CUELEDGER_REPLAY").map_or_else(built, PathBuf::from);
-    assert!(path.is_file(), "{} is missing: run `rt check replay`", path.display());
+    assert!(path.is_file(), "{} is missing: run `make target/bin/replay`", path.display());
     path
 }
 

@@ -42,7 +42,12 @@ impl Drop for Folder {
 
 type Files = BTreeMap<String, Vec<u8>>;
 
-/// A program with the words before the files' names, what it reads and writes, and what it leaves.
+/// The words that name the files; either may be left out behind, or be empty.
+fn words(names: &[&str]) -> Vec<String> {
+    ["IMAGE=", "TABLE="].iter().zip(names).map(|(key, name)| format!("{key}{name}")).collect()
+}
+
+/// A program with the words before those that name files, what it reads and writes, and what it leaves.
 struct Case {
     program: PathBuf,
     words: Vec<String>,
@@ -61,19 +66,19 @@ impl Case {
         Case { program: traffic::program(), words: vec![state.to_string(), draws.to_string()], input: Vec::new(), output: log, dump }
     }
 
-    /// In the folder, with a shell's commands around it, in which it is `"$0"`.
-    fn run_by(&self, commands: &str, folder: &Path, names: &[&str]) -> Output {
+    /// In the folder, with these words behind its own, and with a shell's commands around it, in which it is `"$0"`.
+    fn run_by(&self, commands: &str, folder: &Path, words: &[String]) -> Output {
         let input = Folder::new();
         let log = input.0.join("log");
         fs::write(&log, &self.input).unwrap();
-        let words = self.words.iter().map(OsString::from).chain(names.iter().map(OsString::from));
+        let words = self.words.iter().chain(words).map(OsString::from);
         let mut shell = Command::new("sh");
         shell.args(["-c", commands]).arg(&self.program).args(words);
         shell.current_dir(folder).stdin(File::open(log).unwrap()).output().unwrap()
     }
 
-    fn run(&self, folder: &Path, names: &[&str]) -> Output {
-        self.run_by(AS_IT_IS, folder, names)
+    fn run(&self, folder: &Path, words: &[String]) -> Output {
+        self.run_by(AS_IT_IS, folder, words)
     }
 
     /// What the files of these names should hold; an empty name is none.
@@ -84,12 +89,17 @@ impl Case {
 
     /// How output, status or files are not as they should be. Files that are there already are longer than what is written.
     fn difference(&self, commands: &str, names: &[&str], there: bool) -> Option<String> {
+        self.difference_of(commands, &words(names), names, there)
+    }
+
+    /// The same for these words, which name these files.
+    fn difference_of(&self, commands: &str, words: &[String], names: &[&str], there: bool) -> Option<String> {
         let folder = Folder::new();
         let expected = self.expected(names);
         if there {
             expected.keys().for_each(|name| fs::write(folder.0.join(name), [0xAA; 20_000]).unwrap());
         }
-        let Output { status, stdout, stderr } = self.run_by(commands, &folder.0, names);
+        let Output { status, stdout, stderr } = self.run_by(commands, &folder.0, words);
         if status.code() != Some(0) || !stderr.is_empty() && !self.is_full() {
             return Some(format!("{status}, standard error {:?}", String::from_utf8_lossy(&stderr)));
         }
@@ -183,13 +193,45 @@ fn one_file_or_none() {
     }
 }
 
+/// The words in the other order, one of them alone, and, of `traffic`, without numbers before them or with one.
+#[test]
+fn other_words() {
+    let mut loads = Vec::new();
+    for (state, draws, numbers) in [(0, 1000, 0), (7, 1000, 1), (7, 500, 2)] {
+        let mut case = Case::traffic(state, draws);
+        case.words.truncate(numbers);
+        loads.push(case);
+    }
+    for case in [Case::replay(SAMPLE.to_vec()), Case::replay(show())].iter().chain(&loads) {
+        for (words, names) in [
+            (&["TABLE=table", "IMAGE=image"][..], &["image", "table"][..]),
+            (&["TABLE=table"], &["", "table"]),
+            (&["TABLE=", "IMAGE=image"], &["image"]),
+            (&["TABLE=IMAGE=", "IMAGE=TABLE="], &["TABLE=", "IMAGE="]),
+        ] {
+            let words: Vec<_> = words.iter().map(|word| word.to_string()).collect();
+            assert_eq!(case.difference_of(AS_IT_IS, &words, names, false), None, "{:?}, {words:?}", case.words);
+        }
+    }
+}
+
+/// `replay` takes no other word for a file's, and refuses none.
+#[test]
+fn words_without_meaning() {
+    let case = Case::replay(show());
+    for words in [&["image"][..], &["image", "table"], &["", ""], &["image=x"], &["IMAGE"], &["IMAGE:x", "TABLE "], &["-h"], &["1", "2", "3", "4"]] {
+        let words: Vec<_> = words.iter().map(|word| word.to_string()).collect();
+        assert_eq!(case.difference_of(AS_IT_IS, &words, &[], false), None, "{words:?}");
+    }
+}
+
 // ---- what cannot be written
 
 /// The lines on standard error, of a run that is all right otherwise.
 fn told(case: &Case, folder: &Path, names: &[&str]) -> Vec<String> {
-    let Output { status, stdout, stderr } = case.run(folder, names);
+    let Output { status, stdout, stderr } = case.run(folder, &words(names));
     assert!(stdout == case.output, "{names:?}");
-    assert_eq!(status.code(), Some(0), "a Rattle program has no other");
+    assert_eq!(status.code(), Some(0), "{names:?}");
     let text = String::from_utf8(stderr).unwrap();
     assert!(text.is_empty() || text.ends_with('\n'), "{text:?}");
     text.lines().map(str::to_string).collect()
@@ -198,7 +240,7 @@ fn told(case: &Case, folder: &Path, names: &[&str]) -> Vec<String> {
 /// A folder, one that is missing, a full device, names that are too long; whichever of the two files it is, the other is written.
 #[test]
 fn not_writable() {
-    // the system's longest path has 4,095 bytes, and the longest argument that is read 4,096
+    // the system's longest path has 4,095 bytes, and the longest name that is read 4,096
     let [path, word, longer] = [4095, 4096, 4097].map(|length| "x/".repeat(length).split_off(length));
     let name = "x".repeat(256);
     for case in [Case::replay(show()), Case::traffic(7, 500)] {
@@ -211,6 +253,10 @@ fn not_writable() {
             (&word, format!("{word}: File name too long")),
             (&longer, "name of a dump: File name too long".to_string()),
         ] {
+            // `traffic` reads no word that is longer, and refuses it
+            if !case.words.is_empty() && name == longer {
+                continue;
+            }
             let folder = Folder::new();
             assert_eq!(told(&case, &folder.0, &[name, name]), [&line[..], &line]);
             assert!(folder.files().is_empty());
@@ -221,25 +267,36 @@ fn not_writable() {
     }
 }
 
-/// Too many arguments, or a malformed number before them: the usage, no output and no file.
+/// Of `traffic`: words behind the numbers that name no file, numbers behind those that do, too many, or a malformed number before
+/// them: the usage, no output and no file.
 #[test]
 fn refused_arguments() {
-    let (replay, traffic) = (Case::replay(SAMPLE.to_vec()), Case::traffic(0, 10));
-    let malformed = Case { words: vec!["x".into(), "10".into()], ..Case::traffic(0, 10) };
-    let of_traffic = "usage: traffic [STATE [DRAWS [IMAGE [TABLE]]]]";
-    for (case, names, usage) in [
-        (&replay, &["image", "table", "more"][..], "usage: replay [IMAGE [TABLE]]"),
-        (&replay, &["", "", ""], "usage: replay [IMAGE [TABLE]]"),
-        (&replay, &["image", "table", "", ""], "usage: replay [IMAGE [TABLE]]"),
-        (&traffic, &["image", "table", "more"], of_traffic),
-        (&traffic, &["image", "table", ""], of_traffic),
-        (&malformed, &["image", "table"], of_traffic),
+    for words in [
+        &["0", "10", "image"][..],
+        &["0", "10", "image", "table"],
+        &["0", "10", "image=x"],
+        &["0", "10", "IMAGE"],
+        &["0", "10", ""],
+        &["0", "10", "IMAGE=image", "more"],
+        &["0", "10", "IMAGE=image", ""],
+        &["0", "10", "IMAGE=image", "TABLE=table", "more"],
+        &["0", "10", "IMAGE=image", "TABLE=table", ""],
+        &["IMAGE=image", "10"],
+        &["0", "IMAGE=image", "10"],
+        &["IMAGE=image", "TABLE=table", "0", "10"],
+        &["x", "10", "IMAGE=image", "TABLE=table"],
+        &["x", "IMAGE=image"],
+        &["0", "x", "IMAGE=image"],
+        &["0", "10", &format!("IMAGE={}", "x".repeat(4097))],
     ] {
         let folder = Folder::new();
-        let Output { status, stdout, stderr } = case.run(&folder.0, names);
+        let case = Case { words: Vec::new(), ..Case::traffic(0, 10) };
+        let words: Vec<_> = words.iter().map(|word| word.to_string()).collect();
+        let Output { status, stdout, stderr } = case.run(&folder.0, &words);
         let told = String::from_utf8(stderr).unwrap();
-        assert!(told.starts_with(usage) && told.ends_with('\n') && told.lines().count() == 1, "{told:?}");
-        assert!(status.success() && stdout.is_empty() && folder.files().is_empty(), "{names:?}");
+        assert!(told.starts_with("usage: traffic [STATE [DRAWS]] [IMAGE=file] [TABLE=file]"), "{told:?}");
+        assert!(told.ends_with('\n') && told.lines().count() == 1, "{told:?}");
+        assert!(status.success() && stdout.is_empty() && folder.files().is_empty(), "{words:?}");
     }
 }
 

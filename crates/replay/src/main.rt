@@ -8,7 +8,7 @@ ghost use Rattle.std.specs.Counts.{IsPrefixLen};
 ghost use Rattle.dump.specs.Dump.{table_bytes};
 ghost use Rattle.replay.specs.Program.{program_text, program_state};
 
-use file::{IMAGE, TABLE, write_named};
+use file::write_named;
 use std::io::Read;
 
 // The bytes of text that a run has written, and the image and the table's entries that it leaves, 8 bytes for each entry.
@@ -72,7 +72,6 @@ fn main(rt: HostRuntime) {
     let image = r.image;
     let entries = r.entries;
     for i in 1..3 {
-        write_named(&rt, i, IMAGE, &image);
-        write_named(&rt, i, TABLE, &entries);
+        write_named(&rt, i, &image, &entries);
     }
 }

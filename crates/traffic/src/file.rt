@@ -27,17 +27,25 @@ pub fn names(rt: &impl Env, i: usize, key: &[u8]) -> bool {
     }
 }
 
-// Makes `bytes` the whole of the file that argument i names by `key`; an empty name is none. A failure is told on standard
-// error, and the exit status stays 0.
-pub fn write_named(rt: &(impl Env + Files + Eprint), i: usize, key: &[u8], bytes: &[u8]) {
+// Makes image or entries the whole of the file that argument i names, if it names one. A failure is told on standard error, and
+// the exit status stays 0.
+pub fn write_named(rt: &(impl Env + Files + Eprint), i: usize, image: &[u8], entries: &[u8]) {
     let mut word = [0u8; LONGEST];
     match rt.arg(i, &mut word) {
-        Ok(n) => match word[..n].strip_prefix(key) {
-            Some(name) if !name.is_empty() => write_file(rt, name, bytes),
-            _ => {}
-        },
+        Ok(n) => {
+            write_keyed(rt, &word[..n], IMAGE, image);
+            write_keyed(rt, &word[..n], TABLE, entries);
+        }
         Err(FillError::NotPresent) => {}
         Err(FillError::TooLong) => fail(rt, "name of a dump", "File name too long"),
+    }
+}
+
+// Makes `bytes` the whole of the file that the word names by `key`; an empty name is none.
+fn write_keyed(rt: &(impl Files + Eprint), word: &[u8], key: &[u8], bytes: &[u8]) {
+    match word.strip_prefix(key) {
+        Some(name) if !name.is_empty() => write_file(rt, name, bytes),
+        _ => {}
     }
 }
 

@@ -80,7 +80,6 @@ fn main(rt: HostRuntime) {
     let image = w.image;
     let entries = w.entries;
     for i in 1..5 {
-        write_named(&rt, i, IMAGE, &image);
-        write_named(&rt, i, TABLE, &entries);
+        write_named(&rt, i, &image, &entries);
     }
 }

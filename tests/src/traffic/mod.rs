@@ -190,11 +190,11 @@ pub fn written(state: u64, draws: u64) -> (Vec<u8>, bool) {
     (log, full)
 }
 
-/// The compiled program: `CUELEDGER_TRAFFIC`, or where the toolchain puts it.
+/// The compiled program: `CUELEDGER_TRAFFIC`, or where `make` puts it.
 pub fn program() -> PathBuf {
     let built = || concat!(env!("CARGO_MANIFEST_DIR"), "/../target/bin/traffic").into();
     let path = std::env::var_os("CUELEDGER_TRAFFIC").map_or_else(built, PathBuf::from);
-    assert!(path.is_file(), "{} is missing: run `rt check traffic`", path.display());
+    assert!(path.is_file(), "{} is missing: run `make target/bin/traffic`", path.display());
     path
 }
 
