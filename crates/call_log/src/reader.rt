@@ -5,7 +5,7 @@ ghost use Rattle.call_log.specs.Records.{next_at};
 use crate::record::{Next, next_at};
 
 // The lent log and the position in it, together.
-#[derive(Drop)]
+#[derive(Clone, Copy)]
 pub struct Reader<'a> {
     pub log: &'a [u8],
     pub at: usize,

@@ -21,14 +21,14 @@ use Rattle.block.specs.Layout.{slot_exponent, header_at, size_at, extent_at, fie
 use Rattle.block.specs.laws.Soundness.{sound_low, sound-end, sound_live_at}
 use Rattle.block.specs.declared.header.Header.{Header}
 use Rattle.store.specs.State.{State, state, Outcome, IsAccepted, returned, value, comparison_number, comparison_value, distances_number, start_distance, end_distance, usage_number, live_objects, live_bytes, free_bytes, overhead_bytes}
-use Rattle.store.specs.Calls.{set_up_checks, set_up, fresh, cleared, taken_extent, allocate_checks, noted, allotted, allocate_for, free_release, free, move, move_answer, load, load_answer, store_checks, store, fill_checks, fill, copy_checks, copy, compare, copy_text_checks, copy_text, release_checks, pointers_to, cue_pointers, free_each, release_cue, free_total, tally, from_start, to_end, distances, has_type}
+use Rattle.store.specs.Calls.{opening, set_up_checks, set_up, fresh, cleared, taken_extent, allocate_checks, noted, allotted, allocate_for, free_release, free, move, move_answer, load, load_answer, store_checks, store, fill_checks, fill, copy_checks, copy, compare, copy_text_checks, copy_text, release_checks, pointers_to, cue_pointers, free_each, release_cue, free_total, tally, from_start, to_end, distances, has_type}
 use Rattle.store.specs.laws.Shapes.{shape_itself, shape_then}
 use Rattle.store.specs.laws.Refusals.{not-accepted}
 use Rattle.store.specs.laws.SetUp.{Settable, settable_parts, set_up_declined, set_up_done, length-fresh}
 use Rattle.store.specs.laws.Opening.{Open, opening_kept}
-use Rattle.store.specs.laws.TagReading.{Stands, Located, located_object, located_leads, located-at, FoundAt, read_found}
+use Rattle.store.specs.laws.TagReading.{Stands, Located, located_object, located_leads, located-at, FoundAt, read_found, read-refused}
 use Rattle.store.specs.laws.Access.{accessed_again}
-use Rattle.store.specs.laws.Distances.{distances-sum, start_is, end_is, found_body, found_base, distances-found, distances_refused}
+use Rattle.store.specs.laws.Distances.{distances-sum, start_is, end_is, found_body, found_base, distances-given, distances_unread}
 use Rattle.store.specs.laws.Allocate.{Allocates, allocate_parts, allocate_declined, allocate_done, CarvedHeader, carved-header, length-allotted, allotted_exponent, allotted-header}
 use Rattle.store.specs.laws.Free.{Frees, free_parts, free_declined, free_done, length-given_back, given_back_front}
 use Rattle.store.specs.laws.Release.{free_each_none, free_each_one, cue_pointers_lem, length_pointers, release_parts, release_declined, release_done}
@@ -442,6 +442,12 @@ read_as s p x o f =
       at_base = subst (λ (k : ℕ). (o.offset ≡ pos 0) ↔ (p.address ≡ k)) (sym b) (found_base s p x o f);
     }
 
+-- distances gives it
+distances-read : (s p : ℕ) (x : State) (o : Reading) → opening x ≡ Accepted s → FoundAt s (unpack p) x o
+    → distances p x ≡ measurement.Distances o.offset o.remaining
+distances-read s p x o e f =
+    sym (distances-given x s e p o.header f.tested) ∙ ap (λ (r : Reading). measurement.Distances r.offset r.remaining) (sym f.read)
+
 -- each tag is measured
 pub measures : Measures
 measures =
@@ -450,9 +456,9 @@ measures =
       shown =
           λ s p x o e q.
           let f = read_found s (unpack p) x o q in
-          let d = distances-found x s e p o q in
+          let d = distances-read s p x o e f in
           (d, ap₂ ◌+ℤ◌ (ap start_distance d) (ap end_distance d) ∙ (read_as s (unpack p) x o f).sum);
-      declined = λ s p x r e q. distances_refused x s e p r q;
+      declined = λ s p x r e q. sym (distances_unread x s e p r (read-refused s (unpack p) x r q));
     }
 
 -- an object of no bytes gives no access

@@ -10,8 +10,11 @@ use cueledger_tests::print;
 use cueledger_tests::store::Answer;
 use std::time::{Duration, Instant};
 
-/// For the call, and for what Rust does at a thread's start.
-const STACK: usize = 64 << 10;
+/// For each further type that the call enters, in bytes, where it calls itself.
+const LEVEL: usize = 32;
+
+/// For the rest of the call, and for what Rust does at a thread's start.
+const REST: usize = 64 << 10;
 
 /// An object of a list's last type, and the list.
 struct Store {
@@ -46,20 +49,32 @@ fn chain(count: u16, offset: u64) -> Vec<Descriptor> {
     [Descriptor::plain(0, 1)].into_iter().chain((1..count).map(record)).collect()
 }
 
-/// On a stack of what the header says: the call enters all 20,000 types, and needs no more for each.
-#[test]
-fn stack_of_20_000_types() {
-    const COUNT: u16 = 20_000;
+/// The call enters all 20,000 types, on a stack of so many bytes.
+fn enters_20_000_types(stack: usize) {
     for apart in [0, 1] {
         let mut store = Store::new(&chain(COUNT, apart));
         let innermost = apart * u64::from(COUNT - 1);
         let asks = move || [(innermost, 0, 1), (innermost, COUNT, 0)].map(|(distance, wanted, yes)| (store.asked(distance, wanted), Answer::new(0, [yes])));
-        let thread = std::thread::Builder::new().stack_size(STACK).spawn(asks).unwrap();
+        let thread = std::thread::Builder::new().stack_size(stack).spawn(asks).unwrap();
         for ((answer, time), expected) in thread.join().unwrap() {
             print(&format!("{COUNT} types, each a field of the next at {apart}: {answer}, {} ms", time.as_millis()));
             assert_eq!(answer, expected);
         }
     }
+}
+
+const COUNT: u16 = 20_000;
+
+/// On 32 bytes for each type but the first.
+#[test]
+fn stack_of_20_000_types() {
+    enters_20_000_types(LEVEL * usize::from(COUNT) + REST);
+}
+
+/// On a stack of what the header says: it needs no more for each.
+#[test]
+fn stack_of_any_list() {
+    enters_20_000_types(REST);
 }
 
 const LIMIT: Duration = Duration::from_millis(10);
