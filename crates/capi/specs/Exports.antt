@@ -166,11 +166,11 @@ pub record Reported : Type 0 where
   pub headers_extra : ℕ
   pub headers_over : ℕ
   pub padded_extra : ℕ
-  pub padded-over : ℕ
+  pub padded_over : ℕ
 
 -- made of a returned number, four sums and two fractions
 abbrev pub reported : ℕ → ℕ → ℕ → ℕ → ℕ → ℕ → ℕ → ℕ → ℕ → Reported
-reported r raw headed padded end headers_extra headers_over padded_extra padded-over =
+reported r raw headed padded end headers_extra headers_over padded_extra padded_over =
     record {
       returned = r;
       raw = raw;
@@ -180,7 +180,7 @@ reported r raw headed padded end headers_extra headers_over padded_extra padded-
       headers_extra = headers_extra;
       headers_over = headers_over;
       padded_extra = padded_extra;
-      padded-over = padded-over;
+      padded_over = padded_over;
     }
 
 -- what C sees of the report
@@ -195,5 +195,5 @@ pub report_seen :
     let l : Reported = reported 1 2 3 4 5 6 7 8 9 in
     (exported_report r ≡ l)
     × (l.returned ≡ 1) × (l.raw ≡ 2) × (l.headed ≡ 3) × (l.padded ≡ 4) × (l.end ≡ 5) × (l.headers_extra ≡ 6) × (l.headers_over ≡ 7)
-    × (l.padded_extra ≡ 8) × (l.padded-over ≡ 9)
+    × (l.padded_extra ≡ 8) × (l.padded_over ≡ 9)
 report_seen = (refl, refl, refl, refl, refl, refl, refl, refl, refl, refl)

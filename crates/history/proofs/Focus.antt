@@ -209,4 +209,4 @@ module _ (image : List ℕ) (l : Layout) where
 
   -- so that no walk ends at an unsound one
   pub no_unsound : Placed image l → (h : ℕ) → MeetsUnsound image h → ⊥
-  no_unsound p h u = true_false (standing_sound h (standing p h u.on_walk) u.before-end) u.is_unsound
+  no_unsound p h u = true_false (standing_sound h (standing p h u.on_walk) u.before_end) u.is_unsound

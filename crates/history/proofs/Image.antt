@@ -63,7 +63,7 @@ read_body image l h b p e i n f = go h (find image l h b p e)
 pub record Rewritten (image : List ℕ) (l : Layout) (h : ℕ) (b after : Block) (image' : List ℕ) : Type 0 where
   pub next : Layout
   pub remade : Remade image image' next
-  pub same-gaps : gaps next ≡ gaps l
+  pub same_gaps : gaps next ≡ gaps l
   pub looks : (k : ℕ) → block_at next k ≡ cond (eqb k h) (some after) (block_at l k)
 
 pub write_body : (image : List ℕ) (l : Layout) (h : ℕ) (b : Block) → Placed image l → block_at l h ≡ some b
@@ -75,7 +75,7 @@ write_body image l h b p e i bytes f = go h (find image l h b p e)
         record {
           next = r.fill (item g (patched b i bytes) m);
           remade = write_remade image l k g b m r i bytes f;
-          same-gaps = omega (arith, r.free_bytes_lem (item g (patched b i bytes) m));
+          same_gaps = omega (arith, r.free_bytes_lem (item g (patched b i bytes) m));
           looks = r.looks (item g (patched b i bytes) m) (k + g) (some (patched b i bytes)) (omega arith)
               (look_swap k g b (patched b i bytes) m (omega (arith, patched-length b i bytes f)));
         }

@@ -49,7 +49,7 @@ frees_commute {s} {L} {x} {heap} i o o' e e' n =
     in
     record {
       a_accepted = ap returned a.answers;
-      b-accepted = ap returned b.answers;
+      b_accepted = ap returned b.answers;
       a_answer = b-a.answers ∙ sym a.answers;
       b_answer = a-b.answers ∙ sym b.answers;
       same = λ k. record { image = same-image (formatted a-b.left.laid) (formatted b-a.left.laid) looks k; table = table k };
@@ -116,7 +116,7 @@ module _ {s L : ℕ} {x : State} {heap : Heap} (i : Invariant s L x heap) where
       let n' : d ≡ c → ⊥ = λ q. n (sym q) in
       record {
         a_accepted = (release_counts i c).0;
-        b-accepted = (release_counts i d).0;
+        b_accepted = (release_counts i d).0;
         a_answer = ap (λ (r : Outcome). r.answer) (second d c n');
         b_answer = ap (λ (r : Outcome). r.answer) (second c d n);
         same =

@@ -419,7 +419,7 @@ module _ {s L : ℕ} {x : State} {heap : Heap} (i : Invariant s L x heap) where
         counted = length-put o.bytes (offset o p) bytes (omega (arith, f.counted, w.fits)) ∙ f.counted;
         good = f.good;
       })
-      (put x.image (unpack p).address bytes) r.next (patched q.block (offset o p) bytes) (remade i.laid r.remade r.same-gaps) q.cue
+      (put x.image (unpack p).address bytes) r.next (patched q.block (offset o p) bytes) (remade i.laid r.remade r.same_gaps) q.cue
       (ap (λ (b : List ℕ). put b (offset o p) bytes) q.body) r.looks
 
   -- so many bytes through a pointer, refused or not

@@ -215,7 +215,7 @@ module _ {s L : ℕ} (x : Configuration) (i : Invariant s L x.state x.heap) wher
   run_clear : (a n : ℕ) → FreeRun x a n → Clear x.state.image i.laid.layout a n
   run_clear a n r =
       record {
-        low = r.behind-superblock;
+        low = r.behind_superblock;
         high = r.in_image;
         apart =
             λ h b e.
@@ -235,7 +235,7 @@ module _ {s L : ℕ} (x : Configuration) (i : Invariant s L x.state x.heap) wher
   clear_run : (a n : ℕ) → Clear x.state.image i.laid.layout a n → FreeRun x a n
   clear_run a n c =
       record {
-        behind-superblock = c.low;
+        behind_superblock = c.low;
         in_image = c.high;
         outside =
             λ o m.

@@ -8,7 +8,7 @@ use Rattle.history.specs.History.{Configuration, Pairwise, AfterEveryHistory}
 -- Two calls commute: each is accepted, first or second, with the same answer, and whichever goes first, they leave the same image and table.
 pub record Commute (a b : State → Outcome) (x : State) : Type 0 where
   pub a_accepted : IsAccepted (a x)
-  pub b-accepted : IsAccepted (b x)
+  pub b_accepted : IsAccepted (b x)
   pub a_answer : (a (b x).after).answer ≡ (a x).answer
   pub b_answer : (b (a x).after).answer ≡ (b x).answer
   pub same : (b (a x).after).after ≡ (a (b x).after).after

@@ -82,7 +82,7 @@ header_of o = start o - 16
 
 -- a run of n bytes from a on, outside the superblock (document 01's "lead-in") and every live extent
 pub record FreeRun (x : Configuration) (a n : ℕ) : Type 0 where
-  pub behind-superblock : 16 ≤ a
+  pub behind_superblock : 16 ≤ a
   pub in_image : a + n ≤ length x.state.image
   pub outside :
       (o : Object) → In o x.heap → (header_of o + extent_at x.state.image (header_of o) ≤ a) ⊎ (a + n ≤ header_of o)

@@ -13,7 +13,7 @@ use Rattle.block.specs.declared.header.Header.{Header}
 -- an unsound header that the walk meets
 pub record MeetsUnsound (image : List ℕ) (h : ℕ) : Type 0 where
   pub on_walk : OnWalk image h
-  pub before-end : h ≡ length image → ⊥
+  pub before_end : h ≡ length image → ⊥
   pub is_unsound : sound image h ≡ false
 
 -- the place where a walk ended
@@ -171,7 +171,7 @@ module _ {A : Type 0} (s : Search A) (image : List ℕ) where
   unfolding Ends
   walk_meets_unsound a h e =
       let r = subst (Ends s image (λ _ k. OnWalk image k)) e (walk_carries (λ _ k. OnWalk image k) (λ _ k w o t. next k w o) a first) in
-      record { on_walk = r.0.1; before-end = r.1; is_unsound = r.2 }
+      record { on_walk = r.0.1; before_end = r.1; is_unsound = r.2 }
 
 -- a walk over headers that stay comes by the same places
 pub on_walk_kept : (image other : List ℕ) (top : ℕ) → length other ≡ length image → ((k : ℕ) → 16 ≤ k → k + 16 ≤ top → header_at other k ≡ header_at image k)

@@ -63,7 +63,7 @@ pub record Allocates (size : ℕ) (x : State) (h : ℕ) : Type 0 where
   pub lowest : LowestFit x.image (16 + size) h
   pub inside : h + 16 + size ≤ length x.image
   pub free_entry : entry_holds (slot_exponent x.image) h size 0 x.table ≡ true
-  pub total-holds : taken_extent x.image h size ≤ stored_total x.image
+  pub total_holds : taken_extent x.image h size ≤ stored_total x.image
   pub indexed : entry_of (slot_exponent x.image) h size < length x.table
 
 -- an accepted allocation passes them
@@ -86,7 +86,7 @@ allocate_parts size x h e =
       lowest = w;
       inside = i;
       free_entry = rw (← o.exponent) d.0;
-      total-holds = leb-true _ _ t.0;
+      total_holds = leb-true _ _ t.0;
       indexed = entry_in x (slot_exponent x.image) k size p i;
     })
 

@@ -71,4 +71,4 @@ allot-requires c =
     let given : State = state c.args.image.now c.args.table.now in
     let chosen : let h = c.in-At.h in (allocate_checks c.args.size given ≡ Accepted h) × (c.in-At.t ≡ tagged c.in-Accepted.s h c.args.size) = site_chosen _ _ _ _ _ (sym c.allocatable.ensures ∙ c.in-At.is) in
     let allocates : Allocates c.args.size given c.in-At.h = allocate_parts _ (state _ _) _ chosen.0 in
-    let a = allocates in (a.lowest.is_sound, a.lowest.fits_in, a.total-holds)
+    let a = allocates in (a.lowest.is_sound, a.lowest.fits_in, a.total_holds)
