@@ -17,20 +17,6 @@ pub struct Header {
     pub cue: u64,
 }
 
-// What stands at a place: a sound header, or none.
-#[derive(Clone, Copy)]
-pub enum Examined {
-    Sound(Header),
-    Unsound,
-}
-
-// The object at a place: its raw size in bytes, or none.
-#[derive(Clone, Copy)]
-pub enum Object {
-    Size(u64),
-    None,
-}
-
 // The extent in the header at h, in bytes.
 pub fn extent_at(image: &[u8], h: usize) -> u64
     requires { h + 16 ≤ length image.now }
@@ -135,24 +121,24 @@ fn is_sound(image: &[u8], h: usize) -> bool
 }
 
 // The header at h where it is sound. h may be any number, so it is compared with the length less 16.
-pub fn examine(image: &[u8], h: u64) -> Examined
+pub fn examine(image: &[u8], h: u64) -> Option<Header>
     ensures { result ≡ examined image.now h }
 {
     let len = image.len() as u64;
     if h < 16 {
-        return Examined::Unsound;
+        return None;
     }
     if len < 16 {
-        return Examined::Unsound;
+        return None;
     }
     if len - 16 < h {
-        return Examined::Unsound;
+        return None;
     }
     let at = h as usize;
     if is_sound(image, at) {
-        Examined::Sound(read_header(image, at))
+        Some(read_header(image, at))
     } else {
-        Examined::Unsound
+        None
     }
 }
 
@@ -165,22 +151,22 @@ fn has_room(len: u64, h: u64) -> bool
 }
 
 // The raw size of the object whose header is at h, where a sound header of a live block stands there. h may be any number.
-pub fn live_size(image: &[u8], h: u64) -> Object
+pub fn live_size(image: &[u8], h: u64) -> Option<u64>
     requires { 32 ≤ length image.now }
     ensures { result ≡ object_at image.now h }
 {
     if !has_room(image.len() as u64, h) {
-        return Object::None;
+        return None;
     }
     let at = h as usize;
     if kind_at(image, at) != 2 {
-        return Object::None;
+        return None;
     }
     let extent = extent_at(image, at);
     if !live_sound(image, at, extent) {
-        return Object::None;
+        return None;
     }
-    Object::Size(size_at(image, at))
+    Some(size_at(image, at))
 }
 
 // Writes a header at h.

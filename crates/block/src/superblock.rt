@@ -6,13 +6,6 @@ ghost use Rattle.block.specs.laws.Superblock.{opened};
 
 use super::bytes::{read2, read4, write2, write4};
 
-// What an image's superblock says: the slot exponent, or that it is not as laid out.
-#[derive(Clone, Copy)]
-pub enum Opened {
-    Exponent(u32),
-    Bad,
-}
-
 // The slot exponent in the superblock.
 pub fn slot_exponent(image: &[u8]) -> u64
     requires { 16 ≤ length image.now }
@@ -21,34 +14,34 @@ pub fn slot_exponent(image: &[u8]) -> u64
     read2(image, 6)
 }
 
-// Tests the superblock of any image.
-pub fn open(image: &[u8]) -> Opened
+// The slot exponent of any image whose superblock is as laid out.
+pub fn open(image: &[u8]) -> Option<u32>
     ensures { result ≡ opened image.now }
 {
     let len = image.len() as u64;
     if len < 64 {
-        return Opened::Bad;
+        return None;
     }
     if 1073741824 < len {
-        return Opened::Bad;
+        return None;
     }
     if read4(image, 0) != 16 {
-        return Opened::Bad;
+        return None;
     }
     if read2(image, 4) != 3 {
-        return Opened::Bad;
+        return None;
     }
     if read4(image, 8) != len {
-        return Opened::Bad;
+        return None;
     }
     let s = slot_exponent(image);
     if s < 6 {
-        return Opened::Bad;
+        return None;
     }
     if 15 < s {
-        return Opened::Bad;
+        return None;
     }
-    Opened::Exponent(s as u32)
+    Some(s as u32)
 }
 
 // Writes the superblock of an image with slot exponent s and that free total.

@@ -1,4 +1,5 @@
 -- Text put into a buffer, piece by piece. In order: pieces; digits; the lengths of numbers; the two kinds of line. Assumes nothing.
+use Rattle.std.specs.Prelude.{Err, Ok}
 use Prim.Native.Nat.{ℕ, zero, suc, ◌+◌, ◌-◌, ◌/◌, ◌%◌, ◌^◌, ◌≤◌, ◌<◌}
 use mathlib.Core.Path.{◌≡◌, refl, sym, ap, ◌∙◌}
 use mathlib.Core.List.{List, [], ◌∷◌, ◌++◌, append_assoc}
@@ -12,8 +13,7 @@ use Rattle.block.specs.laws.Booleans.{by_bool}
 use Rattle.block.specs.laws.Writes.{put_nil, put_cons, put-append, set-put_front}
 use Rattle.store.specs.State.{returned}
 use Rattle.store.specs.laws.Refusals.{refusal_range}
-use Rattle.store.specs.declared.answer.Answer.{Answer}
-use Rattle.store.specs.declared.answer.Answer.TheVariants.{Accepted, Refused}
+use Rattle.store.specs.State.{Answer}
 use Rattle.call_log.specs.Records.{fault_number}
 use Rattle.call_log.specs.Text.{ascii, digit, hexadecimal, decimal_in, decimal, closed_by, line_of, fault_line}
 use Rattle.call_log.specs.declared.record.Fault.{Fault}
@@ -93,8 +93,8 @@ length_closed b xs = simp length-append
 -- the numbers of refusals and of malformed records are below 100
 
 pub returned_small : (a : Answer) → returned a < 100
-returned_small (Accepted v) = omega arith
-returned_small (Refused r) = (refusal_range r).1
+returned_small (Ok v) = omega arith
+returned_small (Err r) = (refusal_range r).1
 
 pub fault_small : (f : Fault) → fault_number f < 100
 fault_small CutShort = omega arith

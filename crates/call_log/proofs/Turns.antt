@@ -7,7 +7,7 @@ use lib.ListN.{length, take}
 use Rattle.block.specs.Bytes.{put}
 use Rattle.block.specs.laws.Writes.{take-put-end}
 use Rattle.store.specs.State.{State, returned, value}
-use Rattle.store.specs.declared.answer.Answer.{Answer}
+use Rattle.store.specs.State.{Answer}
 use Rattle.call_log.specs.Records.{kind_of, next_at, records_from}
 use Rattle.call_log.specs.Run.{made, answered_by, answers, left_by, run_of, run_over}
 use Rattle.call_log.specs.Text.{line_of, answer_line, answer_lines, fault_line, printed}

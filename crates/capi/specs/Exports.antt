@@ -1,9 +1,8 @@
 -- What C sees of a call: the returned number, the value, and the image and table as they are left. Assumes nothing.
-use Rattle.std.specs.Prelude.{ℕ, ◌≡◌, refl, List, [], ◌∷◌, ℤ, pos, negsuc}
+use Rattle.std.specs.Prelude.{ℕ, ◌≡◌, refl, List, [], ◌∷◌, ℤ, pos, negsuc, Result}
 use Rattle.store.specs.State.{state, Outcome, returned, value, comparison_number, comparison_value, distances_number, start_distance, end_distance, usage_number, live_objects, live_bytes, free_bytes, overhead_bytes}
 use Rattle.store.specs.declared.answer.Refusal.TheVariants.{BadLength, Dangling}
-use Rattle.store.specs.declared.answer.Answer.{Answer}
-use Rattle.store.specs.declared.comparing.Comparison.{Comparison}
+use Rattle.store.specs.State.{Answer}
 use Rattle.store.specs.declared.measuring.Measurement.{Measurement}
 use Rattle.store.specs.declared.measuring.Measurement.TheVariants as measurement
 use Rattle.store.specs.declared.counting.Usage.{Usage}
@@ -66,7 +65,7 @@ abbrev pub compared : ℕ → ℤ → Compared
 compared r order = record { returned = r; order = order }
 
 -- what C sees of compare's answer
-abbrev pub exported_comparison : Comparison → Compared
+abbrev pub exported_comparison : Result Ordering Refusal → Compared
 exported_comparison c = compared (comparison_number c) (comparison_value c)
 
 -- What the export of distances returns and gives: both values are 0 where it is refused.

@@ -1,4 +1,5 @@
 -- What `type_has` and `field_has` know of a good list, by what they have read. Assumes nothing.
+use Rattle.std.specs.Prelude.{Option}
 use Prim.Native.Nat.{ℕ, ◌+◌, ◌-◌, ◌*◌, ◌/◌, ◌≤◌, ◌<◌}
 use mathlib.Core.Path.{◌≡◌, sym, ap, ◌∙◌}
 use mathlib.Core.Bool.{Bool, ◌&&◌}
@@ -12,7 +13,6 @@ use Rattle.descriptors.specs.laws.Lists.{good_here, length_here}
 use Rattle.descriptors.specs.laws.Layouts.{is_wanted}
 use Rattle.descriptors.specs.declared.descriptor.Descriptor.{Descriptor}
 use Rattle.descriptors.specs.declared.descriptor.Field.{Field}
-use Rattle.descriptors.specs.declared.descriptor.Lookup.{Lookup}
 
 -- Where it lies.
 
@@ -29,7 +29,7 @@ module _ (list : List ℕ) (p : ℕ) (s : Stands list p) where
 -- What was found.
 
 -- the descriptor of a field's type
-pub named_is : (list : List ℕ) (p k : ℕ) (d : Field) (r s : Lookup) → d ≡ field_at list p k → r ≡ look_up list p d.ty → r ≡ s
+pub named_is : (list : List ℕ) (p k : ℕ) (d : Field) (r s : Option ℕ) → d ≡ field_at list p k → r ≡ look_up list p d.ty → r ≡ s
     → look_up list p (field_at list p k).ty ≡ s
 named_is list p k d r s e f h = ap (λ (x : Field). look_up list p x.ty) (sym e) ∙ sym f ∙ h
 
@@ -39,6 +39,6 @@ pub wanted_is : (list : List ℕ) (p wanted o : ℕ) (d : Descriptor) (r s : Boo
 wanted_is list p wanted o d r s e f h = ap (λ (x : Descriptor). eqb x.ty wanted && eqb o 0) (sym e) ∙ sym f ∙ h
 
 -- the last field
-pub last_is : (list : List ℕ) (p o : ℕ) (d : Descriptor) (r s : Lookup) → d ≡ descriptor_at list p → r ≡ last_starting list p o ((d.length - 12) / 6) → r ≡ s
+pub last_is : (list : List ℕ) (p o : ℕ) (d : Descriptor) (r s : Option ℕ) → d ≡ descriptor_at list p → r ≡ last_starting list p o ((d.length - 12) / 6) → r ≡ s
     → last_starting list p o (field_count list p) ≡ s
 last_is list p o d r s e f h = ap (λ (x : Descriptor). last_starting list p o ((x.length - 12) / 6)) (sym e) ∙ sym f ∙ h

@@ -1,11 +1,11 @@
 -- `find_type`, turn by turn. Assumes nothing.
+use Rattle.std.specs.Prelude.{None, Some}
 use Prim.Native.Nat.{ℕ, zero, suc, ◌+◌, ◌≤◌, ◌<◌}
 use mathlib.Core.Path.{◌≡◌, refl, sym, ◌∙◌}
 use mathlib.Core.List.{List}
 use native.Mathlib.Omega.{arith}
 use Rattle.descriptors.specs.Descriptors.{length_at, type_at, WholeTo, start, look_up_in, look_up}
 use Rattle.descriptors.specs.laws.Lookups.{step, lookup-end, lookup-found, lookup_on}
-use Rattle.descriptors.specs.declared.descriptor.Lookup.TheVariants.{At, Nowhere}
 
 -- what is left of the search from p on comes to what the whole search comes to
 pub record Searching (list : List ℕ) (end type p : ℕ) : Type 0 where
@@ -19,7 +19,7 @@ unfolding look_up
 begins list end type = record { whole = start; steps = suc end; enough = omega arith; same = refl }
 
 module _ (list : List ℕ) (end type p : ℕ) (now : Searching list end type p) where
-  pub ends : end ≤ p → Nowhere ≡ look_up list end type
+  pub ends : end ≤ p → None ≡ look_up list end type
   ends l = sym (lookup-end list now.steps end type p l) ∙ now.same
 
   -- a claim about the next step: before the end there is one
@@ -30,7 +30,7 @@ module _ (list : List ℕ) (end type p : ℕ) (now : Searching list end type p) 
       go zero h s = absurd (omega arith)
       go (suc k) h s = f k h s
 
-  pub finds : p < end → type_at list p ≡ type → At p ≡ look_up list end type
+  pub finds : p < end → type_at list p ≡ type → Some p ≡ look_up list end type
   finds l e = by_step l (λ k h s. sym (lookup-found list k end type p l e) ∙ s)
 
   pub turns : WholeTo list end → p < end → (type_at list p ≡ type → ⊥) → Searching list end type (p + length_at list p)

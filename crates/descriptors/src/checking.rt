@@ -2,34 +2,32 @@
 ghost use Rattle.std.specs.Prelude.{◌≡◌, ◌+◌, ◌*◌, ◌≤◌, length};
 ghost use Rattle.descriptors.specs.Descriptors.{size_at, WholeTo, end_within, field_end, good_fields_in, good_shape, good_head, good_descriptor, good_list};
 
-use super::descriptor::{Descriptor, Field, FieldEnd, Lookup};
+use super::descriptor::{Descriptor, Field};
 use super::reading::{read_descriptor, read_field};
 use super::searching::find_type;
 
-// Where `extent` bytes from `offset` on end, if they start at or after `from` and fit inside `size`. No sum is made before it is known to fit.
-fn end_within(from: u64, size: u64, offset: u64, extent: u64) -> FieldEnd
+// The offset at which `extent` bytes from `offset` on end, if they start at or after `from` and fit inside `size`. No sum is made before it is known to fit.
+fn end_within(from: u64, size: u64, offset: u64, extent: u64) -> Option<u64>
     ensures { result ≡ end_within from size offset extent }
 {
     if offset < from {
-        return FieldEnd::BadField;
+        return None;
     }
     if size < offset {
-        return FieldEnd::BadField;
+        return None;
     }
     if size - offset < extent {
-        return FieldEnd::BadField;
+        return None;
     }
-    FieldEnd::EndsAt(offset + extent)
+    Some(offset + extent)
 }
 
 // Where a field of the descriptor at p, of a record of `size` bytes, ends, if it is good behind `from`.
-fn field_end(list: &[u8], p: usize, from: u64, size: u64, field: Field) -> FieldEnd
+fn field_end(list: &[u8], p: usize, from: u64, size: u64, field: Field) -> Option<u64>
     requires { (WholeTo list.now p) × (size ≡ size_at list.now p) }
     ensures { result ≡ field_end list.now p from field }
 {
-    let Lookup::At(q) = find_type(list, p, field.ty) else {
-        return FieldEnd::BadField;
-    };
+    let q = find_type(list, p, field.ty)?;
     let d = read_descriptor(list, q as usize);
     end_within(from, size, field.offset, d.size)
 }
@@ -40,18 +38,13 @@ fn good_fields(list: &[u8], p: usize, n: usize, size: u64) -> bool
     ensures { result ≡ good_fields_in n list.now p 0 0 }
 {
     let mut from: u64 = 0;
-    let mut k = 0;
-    loop {
-        if k == n {
-            break true;
-        }
-        let field = read_field(list, p, k);
-        let FieldEnd::EndsAt(end) = field_end(list, p, from, size, field) else {
-            break false;
+    for k in 0..n {
+        let Some(end) = field_end(list, p, from, size, read_field(list, p, k)) else {
+            return false;
         };
         from = end;
-        k = k + 1;
     }
+    true
 }
 
 // Whether the length is what the kind asks for.
@@ -99,10 +92,7 @@ fn good_descriptor(list: &[u8], p: usize) -> bool
     }
     let d = read_descriptor(list, p);
     let n = ((d.length - 12) / 6) as usize;
-    match find_type(list, p, d.ty) {
-        Lookup::At(_) => false,
-        Lookup::Nowhere => good_fields(list, p, n, d.size),
-    }
+    find_type(list, p, d.ty).is_none() && good_fields(list, p, n, d.size)
 }
 
 // Whether every descriptor of the list is good.
@@ -110,14 +100,11 @@ pub fn good_list(list: &[u8]) -> bool
     ensures { result ≡ good_list list.now }
 {
     let mut p = 0;
-    loop {
-        if p == list.len() {
-            break true;
-        }
+    while p < list.len() {
         if !good_descriptor(list, p) {
-            break false;
+            return false;
         }
-        let d = read_descriptor(list, p);
-        p = p + d.length as usize;
+        p += read_descriptor(list, p).length as usize;
     }
+    true
 }

@@ -1,4 +1,4 @@
-// Descriptors and fields by value, and what a search answers.
+// Descriptors and fields by value.
 
 // A descriptor without its fields: its length in bytes, its kind, its type number and the described size in bytes.
 #[derive(Clone, Copy)]
@@ -14,18 +14,4 @@ pub struct Descriptor {
 pub struct Field {
     pub offset: u64,
     pub ty: u64,
-}
-
-// The position of the descriptor, or the index of the field, that a search finds; or that there is none.
-#[derive(Clone, Copy)]
-pub enum Lookup {
-    At(u64),
-    Nowhere,
-}
-
-// The offset in the record at which a good field ends; or that it is bad.
-#[derive(Clone, Copy)]
-pub enum FieldEnd {
-    EndsAt(u64),
-    BadField,
 }

@@ -4,7 +4,6 @@ ghost use Rattle.std.specs.Prelude.{◌≡◌, ◌&&◌, ◌≤◌, ◌<◌, eqb
 ghost use Rattle.descriptors.specs.Descriptors.{field_count, field_at, Stands};
 ghost use Rattle.descriptors.specs.Layouts.{field_has, type_has};
 
-use super::descriptor::Lookup;
 use super::reading::{read_descriptor, read_field};
 use super::searching::{find_type, last_field};
 
@@ -30,8 +29,8 @@ pub fn type_has(list: &[u8], wanted: u64, p: usize, o: u64) -> bool
     }
     let n = (d.length - 12) / 6;
     match last_field(list, p, n as usize, o) {
-        Lookup::Nowhere => false,
-        Lookup::At(k) => field_has(list, wanted, p, k as usize, o),
+        None => false,
+        Some(k) => field_has(list, wanted, p, k as usize, o),
     }
 }
 
@@ -43,7 +42,7 @@ fn field_has(list: &[u8], wanted: u64, p: usize, k: usize, o: u64) -> bool
 {
     let f = read_field(list, p, k);
     match find_type(list, p, f.ty) {
-        Lookup::Nowhere => false,
-        Lookup::At(q) => type_has(list, wanted, q as usize, o - f.offset),
+        None => false,
+        Some(q) => type_has(list, wanted, q as usize, o - f.offset),
     }
 }

@@ -1,4 +1,5 @@
 -- A block of the layout is freed: its gap, its own bytes and the next gap become one gap. Assumes nothing.
+use Rattle.std.specs.Prelude.{Some}
 use Prim.Native.Nat.{ℕ, zero, suc, ◌+◌, ◌-◌, ◌≤◌}
 use mathlib.Core.Path.{◌≡◌, refl, sym, ap, ◌∙◌}
 use mathlib.Core.Bool.{Bool, true, false, cond, ◌||◌}
@@ -13,7 +14,6 @@ use Rattle.block.specs.Layout.{free_header, sound, is_free, extent_at}
 use Rattle.block.specs.Walk.{stopped, walk, reaching, walk_to}
 use Rattle.block.specs.laws.Walks.{walk_stopped}
 use Rattle.block.specs.laws.WalkTo.{walk_to_stopped}
-use Rattle.block.specs.declared.walk.Met.TheVariants as met
 use Rattle.store.specs.Calls.{released, merge_start, merge_end, merged}
 use Rattle.store.specs.laws.Free.{merge_start_here, merge_start-free, merge_end_last, merge_end-free, merge_end_live, released_merges, merged_parts}
 use Rattle.store.specs.declared.release.Release.TheVariants as release
@@ -59,7 +59,7 @@ module _ (image : List ℕ) (l : Layout) (k g : ℕ) (b : Block) (m : Layout) (f
       ∙ walk_stopped (reaching (k + g)) image crossed.latest (k + g) (block_sound image k g b m f.part) (le-leb (k + g) (k + g) (omega arith))
 
   -- and so meets it
-  meets : walk_to image (k + g) ≡ met.After crossed.latest
+  meets : walk_to image (k + g) ≡ Some crossed.latest
   meets = walk_to_stopped image (k + g) crossed.latest walked
 
   -- the merging starts with the block's gap

@@ -1,4 +1,5 @@
 -- What the definitions over bytes come to on an image with a layout. Assumes nothing.
+use Rattle.std.specs.Prelude.{Some}
 use Prim.Native.Nat.{ℕ, ◌+◌, ◌-◌, ◌^◌, ◌≤◌, ◌<◌}
 use mathlib.Core.Path.{◌≡◌, refl}
 use mathlib.Core.Bool.{true, false, cond}
@@ -11,7 +12,6 @@ use Rattle.block.specs.Bytes.{put}
 use Rattle.block.specs.Layout.{header_at, sound, is_free, is_live, extent_at, size_at}
 use Rattle.block.specs.Walk.{first_fit, walk_to, count_blocks, OnWalk}
 use Rattle.block.specs.declared.walk.Fit.TheVariants as fit
-use Rattle.block.specs.declared.walk.Counted.TheVariants as counted
 use Rattle.store.specs.Calls.{fresh, taken_extent, carved, released, merged}
 use Rattle.store.specs.declared.answer.Refusal.TheVariants.{Unsound}
 use Rattle.store.specs.declared.release.Release.TheVariants as release
@@ -154,7 +154,7 @@ pub placed-fresh : (s L : ℕ) → 64 ≤ L → L ≤ 2 ^ 30 → Placed (fresh s
 placed-fresh s L low high = fresh-placed s L low high
 
 -- a count of the blocks gives the layout's counts
-pub counted_as : (image : List ℕ) (l : Layout) → Placed image l → count_blocks image ≡ counted.Counts (counts l)
+pub counted_as : (image : List ℕ) (l : Layout) → Placed image l → count_blocks image ≡ Some (counts l)
 counted_as image l p = count_layout image l p
 
 -- the gaps lie behind the superblock

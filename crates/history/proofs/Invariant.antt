@@ -1,6 +1,7 @@
 -- What holds of image, table and abstract heap between any two calls of a list.
 -- In order: the invariant; a live object in the image; what decides the image; what pointers lead to; another list of the objects; set-up. Not here: that each
 -- call keeps it (`Steps`). Assumes nothing.
+use Rattle.std.specs.Prelude.{Ok}
 use Prim.Native.Nat.{ℕ, ◌+◌, ◌-◌, ◌^◌, ◌≤◌}
 use mathlib.Core.Path.{◌≡◌, refl, sym, ap, ◌∙◌, subst}
 use mathlib.Core.Bool.{Bool, true, false, cond}
@@ -25,7 +26,6 @@ use Rattle.store.specs.laws.Opening.{opening-passes}
 use Rattle.store.specs.laws.TagReading.{Stands, Located, located_object, located_leads, located-at}
 use Rattle.store.specs.laws.Access.{accessed-at}
 use Rattle.store.specs.laws.Distances.{distances-located}
-use Rattle.store.specs.declared.answer.Answer.TheVariants.{Accepted}
 use Rattle.store.specs.declared.answer.Refusal.TheVariants.{OutOfBounds}
 use Rattle.store.specs.declared.measuring.Measurement.TheVariants.{Distances}
 use Rattle.history.specs.Heap.{Object, Heap, start, holds, owner_of, inside}
@@ -240,17 +240,17 @@ same-image {s} {L} {image} {image'} {l} {l'} f f' looks =
 
 module _ {s L : ℕ} {x : State} {heap : Heap} (i : Invariant s L x heap) where
   -- rows 4 and 5 let every call pass
-  pub opens : opening x ≡ Accepted s
+  pub opens : opening x ≡ Ok s
   opens =
       let e : slot_exponent x.image ≡ s = exponent_is i.laid in
-      opening-passes x (superblock_is_good i.laid) (rw (e, i.laid.long) i.tabled.long) ∙ ap Accepted e
+      opening-passes x (superblock_is_good i.laid) (rw (e, i.laid.long) i.tabled.long) ∙ ap Ok e
 
   -- reading the pointer's tag finds the header at k
   pub record Leads (k p : ℕ) : Type 0 where
     pub tag : good_tag s (unpack p) ≡ true
     pub back : leads_back s (unpack p) x ≡ true
     pub place : header_place s (unpack p) x.table ≡ k
-    pub found : located s (unpack p) x ≡ Accepted k
+    pub found : located s (unpack p) x ≡ Ok k
 
   -- each pointer of a live object leads to its header
   pub leads : (k : ℕ) (o : Object) (p : ℕ) → find heap k ≡ some o → PointerOf s k o.size p → Leads k p
@@ -271,21 +271,21 @@ module _ {s L : ℕ} {x : State} {heap : Heap} (i : Invariant s L x heap) where
       record { tag = l.good; back = located_leads s (unpack p) x k l; place = sym l.place; found = located-at s (unpack p) x k l }
 
   -- allocate's answer leads to its object
-  pub answer_leads : (k : ℕ) (o : Object) → find heap k ≡ some o → located s (unpack o.answer) x ≡ Accepted k
+  pub answer_leads : (k : ℕ) (o : Object) → find heap k ≡ some o → located s (unpack o.answer) x ≡ Ok k
   answer_leads k o e =
       let n = known i.laid k o e in
       (leads k o o.answer e
       (rw (i.laid.fine k o e).answered (own_pointer s k o.size i.laid.shape.exponent_high n.fits))).found
 
   -- each pointer leads to its owner
-  pub owner_leads : (p : ℕ) (o : Object) → owner_of heap p ≡ some o → located s (unpack p) x ≡ Accepted (header_of o)
+  pub owner_leads : (p : ℕ) (o : Object) → owner_of heap p ≡ some o → located s (unpack p) x ≡ Ok (header_of o)
   owner_leads p o e =
       let w : Owned heap p o = owned heap p o i.laid.distinct e in
       (leads (header_of o) o p w.found ((i.laid.fine (header_of o) o w.found).good p w.mine)).found
 
   -- n bytes through a pointer: refused exactly where they are not all inside its object
   pub accesses : (p : ℕ) (o : Object) (n : ℕ) → owner_of heap p ≡ some o
-      → accessed s (unpack p) n x ≡ demand (inside o p n) OutOfBounds (Accepted (unpack p).address)
+      → accessed s (unpack p) n x ≡ demand (inside o p n) OutOfBounds (Ok (unpack p).address)
   unfolding inside
   accesses p o n e =
       let q = known i.laid (header_of o) o (owned heap p o i.laid.distinct e).found in

@@ -1,5 +1,6 @@
 -- Frees and releases in either order, on an image and table with the invariant.
 -- In order: two live objects; an object and a list of others; two lists; two cues. Assumes nothing.
+use Rattle.std.specs.Prelude.{Ok}
 use Prim.Native.Nat.{ℕ}
 use mathlib.Core.Path.{◌≡◌, refl, sym, ap, ◌∙◌}
 use mathlib.Core.Bool.{not, cond}
@@ -13,7 +14,6 @@ use Rattle.store.specs.State.{State, Outcome, returned}
 use Rattle.store.specs.Calls.{noted, free, free_each, release_cue}
 use Rattle.store.specs.laws.Entries.{noted_either}
 use Rattle.store.specs.laws.Release.{free_each_none, free_each_one}
-use Rattle.store.specs.declared.answer.Answer.TheVariants.{Accepted}
 use Rattle.history.specs.Heap.{Object, Heap, of_cue, without_cue}
 use Rattle.history.specs.History.{In, header_of}
 use Rattle.history.specs.Release.{answers}
@@ -106,7 +106,7 @@ module _ {s L : ℕ} {x : State} {heap : Heap} (i : Invariant s L x heap) where
       released (release_left i c) d
       ∙ (λ k.
       record {
-        answer = (ap (λ (os : Heap). Accepted (length os)) (objects_stay c d n) ∙ sym (ap (λ (r : Outcome). r.answer) (released i d))) k;
+        answer = (ap (λ (os : Heap). Ok (length os)) (objects_stay c d n) ∙ sym (ap (λ (r : Outcome). r.answer) (released i d))) k;
         after = free_each (answers (objects_stay c d n k)) (released i c k).after;
       })
 

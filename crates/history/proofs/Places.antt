@@ -1,4 +1,5 @@
 -- What holds at every place that the walk over a layout's image comes to. Assumes nothing.
+use Rattle.std.specs.Prelude.{None, Option, Some}
 use Prim.Native.Nat.{ℕ, ◌+◌, ◌-◌, ◌≤◌, ◌<◌}
 use mathlib.Core.Path.{◌≡◌, sym, ap, ◌∙◌}
 use mathlib.Core.Bool.{true, false}
@@ -13,8 +14,6 @@ use Rattle.block.specs.laws.Headers.{length-header}
 use Rattle.block.specs.laws.Soundness.{sound_in}
 use Rattle.block.specs.Walk.{walk_to}
 use Rattle.block.specs.laws.WalkTo.{MeetsBlock, walk_to_meets}
-use Rattle.block.specs.declared.walk.Met.{Met}
-use Rattle.block.specs.declared.walk.Met.TheVariants as met
 use Rattle.store.specs.Calls.{released}
 use Rattle.store.specs.laws.Free.{released_lost}
 use Rattle.store.specs.declared.answer.Refusal.TheVariants.{Unsound}
@@ -85,9 +84,9 @@ module _ (image : List ℕ) (l : Layout) where
   standing_looked _ the_end e o r = omega (arith, sound_in image (length image) o)
 
   -- where the layout has no block, a live header is not met, and a free of it is refused
-  pub not_met : Placed image l → (h : ℕ) → block_at l h ≡ none → is_live image h ≡ true → (w : Met) → walk_to image h ≡ w
+  pub not_met : Placed image l → (h : ℕ) → block_at l h ≡ none → is_live image h ≡ true → (w : Option ℕ) → walk_to image h ≡ w
       → released image h w ≡ release.Refused Unsound
-  not_met p h e r (met.After before) q =
+  not_met p h e r (Some before) q =
       let m : MeetsBlock image h before = walk_to_meets image h before q in
       absurd (standing_looked h (standing image l p h m.on_walk) e m.is_sound r)
-  not_met p h e r met.Lost q = released_lost image h
+  not_met p h e r None q = released_lost image h

@@ -1,5 +1,6 @@
 -- A release on an image and table with the invariant.
 -- In order: lists in the order of addresses; the cue's objects, so ordered; freeing live objects singly; what a release comes to. Assumes nothing.
+use Rattle.std.specs.Prelude.{Ok}
 use Prim.Native.Nat.{ℕ, suc, ◌+◌, ◌≤◌, ◌<◌}
 use mathlib.Core.Path.{◌≡◌, refl, sym, ap, ◌∙◌, subst}
 use mathlib.Core.Bool.{Bool, true, not, cond}
@@ -22,7 +23,6 @@ use Rattle.store.specs.Step.{releases}
 use Rattle.store.specs.Claims.{EachFreed, none_left, one_freed}
 use Rattle.store.specs.laws.Entries.{entry_holds_lem}
 use Rattle.store.specs.laws.Release.{all_held_none, all_held_one, extents_none, extents_one, pointers_to_none, pointers_to_one, free_each_none, free_each_one, release_is}
-use Rattle.store.specs.declared.answer.Answer.TheVariants.{Accepted}
 use Rattle.history.specs.Heap.{Object, Heap, without, of_cue, without_cue, hear}
 use Rattle.history.specs.History.{Configuration, In, header_of}
 use Rattle.history.specs.Release.{answers, FreedSingly}
@@ -242,12 +242,12 @@ module _ {s L : ℕ} {x : State} {heap : Heap} (i : Invariant s L x heap) (cue :
   )
 
   -- it frees them
-  pub released : release_cue cue x ≡ record { answer = Accepted (length mine.objects); after = free_each (answers mine.objects) x }
+  pub released : release_cue cue x ≡ record { answer = Ok (length mine.objects); after = free_each (answers mine.objects) x }
   released =
       release_is s cue x (places_in cue 16 i.laid.layout) (opens i) (exponent_is i.laid)
       (gather_layout cue x.image i.laid.layout i.laid.placed) mine.held
       (omega (arith, mine.extents, total_is i.laid, i.laid.placed.whole))
-      ∙ (λ n. record { answer = Accepted (mine.count n); after = free_each (mine.pointers n) x })
+      ∙ (λ n. record { answer = Ok (mine.count n); after = free_each (mine.pointers n) x })
 
   -- the heap's tests of its objects
   abbrev is_mine : Object → Bool

@@ -1,6 +1,7 @@
 -- Each call keeps the invariant, and what it answers.
 -- In order: bytes inside an object; allocate; free; a changed object; move; load; store, fill and copy; text copy. Not here: what follows for a list
 -- (`Theorem`). Assumes nothing.
+use Rattle.std.specs.Prelude.{Err, None, Ok, Option, Some}
 use Prim.Native.Nat.{ℕ, ◌+◌, ◌-◌, ◌^◌, ◌≤◌, ◌<◌}
 use mathlib.Core.Path.{◌≡◌, refl, sym, ap, ◌∙◌, subst}
 use mathlib.Core.Bool.{true, false, cond, ◌&&◌, and-true, and-false}
@@ -17,16 +18,12 @@ use Rattle.frame.specs.Tags.{pointer_to}
 use Rattle.frame.specs.laws.Objects.{unpack_address, moved_pointer, own_again}
 use Rattle.frame.proofs.Objects.{own_pointer}
 use Rattle.frame.specs.declared.parts.Pointer.{Pointer}
-use Rattle.frame.specs.declared.parts.Moved.{Moved}
-use Rattle.frame.specs.declared.parts.Moved.TheVariants.{To, Outside}
 use Rattle.block.specs.laws.Booleans.{by_bool, refuted, true_false, and_left, and_right, and_both}
 use Rattle.block.specs.Bytes.{encode, put}
 use Rattle.block.specs.laws.Fields.{length-encode}
 use Rattle.block.specs.laws.Writes.{length-put}
 use Rattle.block.specs.Text.{text_of}
 use Rattle.block.specs.laws.Text.{text_bound}
-use Rattle.block.specs.declared.text.Text.{Text}
-use Rattle.block.specs.declared.text.Text.TheVariants.{Ends, Endless}
 use Rattle.block.specs.Layout.{stored_total, extent_at, size_at}
 use Rattle.store.specs.State.{State, state, Outcome, outcome, refusal_number, returned, demand, refuse}
 use Rattle.store.specs.Calls.{entry_holds, taken_extent, allotted, noted, given_back, located, moved_by, good_width, total_fits, allocate_for, move, load, store, fill, copy, text_answer, text_at, copy_text, free}
@@ -45,8 +42,7 @@ use Rattle.store.specs.laws.CopyText.{text_ended, text_endless, text_located, co
 use Rattle.store.specs.laws.Free.{free_unread, free_refuses_base, free_lost, free_merges}
 use Rattle.store.specs.declared.answer.Refusal.{Refusal}
 use Rattle.store.specs.declared.answer.Refusal.TheVariants.{Unsound, NoSpace, NotBase, OutOfBounds, Unterminated}
-use Rattle.store.specs.declared.answer.Answer.{Answer}
-use Rattle.store.specs.declared.answer.Answer.TheVariants.{Accepted, Refused}
+use Rattle.store.specs.State.{Answer}
 use Rattle.history.specs.Heap.{Object, Heap, start, member, owner_of, offset, inside, bytes_at, written, pointed, new_object, change, without, write, copied, text_in, copied_text, text_copied, hear}
 use Rattle.history.specs.History.{In, header_of}
 use Rattle.history.proofs.Gaps.{Block, Layout, block_at, Clear, patched}
@@ -85,7 +81,7 @@ pub data Allocated (s L : ℕ) (x : State) (heap : Heap) (i : Invariant s L x he
       → Allocated s L x heap i size type cue
   given :
       (h : ℕ) → Clear x.image i.laid.layout h (16 + size)
-      → allocate_for size type cue x ≡ outcome (Accepted (pack (pointer_to s h size))) (allotted x.image h size type cue) (noted s h size h x.table)
+      → allocate_for size type cue x ≡ outcome (Ok (pack (pointer_to s h size))) (allotted x.image h size type cue) (noted s h size h x.table)
       → Invariant s L (state (allotted x.image h size type cue) (noted s h size h x.table)) (heap ++ (new_object (pack (pointer_to s h size)) size cue ∷ []))
       → Allocated s L x heap i size type cue
 
@@ -97,7 +93,7 @@ Nobody heap p = (o : Object) → In o heap → o.answer ≡ p → ⊥
 
 -- what the free of the live object at h answers, and leaves
 pub record Emptied {s L : ℕ} {x : State} {heap : Heap} (i : Invariant s L x heap) (h : ℕ) (o : Object) (r : Outcome) : Type 0 where
-  pub answers : r.answer ≡ Accepted 0
+  pub answers : r.answer ≡ Ok 0
   pub left : Invariant s L r.after (without heap o.answer)
   pub finds : (k : ℕ) → find (without heap o.answer) k ≡ cond (eqb k h) none (find heap k)
   pub looks : (k : ℕ) → block_at left.laid.layout k ≡ cond (eqb k h) none (block_at i.laid.layout k)
@@ -192,7 +188,7 @@ module _ {s L : ℕ} {x : State} {heap : Heap} (i : Invariant s L x heap) where
   -- Free.
 
   -- allocate's answer for a live object, at its header place
-  answer_found : (p : ℕ) (o : Object) → In o heap → o.answer ≡ p → (located s (unpack p) x ≡ Accepted (header_of o)) × ((unpack p).address ≡ header_of o + 16)
+  answer_found : (p : ℕ) (o : Object) → In o heap → o.answer ≡ p → (located s (unpack p) x ≡ Ok (header_of o)) × ((unpack p).address ≡ header_of o + 16)
   answer_found p o m a =
       let f : find heap (header_of o) ≡ some o = in_find heap o i.laid.distinct m in (
         ap (λ (q : ℕ). located s (unpack q) x) (sym a) ∙ answer_leads i (header_of o) o f,
@@ -200,8 +196,8 @@ module _ {s L : ℕ} {x : State} {heap : Heap} (i : Invariant s L x heap) where
       )
 
   -- it leads nowhere else
-  answer_only : (p h : ℕ) (o : Object) → In o heap → o.answer ≡ p → located s (unpack p) x ≡ Accepted h → header_of o ≡ h
-  answer_only p h o m a e = let f : located s (unpack p) x ≡ Accepted (header_of o) = (answer_found p o m a).0 in cc
+  answer_only : (p h : ℕ) (o : Object) → In o heap → o.answer ≡ p → located s (unpack p) x ≡ Ok h → header_of o ≡ h
+  answer_only p h o m a e = let f : located s (unpack p) x ≡ Ok (header_of o) = (answer_found p o m a).0 in cc
 
   module _ (h : ℕ) (b : Block) (o : Object) (e : find heap h ≡ some o) (f : Freed x.image i.laid.layout h b) where
     gone_law : (k : ℕ) → find (without heap o.answer) k ≡ cond (eqb k h) none (find heap k)
@@ -224,7 +220,7 @@ module _ {s L : ℕ} {x : State} {heap : Heap} (i : Invariant s L x heap) where
     gone_table : noted s h (size_at x.image h) 0 x.table ≡ noted s h o.size 0 x.table
     gone_table = ap (λ (n : ℕ). noted s h n 0 x.table) (known i.laid h o e).size
 
-    gone_emptied : Emptied i h o (outcome (Accepted 0) (given_back x.image h f.from f.to) (noted s h (size_at x.image h) 0 x.table))
+    gone_emptied : Emptied i h o (outcome (Ok 0) (given_back x.image h f.from f.to) (noted s h (size_at x.image h) 0 x.table))
     unfolding gone_laid relaid
     gone_emptied =
         record {
@@ -258,7 +254,7 @@ module _ {s L : ℕ} {x : State} {heap : Heap} (i : Invariant s L x heap) where
   pub freeing : (p : ℕ) → p < 2 ^ 64 → Freeing s L x heap p
   freeing p fits = read (located s (unpack p) x) refl
     where
-      found : (h : ℕ) (o : Object) → located s (unpack p) x ≡ Accepted h → eqb (unpack p).address (h + 16) ≡ true → find heap h ≡ some o
+      found : (h : ℕ) (o : Object) → located s (unpack p) x ≡ Ok h → eqb (unpack p).address (h + 16) ≡ true → find heap h ≡ some o
           → Freeing s L x heap p
       found h o e t g =
           let r : Located s (unpack p) x h = located_parts s (unpack p) x h e in
@@ -270,7 +266,7 @@ module _ {s L : ℕ} {x : State} {heap : Heap} (i : Invariant s L x heap) where
           taken o (find_in heap h o g) a (subst (λ (z : ℕ). returned (free z x).answer ≡ 0) a (ap returned f.answers))
           (subst (λ (z : ℕ). Invariant s L (free z x).after (without heap z)) a f.left)
 
-      base : (h : ℕ) → located s (unpack p) x ≡ Accepted h → eqb (unpack p).address (h + 16) ≡ true → (r : Option Block) → block_at i.laid.layout h ≡ r
+      base : (h : ℕ) → located s (unpack p) x ≡ Ok h → eqb (unpack p).address (h + 16) ≡ true → (r : Option Block) → block_at i.laid.layout h ≡ r
           → Freeing s L x heap p
       base h e t none g =
           let r : Located s (unpack p) x h = located_parts s (unpack p) x h e in
@@ -283,10 +279,10 @@ module _ {s L : ℕ} {x : State} {heap : Heap} (i : Invariant s L x heap) where
           found h o.0 e t o.1
 
       read : (r : Answer) → located s (unpack p) x ≡ r → Freeing s L x heap p
-      read (Refused r) e =
+      read (Err r) e =
           declined r (free_unread s x (opens i) p r e) (λ z. omega (arith, (located_refusal s (unpack p) x r e).1))
-          (λ o m a. let f : located s (unpack p) x ≡ Accepted (header_of o) = (answer_found p o m a).0 in let z : ◌≡◌ {A = ℕ} 0 1 = cc in omega arith)
-      read (Accepted h) e =
+          (λ o m a. let f : located s (unpack p) x ≡ Ok (header_of o) = (answer_found p o m a).0 in let z : ◌≡◌ {A = ℕ} 0 1 = cc in omega arith)
+      read (Ok h) e =
           by_bool (eqb (unpack p).address (h + 16))
           (λ t. base h e t (block_at i.laid.layout h) refl)
           (λ t. declined NotBase (free_refuses_base s x (opens i) p h e t) (λ z. omega arith)
@@ -327,7 +323,7 @@ module _ {s L : ℕ} {x : State} {heap : Heap} (i : Invariant s L x heap) where
   -- Move.
 
   -- the pointer's object has one pointer more
-  move_owned : (p : ℕ) (o : Object) (d : ℤ) (q : Pointer) → owner_of heap p ≡ some o → moved (unpack p) (reach s (unpack p)) d ≡ To q
+  move_owned : (p : ℕ) (o : Object) (d : ℤ) (q : Pointer) → owner_of heap p ≡ some o → moved (unpack p) (reach s (unpack p)) d ≡ Some q
       → Invariant s L x (change (pointed (pack q)) heap p)
   unfolding member
   move_owned p o d q e m =
@@ -347,11 +343,11 @@ module _ {s L : ℕ} {x : State} {heap : Heap} (i : Invariant s L x heap) where
       x.image i.laid.layout n.block (formatted i.laid) n.cue n.body
       (λ k. by_bool (eqb k (header_of o)) (λ t. rw t (ap (block_at i.laid.layout) (eqb-true k (header_of o) t) ∙ n.there)) (λ t. rw t))
 
-  move-to : (p : ℕ) (d : ℤ) → good_tag s (unpack p) ≡ true → (r : Moved) → moved (unpack p) (reach s (unpack p)) d ≡ r
+  move-to : (p : ℕ) (d : ℤ) → good_tag s (unpack p) ≡ true → (r : Option Pointer) → moved (unpack p) (reach s (unpack p)) d ≡ r
       → Invariant s L x (hear heap (moves p d) (moved_by s (unpack p) d))
   unfolding hear
-  move-to p d t Outside m = rw (← moved_out s (unpack p) d t m) i
-  move-to p d t (To q) m = rw (← moved_in s (unpack p) d q t m) (go (owner_of heap p) refl)
+  move-to p d t None m = rw (← moved_out s (unpack p) d t m) i
+  move-to p d t (Some q) m = rw (← moved_in s (unpack p) d q t m) (go (owner_of heap p) refl)
     where
       go : (r : Option Object) → owner_of heap p ≡ r → Invariant s L x (change (pointed (pack q)) heap p)
       go none e = rw (change_nobody (pointed (pack q)) heap p e) i
@@ -482,7 +478,7 @@ module _ {s L : ℕ} {x : State} {heap : Heap} (i : Invariant s L x heap) where
   -- Text copy.
 
   -- a pointer's text lies inside its object exactly where its first byte does
-  inside_text : (p : ℕ) (o : Object) (n : ℕ) → owner_of heap p ≡ some o → text_in o p ≡ Ends n → inside o p (n + 1) ≡ inside o p 1
+  inside_text : (p : ℕ) (o : Object) (n : ℕ) → owner_of heap p ≡ some o → text_in o p ≡ Some n → inside o p (n + 1) ≡ inside o p 1
   inside_text p o n e t =
       let short : n < length (drop (offset o p) o.bytes) = text_bound (drop (offset o p) o.bytes) n t in
       by_bool (inside o p 1)
@@ -521,32 +517,32 @@ module _ {s L : ℕ} {x : State} {heap : Heap} (i : Invariant s L x heap) where
 
   module _ (t p : ℕ) (o o' : Object) (e : owner_of heap t ≡ some o) (f : owner_of heap p ≡ some o') where
     -- what the search of the source gives
-    searched : (w : Text) → text_in o' p ≡ w → text_at s (unpack p) x ≡ demand (inside o' p 1) OutOfBounds (text_answer w)
-    searched w g = text_through p o' f ∙ ap (λ (v : Text). demand (inside o' p 1) OutOfBounds (text_answer v)) g
+    searched : (w : Option ℕ) → text_in o' p ≡ w → text_at s (unpack p) x ≡ demand (inside o' p 1) OutOfBounds (text_answer w)
+    searched w g = text_through p o' f ∙ ap (λ (v : Option ℕ). demand (inside o' p 1) OutOfBounds (text_answer v)) g
 
     -- a text that ends is copied where its length plus one bytes of both lie inside their objects
-    pub copies_text_lem : (n : ℕ) → text_in o' p ≡ Ends n
+    pub copies_text_lem : (n : ℕ) → text_in o' p ≡ Some n
         → copy_text t p x ≡ through x (n + 1) (inside o t (n + 1) && inside o' p (n + 1)) (unpack t).address (take (n + 1) (drop (unpack p).address x.image))
     copies_text_lem n g =
         by_bool (inside o' p 1)
         (λ u.
         rw (inside_text p o' n f g, u, and-true (inside o t (n + 1)))
-        (copy_text-through s x (opens i) t p n (inside o t (n + 1)) ((rw u at (searched (Ends n) g)) ∙ sym (text_ended n)) (accesses i t o (n + 1) e)))
+        (copy_text-through s x (opens i) t p n (inside o t (n + 1)) ((rw u at (searched (Some n) g)) ∙ sym (text_ended n)) (accesses i t o (n + 1) e)))
         (λ u.
         rw (inside_text p o' n f g, u, and-false (inside o t (n + 1)))
-        (copy_text_refuses s x (opens i) t p OutOfBounds (rw u at (searched (Ends n) g))))
+        (copy_text_refuses s x (opens i) t p OutOfBounds (rw u at (searched (Some n) g))))
 
     -- one that does not is refused, by 13 or 20
-    pub copies_no_text : text_in o' p ≡ Endless → (r : Refusal) × (copy_text t p x ≡ refuse r x)
+    pub copies_no_text : text_in o' p ≡ None → (r : Refusal) × (copy_text t p x ≡ refuse r x)
     copies_no_text g =
         by_bool (inside o' p 1)
-        (λ u. (Unterminated, copy_text_refuses s x (opens i) t p Unterminated ((rw u at (searched Endless g)) ∙ sym text_endless)))
-        (λ u. (OutOfBounds, copy_text_refuses s x (opens i) t p OutOfBounds (rw u at (searched Endless g))))
+        (λ u. (Unterminated, copy_text_refuses s x (opens i) t p Unterminated ((rw u at (searched None g)) ∙ sym text_endless)))
+        (λ u. (OutOfBounds, copy_text_refuses s x (opens i) t p OutOfBounds (rw u at (searched None g))))
 
     pub copy_text-step : Invariant s L (copy_text t p x).after (hear heap (copies_text t p) (copy_text t p x).answer)
     unfolding hear text_copied copied_text
     copy_text-step = rw f (go (text_in o' p) refl)
       where
-        go : (w : Text) → text_in o' p ≡ w → Invariant s L (copy_text t p x).after (copied_text w (some o') t p heap)
-        go (Ends n) g = rw (copies_text_lem n g) (copied-through t p o o' (n + 1) e f (n + 1))
-        go Endless g = rw (copies_no_text g).1 i
+        go : (w : Option ℕ) → text_in o' p ≡ w → Invariant s L (copy_text t p x).after (copied_text w (some o') t p heap)
+        go (Some n) g = rw (copies_text_lem n g) (copied-through t p o o' (n + 1) e f (n + 1))
+        go None g = rw (copies_no_text g).1 i

@@ -1,6 +1,6 @@
 -- Demand 3, one claim about every list of calls from a freshly set up image and table, and demand 2's part on such lists: document 01,
 -- "Demand 3's list and book" and "Why a call was declined", and document 02. Assumes nothing.
-use Rattle.std.specs.Prelude.{ℕ, ◌+◌, ◌-◌, ◌^◌, ◌≤◌, ◌<◌, ◌≡◌, ◌⊎◌, ◌↔◌, Bool, true, false, ◌&&◌, ◌||◌, length, get_or, ltb, ℤ, pos, negsuc}
+use Rattle.std.specs.Prelude.{ℕ, ◌+◌, ◌-◌, ◌^◌, ◌≤◌, ◌<◌, ◌≡◌, ◌⊎◌, ◌↔◌, Bool, true, false, ◌&&◌, ◌||◌, length, get_or, ltb, ℤ, pos, negsuc, Some}
 use mathlib.Core.List.{List, [], ◌∷◌, Memᴰ}
 use Rattle.std.proofs.Math.Option.{some}
 use Rattle.std.proofs.Math.IntN.{sub_ℕ}
@@ -8,7 +8,6 @@ use Rattle.frame.specs.Pointers.{unpack, good_tag}
 use Rattle.frame.specs.Tags.{is_small, entry_of}
 use Rattle.block.specs.Bytes.{decode}
 use Rattle.block.specs.Order.{compare_bytes, sign}
-use Rattle.block.specs.declared.text.Text.TheVariants.{Ends}
 use Rattle.block.specs.Layout.{slot_exponent, extent_at, size_at, cue_at}
 use Rattle.store.specs.State.{State, Outcome, IsAccepted, returned, value, comparison_number, comparison_value}
 use Rattle.store.specs.Calls.{set_up, allocate_for, load, store, free, fill, copy, compare, copy_text, release_cue, good_width, leads_back, header_place, distances}
@@ -154,7 +153,7 @@ ComparesExactly x =
 abbrev pub TextsExactly : Configuration → Type 0
 TextsExactly x =
     EachTwo x λ o o' t p.
-    IsAccepted (copy_text t p x.state) ↔ ((n : ℕ) × (text_in o' p ≡ Ends n) × BothInside o o' t p (n + 1))
+    IsAccepted (copy_text t p x.state) ↔ ((n : ℕ) × (text_in o' p ≡ Some n) × BothInside o o' t p (n + 1))
 
 -- the distances of a live object's pointer, in its body or not, are those from the object's start and to its end
 abbrev pub DistancesShown : Configuration → Type 0
@@ -177,7 +176,7 @@ ComparesBytes x =
 -- an accepted text copy gives the length of the heap's text plus one
 abbrev pub TextsCounted : Configuration → Type 0
 TextsCounted x =
-    EachTwo x λ o o' t p. (n : ℕ) → text_in o' p ≡ Ends n → IsAccepted (copy_text t p x.state) → value (copy_text t p x.state).answer ≡ n + 1
+    EachTwo x λ o o' t p. (n : ℕ) → text_in o' p ≡ Some n → IsAccepted (copy_text t p x.state) → value (copy_text t p x.state).answer ≡ n + 1
 
 -- a claim about the number that each allocate returns, for any cue (0 for none)
 abbrev pub EachAllocate : State → (ℕ → ℕ → Type 0) → Type 0

@@ -1,4 +1,5 @@
 -- Free, way out by way out: where the merged block starts and ends, and the bytes of it. Assumes nothing.
+use Rattle.std.specs.Prelude.{Some}
 use mathlib.Core.Path.{◌≡◌, refl, sym, ap, ◌∙◌}
 use mathlib.Core.Bool.{true, false, cond, and-false}
 use mathlib.Core.List.{List, ◌++◌}
@@ -15,7 +16,6 @@ use Rattle.block.specs.laws.Headers.{length-header}
 use Rattle.block.specs.laws.Soundness.{sound_in}
 use Rattle.block.specs.laws.WalkTo.{behind_in, walk_to_meets}
 use Rattle.block.specs.declared.header.Header.{Header}
-use Rattle.block.specs.declared.walk.Met.TheVariants as met
 use Rattle.store.specs.Calls.{merge_start, released, merged}
 use Rattle.store.specs.laws.Free.{merge_start_here, merge_start-free, merge_end_last, merge_end-next, released_merges, released_unsound}
 use Rattle.store.specs.declared.answer.Refusal.TheVariants.{Unsound}
@@ -35,7 +35,7 @@ module _ (image : List ℕ) (before h : ℕ) where
 
 -- the walk meets the sound block at h, behind the one at `before`; `next` is where it ends
 pub record Meets (image : List ℕ) (h before next : ℕ) : Type 0 where
-  pub met : walk_to image h ≡ met.After before
+  pub met : walk_to image h ≡ Some before
   pub follows : next ≡ h + extent_at image h
   pub is_sound : sound image h ≡ true
 

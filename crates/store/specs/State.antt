@@ -1,12 +1,9 @@
 -- What a call is given and what it leaves: document 01, "Why a call was declined", and document 02's further rows. Assumes nothing.
-use Rattle.std.specs.Prelude.{ℕ, ◌+◌, ◌-◌, ◌≡◌, Bool, cond, List, ℤ, pos}
+use Rattle.std.specs.Prelude.{ℕ, ◌+◌, ◌-◌, ◌≡◌, Bool, cond, List, ℤ, pos, Err, Ok, Result}
 use Rattle.block.specs.Order.{sign}
 use Rattle.store.specs.declared.answer.Refusal.{Refusal}
 use Rattle.store.specs.declared.answer.Refusal.TheVariants.{BadExponent, BadLength, TooFewEntries, BadSuperblock, ShortTable, Empty, Unsound, NoSpace, EntryTaken, BadTag, Dangling, Leaves, OutOfBounds, BadWidth, NotBase, TooLarge, Unterminated, EntryLost, WrongTotal, BadDescriptor, Undescribed}
-use Rattle.store.specs.declared.answer.Answer.{Answer}
-use Rattle.store.specs.declared.answer.Answer.TheVariants.{Accepted, Refused}
-use Rattle.store.specs.declared.comparing.Comparison.{Comparison}
-use Rattle.store.specs.declared.comparing.Comparison.TheVariants as comparison
+use Rattle.store.specs.State.{Answer}
 use Rattle.store.specs.declared.measuring.Measurement.{Measurement}
 use Rattle.store.specs.declared.measuring.Measurement.TheVariants as measurement
 use Rattle.store.specs.declared.counting.Usage.{Usage}
@@ -38,13 +35,13 @@ refusal_number Undescribed = 25
 
 -- the number that a call returns: 0 where it is accepted
 abbrev pub returned : Answer → ℕ
-returned (Accepted v) = 0
-returned (Refused r) = refusal_number r
+returned (Ok v) = 0
+returned (Err r) = refusal_number r
 
 -- the value that it gives: 0 where it has none, or is refused
 abbrev pub value : Answer → ℕ
-value (Accepted v) = v
-value (Refused r) = 0
+value (Ok v) = v
+value (Err r) = 0
 
 -- the number that tally returns: 0 where it is accepted
 abbrev pub usage_number : Usage → ℕ
@@ -76,14 +73,14 @@ abbrev pub Balances : ℕ → Usage → Type 0
 Balances L u = live_bytes u + free_bytes u + overhead_bytes u ≡ L - 16
 
 -- the number that compare returns: 0 where it is accepted
-abbrev pub comparison_number : Comparison → ℕ
-comparison_number (comparison.Ordered o) = 0
-comparison_number (comparison.Refused r) = refusal_number r
+abbrev pub comparison_number : Result Ordering Refusal → ℕ
+comparison_number (Ok o) = 0
+comparison_number (Err r) = refusal_number r
 
 -- the value that it gives: 0 where it is refused
-abbrev pub comparison_value : Comparison → ℤ
-comparison_value (comparison.Ordered o) = sign o
-comparison_value (comparison.Refused r) = pos 0
+abbrev pub comparison_value : Result Ordering Refusal → ℤ
+comparison_value (Ok o) = sign o
+comparison_value (Err r) = pos 0
 
 -- the number that distances returns: 0 where it is accepted
 abbrev pub distances_number : Measurement → ℕ
@@ -124,18 +121,18 @@ IsAccepted r = returned r.answer ≡ 0
 
 -- refused with r where the test fails
 abbrev pub demand : Bool → Refusal → Answer → Answer
-demand ok r next = cond ok next (Refused r)
+demand ok r next = cond ok next (Err r)
 
 -- the next test, on the number that this one found
 abbrev pub and_then : Answer → (ℕ → Answer) → Answer
-and_then (Accepted v) next = next v
-and_then (Refused r) next = Refused r
+and_then (Ok v) next = next v
+and_then (Err r) next = Err r
 
 -- a refusal leaves the state as it was
 abbrev pub refuse : Refusal → State → Outcome
-refuse r x = record { answer = Refused r; after = x }
+refuse r x = record { answer = Err r; after = x }
 
 -- refused, or the call goes on with the number that its tests found
 abbrev pub conclude : State → Answer → (ℕ → Outcome) → Outcome
-conclude x (Accepted v) next = next v
-conclude x (Refused r) next = refuse r x
+conclude x (Ok v) next = next v
+conclude x (Err r) next = refuse r x

@@ -1,12 +1,11 @@
 -- The draws, one by one.
 -- In order: the three ways on; the loop's two ways out and its turn; what follows set-up. Assumes nothing.
-use Rattle.std.proofs.Common.{◌≡◌, ℕ, suc, ◌+◌, ◌-◌, ◌<◌, ◌≤◌, true, false, List, length, sym, refl, ap, ◌∙◌, arith, le-leb}
+use Rattle.std.proofs.Common.{◌≡◌, ℕ, suc, ◌+◌, ◌-◌, ◌<◌, ◌≤◌, true, false, List, length, sym, refl, ap, ◌∙◌, arith, le-leb, Err, Ok}
 use borrow.Author.Tests.{lt-leb}
 use Rattle.block.specs.Bytes.{put}
 use Rattle.store.specs.State.{State, state, Outcome, outcome}
 use Rattle.store.specs.Calls.{set_up}
-use Rattle.store.specs.declared.answer.Answer.{Answer}
-use Rattle.store.specs.declared.answer.Answer.TheVariants.{Accepted, Refused}
+use Rattle.store.specs.State.{Answer}
 use Rattle.store.specs.declared.answer.Refusal.{Refusal}
 use Rattle.call_log.specs.Run.{made}
 use Rattle.call_log.specs.Written.{record_of}
@@ -103,11 +102,11 @@ module _ (s g draws : ℕ) (x : State) (log : List ℕ) (a : Answer) (image tabl
       ap (after_set_up (outcome a image table) g draws log) (sym e) ∙ ap (λ (y : Outcome). after_set_up y g draws log y.answer) o
 
   -- it is refused
-  pub set_up-refused : (r : Refusal) → a ≡ Refused r → logged (answer.Refused r) (state image table) log ≡ traffic s g draws x log
-  set_up-refused r e = by_answer (Refused r) e
+  pub set_up-refused : (r : Refusal) → a ≡ Err r → logged (answer.Refused r) (state image table) log ≡ traffic s g draws x log
+  set_up-refused r e = by_answer (Err r) e
 
   -- the draws follow
-  pub set_up-followed : (n : ℕ) → a ≡ Accepted n → (t : Traffic) (image' table' log' : List ℕ)
+  pub set_up-followed : (n : ℕ) → a ≡ Ok n → (t : Traffic) (image' table' log' : List ℕ)
       → logged t (state image' table') log' ≡ logged_by (draws_from draws (started g (state image table) log))
       → logged t (state image' table') log' ≡ traffic s g draws x log
-  set_up-followed n e t image' table' log' d = d ∙ by_answer (Accepted n) e
+  set_up-followed n e t image' table' log' d = d ∙ by_answer (Ok n) e

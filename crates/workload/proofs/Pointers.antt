@@ -1,12 +1,11 @@
 -- The live pointers, the first of an array.
 -- In order: taking one out; one more, by an answer; the arms of `make`. Assumes nothing.
-use Rattle.std.proofs.Common.{◌≡◌, ℕ, suc, ◌+◌, ◌-◌, ◌<◌, ◌≤◌, List, ◌++◌, length, get_or, take, drop, set, sym, refl, ap, ◌∙◌, add-one, arith, length-drop, length-take-le, get_or-drop, take-take, take-suc-set, take-add, drop_at}
+use Rattle.std.proofs.Common.{◌≡◌, ℕ, suc, ◌+◌, ◌-◌, ◌<◌, ◌≤◌, List, ◌++◌, length, get_or, take, drop, set, sym, refl, ap, ◌∙◌, add-one, arith, length-drop, length-take-le, get_or-drop, take-take, take-suc-set, take-add, drop_at, Err, Ok}
 use lib.Seq.{paste, paste-zero, paste-suc, take-paste, drop-paste}
 use Rattle.store.specs.State.{State, returned, value}
 use Rattle.store.specs.laws.Refusals.{refused_some}
 use Rattle.call_log.specs.Run.{made}
-use Rattle.store.specs.declared.answer.Answer.{Answer}
-use Rattle.store.specs.declared.answer.Answer.TheVariants.{Accepted, Refused}
+use Rattle.store.specs.State.{Answer}
 use Rattle.workload.specs.Choice.{call_of, remove_at, joined, pointers_after, HasRoom}
 use Rattle.workload.specs.declared.choosing.Choice.{Choice}
 use Rattle.workload.specs.declared.choosing.Choice.TheVariants.{Allocate, Free, Store}
@@ -69,14 +68,14 @@ module _ (held : List ℕ) (i : ℕ) where
 
 -- none, where the number is not 0
 pub joined_none : (a : Answer) (n : ℕ) (ps : List ℕ) → n ≡ returned a → (n ≡ 0 → ⊥) → ps ≡ joined a ps
-joined_none (Accepted v) n ps e d = absurd (d e)
-joined_none (Refused r) n ps e d = refl
+joined_none (Ok v) n ps e d = absurd (d e)
+joined_none (Err r) n ps e d = refl
 
 -- the value, put behind the others
 pub joined_one : (a : Answer) (n p : ℕ) (held : List ℕ) (count : ℕ) → n ≡ returned a → n ≡ 0 → p ≡ value a → count < length held
     → take (count + 1) (set held count p) ≡ joined a (take count held)
-joined_one (Accepted v) n p held count e z q l = rw (q, add-one count) (take-suc-set held count v l)
-joined_one (Refused r) n p held count e z q l = absurd (refused_some r (sym e ∙ z))
+joined_one (Ok v) n p held count e z q l = rw (q, add-one count) (take-suc-set held count v l)
+joined_one (Err r) n p held count e z q l = absurd (refused_some r (sym e ∙ z))
 
 -- The arms of `make`.
 

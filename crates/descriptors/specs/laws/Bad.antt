@@ -1,6 +1,6 @@
 -- What row 24 refuses, and what it lets pass, case by case. Assumes nothing.
 use Prim.Native.Nat.{ℕ, zero, suc, ◌+◌, ◌-◌, ◌%◌, ◌<◌}
-use Rattle.std.specs.Prelude.{◌≡◌, false, List, length, leb, ltb, eqb}
+use Rattle.std.specs.Prelude.{◌≡◌, false, List, length, leb, ltb, eqb, None, Option, Some}
 use Rattle.std.proofs.Math.Path.{refl}
 use Rattle.std.proofs.Common.{sym, ap, ◌∙◌, eq-eqb, leb-false, ltb-false, eqb-true}
 use Rattle.std.proofs.Math.Bool.{true}
@@ -13,15 +13,12 @@ use Rattle.descriptors.specs.laws.Lookups.{whole-inside, whole_boundary, at_inje
 use Rattle.descriptors.specs.laws.Fields.{Fits, end_of, Tried, fits, unnamed, early, late, tried, fields_on, fields_apart}
 use Rattle.descriptors.specs.laws.Lists.{Shaped, plain, fielded, headed-length, headed-over, good_parts, good_here, field_fits, describes_stands, lookup-at}
 use Rattle.descriptors.specs.laws.Checks.{shape_record}
-use Rattle.descriptors.specs.declared.descriptor.FieldEnd.TheVariants.{EndsAt}
-use Rattle.descriptors.specs.declared.descriptor.Lookup.{Lookup}
-use Rattle.descriptors.specs.declared.descriptor.Lookup.TheVariants.{At, Nowhere}
 
 -- A list that is refused has a bad descriptor.
 
 module _ (list : List ℕ) (p : ℕ) (w : WholeTo list p) where
   -- what a lookup before p finds is described there
-  described : (type q : ℕ) → look_up list p type ≡ At q → Describes list p type q
+  described : (type q : ℕ) → look_up list p type ≡ Some q → Describes list p type q
   described type q e = found_describes list p type q (found_at list p type q w e)
 
   -- where field k may start: anywhere, or at the end of the field before it
@@ -43,7 +40,7 @@ module _ (list : List ℕ) (p : ℕ) (w : WholeTo list p) where
       (sym (fields_on list p n from k _ e) ∙ g))
     where
       go : Tried list p from (field_at list p k)
-          → ((i : Fits list p from (field_at list p k)) → field_end list p from (field_at list p k) ≡ EndsAt (end_of list p from (field_at list p k) i)
+          → ((i : Fits list p from (field_at list p k)) → field_end list p from (field_at list p k) ≡ Some (end_of list p from (field_at list p k) i)
           → (j : ℕ) × (j < suc k + n) × BadFieldAt list p j)
           → (j : ℕ) × (j < k + suc n) × BadFieldAt list p j
       go (fits i e) rest = let (j, l, b) = rest i e in (j, omega arith, b)
@@ -81,9 +78,9 @@ module _ (list : List ℕ) (p : ℕ) (w : WholeTo list p) where
   unfolding good_descriptor
   bad_here g = by_bool (good_head list p) (λ t. go t (look_up list p (type_at list p)) refl) bad_head
     where
-      go : good_head list p ≡ true → (r : Lookup) → look_up list p (type_at list p) ≡ r → BadDescriptorAt list p
-      go t (At q) e = repeated_type q (described (type_at list p) q e)
-      go t Nowhere e =
+      go : good_head list p ≡ true → (r : Option ℕ) → look_up list p (type_at list p) ≡ r → BadDescriptorAt list p
+      go t (Some q) e = repeated_type q (described (type_at list p) q e)
+      go t None e =
           let (k, l, b) = bad_field_in (field_count list p) 0 0 anywhere (rw (good_descriptor, t, e) at g) in
           bad_field k (omega arith) b
 

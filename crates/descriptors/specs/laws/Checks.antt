@@ -1,5 +1,5 @@
 -- The check of a list, test by test and turn by turn: a field, the fields, a shape, a head, a descriptor, the list. Assumes nothing.
-use Rattle.std.specs.Prelude.{ℕ, zero, suc, ◌+◌, ◌-◌, ◌/◌, ◌%◌, ◌≤◌, ◌<◌, ◌≡◌, refl, true, false, List, length, leb, ltb, eqb}
+use Rattle.std.specs.Prelude.{ℕ, zero, suc, ◌+◌, ◌-◌, ◌/◌, ◌%◌, ◌≤◌, ◌<◌, ◌≡◌, refl, true, false, List, length, leb, ltb, eqb, None, Option, Some}
 use Rattle.std.proofs.Math.Path.{sym, ap}
 use Rattle.std.proofs.Common.{◌∙◌, add-one}
 use Rattle.std.proofs.Math.Bool.{and-false}
@@ -12,12 +12,9 @@ use Rattle.descriptors.specs.laws.Fields.{named_ends, fields_bad, fields_on}
 use Rattle.descriptors.specs.laws.Lists.{headed-length, headed-over, good_parts}
 use Rattle.descriptors.specs.declared.descriptor.Descriptor.{Descriptor}
 use Rattle.descriptors.specs.declared.descriptor.Field.{Field}
-use Rattle.descriptors.specs.declared.descriptor.FieldEnd.{FieldEnd}
-use Rattle.descriptors.specs.declared.descriptor.FieldEnd.TheVariants.{EndsAt, BadField}
-use Rattle.descriptors.specs.declared.descriptor.Lookup.TheVariants.{At, Nowhere}
 
 -- Where a field ends, by what was read of its record and of its type.
-pub field-ends : (list : List ℕ) (p from : ℕ) (f : Field) (q size : ℕ) (d : Descriptor) → look_up list p f.ty ≡ At q → size ≡ size_at list p
+pub field-ends : (list : List ℕ) (p from : ℕ) (f : Field) (q size : ℕ) (d : Descriptor) → look_up list p f.ty ≡ Some q → size ≡ size_at list p
     → d ≡ descriptor_at list q → end_within from size f.offset d.size ≡ field_end list p from f
 field-ends list p from f q size d l s r =
     ap (λ (x : ℕ). end_within from x f.offset d.size) s
@@ -40,19 +37,19 @@ module _ (list : List ℕ) (p n from k : ℕ) (now : Fielding list p n from k) w
       ap (λ (m : ℕ). good_fields_in m list p from k) z ∙ now.same
 
   -- by the field that was read, and what was said of its end
-  module _ (ne : k ≡ n → ⊥) (f : Field) (is : f ≡ field_at list p k) (r : FieldEnd) (said : r ≡ field_end list p from f) where
+  module _ (ne : k ≡ n → ⊥) (f : Field) (is : f ≡ field_at list p k) (r : Option ℕ) (said : r ≡ field_end list p from f) where
     one_left : n - k ≡ suc (n - (k + 1))
     one_left = omega (arith, now.inside, ne)
 
     said_here : field_end list p from (field_at list p k) ≡ r
     said_here = ap (field_end list p from) (sym is) ∙ sym said
 
-    pub fielding_fails : r ≡ BadField → false ≡ good_fields_in n list p 0 0
+    pub fielding_fails : r ≡ None → false ≡ good_fields_in n list p 0 0
     fielding_fails e =
         sym (fields_bad list p (n - (k + 1)) from k (said_here ∙ e))
         ∙ ap (λ (m : ℕ). good_fields_in m list p from k) (sym one_left) ∙ now.same
 
-    pub fielding_goes_on : (end : ℕ) → r ≡ EndsAt end → Fielding list p n end (k + 1)
+    pub fielding_goes_on : (end : ℕ) → r ≡ Some end → Fielding list p n end (k + 1)
     fielding_goes_on end e =
         record {
           inside = omega (arith, now.inside);
@@ -111,12 +108,12 @@ module _ (list : List ℕ) (p : ℕ) where
     type_is = ap (λ (x : Descriptor). look_up list p x.ty) is
 
     -- its type is described before it
-    pub descriptor_again : (q : ℕ) → look_up list p d.ty ≡ At q → good_descriptor list p ≡ false
+    pub descriptor_again : (q : ℕ) → look_up list p d.ty ≡ Some q → good_descriptor list p ≡ false
     unfolding good_descriptor
     descriptor_again q e = rw (good_descriptor, good, sym type_is ∙ e)
 
     -- it is not: the fields tell
-    pub descriptor_by_fields : look_up list p d.ty ≡ Nowhere → good_fields_in ((d.length - 12) / 6) list p 0 0 ≡ good_descriptor list p
+    pub descriptor_by_fields : look_up list p d.ty ≡ None → good_fields_in ((d.length - 12) / 6) list p 0 0 ≡ good_descriptor list p
     unfolding good_descriptor
     descriptor_by_fields e =
         ap (λ (x : Descriptor). good_fields_in ((x.length - 12) / 6) list p 0 0) is ∙ sym (rw (good_descriptor, good, sym type_is ∙ e))

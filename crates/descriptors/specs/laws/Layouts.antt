@@ -1,7 +1,7 @@
 -- Which type has which at an offset: what is computed, the relation, and that one field alone need be asked. Assumes nothing.
 use Prim.Native.Nat.{ℕ, zero, suc, ◌+◌, ◌-◌, ◌≤◌, ◌<◌}
 use Rattle.std.proofs.Math.Path.{◌≡◌, refl, sym, ap, subst}
-use Rattle.std.proofs.Common.{◌∙◌, le_trans}
+use Rattle.std.proofs.Common.{◌∙◌, le_trans, None, Option, Some}
 use Rattle.std.specs.Prelude.{Bool, false, ◌&&◌, ◌||◌, List, length, ltb, eqb}
 use Rattle.std.proofs.Math.Bool.{true}
 use native.Mathlib.Omega.{arith}
@@ -15,8 +15,6 @@ use Rattle.descriptors.specs.laws.Lookups.{at_injective, at_somewhere, found_at,
 use Rattle.descriptors.specs.laws.Fields.{fields_apart}
 use Rattle.descriptors.specs.laws.Lists.{good_here, field_fits, named_stands, stands_describes, describes_stands, described_once}
 use Rattle.descriptors.specs.declared.descriptor.Field.{Field}
-use Rattle.descriptors.specs.declared.descriptor.Lookup.{Lookup}
-use Rattle.descriptors.specs.declared.descriptor.Lookup.TheVariants.{At, Nowhere}
 
 -- A test of the numbers below n.
 
@@ -64,7 +62,7 @@ module _ (has : ℕ → ℕ → Bool) (list : List ℕ) (p o : ℕ) (d : Field) 
   record FieldHas : Type 0 where
     pub of : ℕ
     pub starts : d.offset ≤ o
-    pub named : look_up list p d.ty ≡ At of
+    pub named : look_up list p d.ty ≡ Some of
     pub has_it : has of (o - d.offset) ≡ true
 
   field_has_parts : field_has has list p o d ≡ true → FieldHas
@@ -74,12 +72,12 @@ module _ (has : ℕ → ℕ → Bool) (list : List ℕ) (p o : ℕ) (d : Field) 
       (λ t. go t (look_up list p d.ty) refl)
       (λ t. absurd (true_false h (rw (field_has, t) refl)))
     where
-      go : leb d.offset o ≡ true → (r : Lookup) → look_up list p d.ty ≡ r → FieldHas
-      go t (At q) e = record { of = q; starts = leb-true _ _ t; named = e; has_it = rw (field_has, t, e) at h }
-      go t Nowhere e = absurd (true_false h (rw (field_has, t, e) refl))
+      go : leb d.offset o ≡ true → (r : Option ℕ) → look_up list p d.ty ≡ r → FieldHas
+      go t (Some q) e = record { of = q; starts = leb-true _ _ t; named = e; has_it = rw (field_has, t, e) at h }
+      go t None e = absurd (true_false h (rw (field_has, t, e) refl))
 
   -- its three ways out
-  pub field_at_lem : (q : ℕ) → d.offset ≤ o → look_up list p d.ty ≡ At q → field_has has list p o d ≡ has q (o - d.offset)
+  pub field_at_lem : (q : ℕ) → d.offset ≤ o → look_up list p d.ty ≡ Some q → field_has has list p o d ≡ has q (o - d.offset)
   unfolding field_has
   field_at_lem q l e = rw (field_has, le-leb _ _ l, e)
 
@@ -87,7 +85,7 @@ module _ (has : ℕ → ℕ → Bool) (list : List ℕ) (p o : ℕ) (d : Field) 
   unfolding field_has
   field-before l = rw (field_has, lt-leb _ _ l)
 
-  pub field_unnamed : d.offset ≤ o → look_up list p d.ty ≡ Nowhere → field_has has list p o d ≡ false
+  pub field_unnamed : d.offset ≤ o → look_up list p d.ty ≡ None → field_has has list p o d ≡ false
   unfolding field_has
   field_unnamed l e = rw (field_has, le-leb _ _ l, e)
 
@@ -99,11 +97,11 @@ field-same f g list p o d w e =
     (λ t. go (leb-true _ _ t) (look_up list p d.ty) refl)
     (λ t. field-before f list p o d (leb-false _ _ t) ∙ sym (field-before g list p o d (leb-false _ _ t)))
   where
-    go : d.offset ≤ o → (r : Lookup) → look_up list p d.ty ≡ r → field_has f list p o d ≡ field_has g list p o d
-    go l (At q) n =
+    go : d.offset ≤ o → (r : Option ℕ) → look_up list p d.ty ≡ r → field_has f list p o d ≡ field_has g list p o d
+    go l (Some q) n =
         let t = found_at list p d.ty q w n in
         field_at_lem f list p o d q l n ∙ e q (o - d.offset) t.whole t.before ∙ sym (field_at_lem g list p o d q l n)
-    go l Nowhere n = field_unnamed f list p o d l n ∙ sym (field_unnamed g list p o d l n)
+    go l None n = field_unnamed f list p o d l n ∙ sym (field_unnamed g list p o d l n)
 
 -- What a type has, without a count of steps.
 
@@ -209,7 +207,7 @@ module _ (list : List ℕ) where
   had_inside wanted p o s h = ends_in (suc p) wanted p o s h
 
   -- a field that ends at or before o has nothing there
-  field_past : (wanted p o k q : ℕ) → Stands list p → look_up list p (field_at list p k).ty ≡ At q
+  field_past : (wanted p o k q : ℕ) → Stands list p → look_up list p (field_at list p k).ty ≡ Some q
       → (field_at list p k).offset + size_at list q ≤ o → field_has (type_has list wanted) list p o (field_at list p k) ≡ false
   field_past wanted p o k q s n h =
       refuted (field_has (type_has list wanted) list p o (field_at list p k))
@@ -228,7 +226,7 @@ module _ (list : List ℕ) (p o : ℕ) where
     pub starts : (field_at list p k).offset ≤ o
     pub last : (j : ℕ) → k < j → j < n → o < (field_at list p j).offset
 
-  pub last_at : (n k : ℕ) → last_starting list p o n ≡ At k → LastAt n k
+  pub last_at : (n k : ℕ) → last_starting list p o n ≡ Some k → LastAt n k
   unfolding last_starting
   last_at zero k e = absurd (at_somewhere k (sym e))
   last_at (suc n) k e =
@@ -247,7 +245,7 @@ module _ (list : List ℕ) (p o : ℕ) where
             (λ u. subst (λ (x : ℕ). o < (field_at list p x).offset) (omega (arith, ltb-false j n u)) (leb-false _ _ t));
       })
 
-  last_none : (n : ℕ) → last_starting list p o n ≡ Nowhere → (j : ℕ) → j < n → o < (field_at list p j).offset
+  last_none : (n : ℕ) → last_starting list p o n ≡ None → (j : ℕ) → j < n → o < (field_at list p j).offset
   unfolding last_starting
   last_none zero e j l = absurd (omega arith)
   last_none (suc n) e j l =
@@ -259,17 +257,17 @@ module _ (list : List ℕ) (p o : ℕ) where
       (λ u. subst (λ (x : ℕ). o < (field_at list p x).offset) (omega (arith, ltb-false j n u)) (leb-false _ _ t)))
 
   -- the turns of the search for it, from the last field down
-  pub last_ended : (k : ℕ) → k ≡ 0 → last_starting list p o k ≡ Nowhere
+  pub last_ended : (k : ℕ) → k ≡ 0 → last_starting list p o k ≡ None
   unfolding last_starting
   last_ended zero e = refl
   last_ended (suc k) e = absurd (omega arith)
 
-  pub last_found : (k : ℕ) → (k ≡ 0 → ⊥) → (field_at list p (k - 1)).offset ≤ o → last_starting list p o k ≡ At (k - 1)
+  pub last_found : (k : ℕ) → (k ≡ 0 → ⊥) → (field_at list p (k - 1)).offset ≤ o → last_starting list p o k ≡ Some (k - 1)
   unfolding last_starting
   last_found zero n l = absurd (n refl)
   last_found (suc k) n l =
       let e : suc k - 1 ≡ k = omega arith in
-      rw (last_starting, le-leb _ _ (subst (λ (x : ℕ). (field_at list p x).offset ≤ o) e l)) (ap At (sym e))
+      rw (last_starting, le-leb _ _ (subst (λ (x : ℕ). (field_at list p x).offset ≤ o) e l)) (ap Some (sym e))
 
   pub last_on : (k : ℕ) → (k ≡ 0 → ⊥) → o < (field_at list p (k - 1)).offset → last_starting list p o k ≡ last_starting list p o (k - 1)
   unfolding last_starting
@@ -287,13 +285,13 @@ module _ (list : List ℕ) (wanted p o : ℕ) (s : Stands list p) where
   pub type_itself : is_wanted list wanted p o ≡ true → type_has list wanted p o ≡ true
   type_itself e = by_fields true e
 
-  pub type_no_field : is_wanted list wanted p o ≡ false → last_starting list p o (field_count list p) ≡ Nowhere → type_has list wanted p o ≡ false
+  pub type_no_field : is_wanted list wanted p o ≡ false → last_starting list p o (field_count list p) ≡ None → type_has list wanted p o ≡ false
   type_no_field e n =
       by_fields false e
       ∙ any_none (λ k. field_has (type_has list wanted) list p o (field_at list p k)) (field_count list p)
       (λ j m. field-before (type_has list wanted) list p o (field_at list p j) (last_none list p o (field_count list p) n j m))
 
-  pub type_by_field : (k : ℕ) → is_wanted list wanted p o ≡ false → last_starting list p o (field_count list p) ≡ At k
+  pub type_by_field : (k : ℕ) → is_wanted list wanted p o ≡ false → last_starting list p o (field_count list p) ≡ Some k
       → type_has list wanted p o ≡ field_has (type_has list wanted) list p o (field_at list p k)
   type_by_field k e n =
       let i = last_at list p o (field_count list p) k n in

@@ -1,7 +1,7 @@
 -- Good descriptors and good lists. Assumes nothing.
 use Prim.Native.Nat.{ℕ, zero, suc, ◌+◌, ◌-◌, ◌*◌, ◌/◌, ◌%◌, ◌≤◌, ◌<◌}
 use Rattle.std.proofs.Math.Path.{◌≡◌, subst}
-use Rattle.std.specs.Prelude.{refl, Bool, true, ◌&&◌, List, length, leb, ltb, eqb}
+use Rattle.std.specs.Prelude.{refl, Bool, true, ◌&&◌, List, length, leb, ltb, eqb, None, Option, Some}
 use Rattle.std.proofs.Common.{sym, ap, ◌∙◌, arith}
 use borrow.Author.Tests.{ne_eqb, leb-true, ltb-true, ltb-false, eqb-true, eqb-false}
 use Rattle.block.specs.laws.Booleans.{by_bool, true_false, and_left, and_right}
@@ -10,8 +10,6 @@ use Rattle.descriptors.specs.Claims.{Describes}
 use Rattle.descriptors.specs.laws.Lookups.{whole-inside, whole_boundary, boundary_whole, found_at, found_describes, missed}
 use Rattle.descriptors.specs.laws.Fields.{Fits, fields_fit}
 use Rattle.descriptors.specs.declared.descriptor.Descriptor.{Descriptor}
-use Rattle.descriptors.specs.declared.descriptor.Lookup.{Lookup}
-use Rattle.descriptors.specs.declared.descriptor.Lookup.TheVariants.{At, Nowhere}
 
 -- A good shape.
 
@@ -71,12 +69,12 @@ headed-over list p w h = over p w h.head (omega (arith, headed-length list p h))
 
 pub record Good (list : List ℕ) (p : ℕ) : Type 0 where
   pub at_head : Headed list p
-  pub once : look_up list p (type_at list p) ≡ Nowhere
+  pub once : look_up list p (type_at list p) ≡ None
   pub fields : good_fields_in (field_count list p) list p 0 0 ≡ true
 
-nowhere : (r : Lookup) → is_nowhere r ≡ true → r ≡ Nowhere
-nowhere (At q) e = let z : ◌≡◌ {A = ℕ} 0 1 = cc in absurd (omega arith)
-nowhere Nowhere e = refl
+nowhere : (r : Option ℕ) → is_nowhere r ≡ true → r ≡ None
+nowhere (Some q) e = let z : ◌≡◌ {A = ℕ} 0 1 = cc in absurd (omega arith)
+nowhere None e = refl
 
 pub good_parts : (list : List ℕ) (p : ℕ) → good_descriptor list p ≡ true → Good list p
 unfolding good_descriptor
@@ -157,7 +155,7 @@ module _ (list : List ℕ) (p : ℕ) (s : Stands list p) where
   field_fits k m = fields_fit (field_count list p) list p 0 0 good_here.fields k (omega arith) (omega arith)
 
   -- and the types that they name are described on it
-  pub named_stands : (type q : ℕ) → look_up list p type ≡ At q → Stands list q
+  pub named_stands : (type q : ℕ) → look_up list p type ≡ Some q → Stands list q
   named_stands type q e =
       let f = found_at list p type q s.whole e in
       record { good = s.good; whole = f.whole; inside = omega (arith, f.before, s.inside) }
@@ -191,20 +189,20 @@ module _ (list : List ℕ) (g : good_list list ≡ true) where
           (record { boundary = da.boundary; before = l; type_is = da.type_is ∙ sym db.type_is })
 
   -- looking a type up before any position that is reached finds its descriptor
-  pub lookup-at : (end type p : ℕ) → WholeTo list end → Describes list end type p → look_up list end type ≡ At p
+  pub lookup-at : (end type p : ℕ) → WholeTo list end → Describes list end type p → look_up list end type ≡ Some p
   lookup-at end type p we d = go (look_up list end type) refl
     where
       inside : (q : ℕ) → Describes list end type q → Describes list (length list) type q
       inside q e = record { boundary = e.boundary; before = omega (arith, e.before, whole-inside list end we); type_is = e.type_is }
 
-      go : (r : Lookup) → look_up list end type ≡ r → r ≡ At p
-      go (At q) e =
-          ap At (described_once q p type (inside q (found_describes list end type q (found_at list end type q we e))) (inside p d))
-      go Nowhere e = absurd (missed list end type p we e d)
+      go : (r : Option ℕ) → look_up list end type ≡ r → r ≡ Some p
+      go (Some q) e =
+          ap Some (described_once q p type (inside q (found_describes list end type q (found_at list end type q we e))) (inside p d))
+      go None e = absurd (missed list end type p we e d)
 
   -- what is found on all of it is described there
-  pub lookup_describes : (type p : ℕ) → look_up list (length list) type ≡ At p → Describes list (length list) type p
+  pub lookup_describes : (type p : ℕ) → look_up list (length list) type ≡ Some p → Describes list (length list) type p
   lookup_describes type p e = found_describes list (length list) type p (found_at list (length list) type p end_reached e)
 
-  pub lookup_stands : (type p : ℕ) → look_up list (length list) type ≡ At p → Stands list p
+  pub lookup_stands : (type p : ℕ) → look_up list (length list) type ≡ Some p → Stands list p
   lookup_stands type p e = describes_stands type p (lookup_describes type p e)

@@ -1,6 +1,6 @@
 -- Positions in a list of descriptors, and looking a type up. Assumes nothing.
 use Prim.Native.Nat.{ℕ, zero, suc, ◌+◌, ◌≤◌, ◌<◌}
-use Rattle.std.specs.Prelude.{◌≡◌, Bool, true, false, List, length, leb, ltb, eqb}
+use Rattle.std.specs.Prelude.{◌≡◌, Bool, true, false, List, length, leb, ltb, eqb, None, Some}
 use Rattle.std.proofs.Math.Path.{refl}
 use Rattle.std.proofs.Common.{sym, ap, ◌∙◌, subst, arith}
 use Rattle.std.proofs.Math.Decide.{ℕ_discrete}
@@ -8,7 +8,6 @@ use borrow.Author.Tests.{le-ltb, lt-ltb, eq-eqb, ne_eqb, leb-true, leb-false, lt
 use Rattle.block.specs.laws.Booleans.{by_bool}
 use Rattle.descriptors.specs.Descriptors.{length_at, type_at, WholeTo, start, over, look_up_in, look_up}
 use Rattle.descriptors.specs.Claims.{Boundary, first, next, Describes}
-use Rattle.descriptors.specs.declared.descriptor.Lookup.TheVariants.{At, Nowhere}
 
 -- Positions.
 
@@ -63,15 +62,15 @@ module _ (list : List ℕ) where
 -- The turns of a lookup.
 
 module _ (list : List ℕ) (steps end type p : ℕ) where
-  pub lookup-end : end ≤ p → look_up_in steps list end type p ≡ Nowhere
+  pub lookup-end : end ≤ p → look_up_in steps list end type p ≡ None
   unfolding look_up_in
   lookup-end l = go steps
     where
-      go : (k : ℕ) → look_up_in k list end type p ≡ Nowhere
+      go : (k : ℕ) → look_up_in k list end type p ≡ None
       go zero = refl
       go (suc k) = rw (look_up_in, le-ltb p end l)
 
-  pub lookup-found : p < end → type_at list p ≡ type → look_up_in (suc steps) list end type p ≡ At p
+  pub lookup-found : p < end → type_at list p ≡ type → look_up_in (suc steps) list end type p ≡ Some p
   unfolding look_up_in
   lookup-found l e = rw (look_up_in, lt-ltb p end l, eq-eqb _ _ e)
 
@@ -82,10 +81,10 @@ module _ (list : List ℕ) (steps end type p : ℕ) where
 
 -- What it finds.
 
-pub at_injective : (p q : ℕ) → At p ≡ At q → p ≡ q
+pub at_injective : (p q : ℕ) → Some p ≡ Some q → p ≡ q
 at_injective p q e = cc
 
-pub at_somewhere : (q : ℕ) → At q ≡ Nowhere → ⊥
+pub at_somewhere : (q : ℕ) → Some q ≡ None → ⊥
 at_somewhere q e = let z : ◌≡◌ {A = ℕ} 0 1 = cc in omega arith
 
 -- a whole descriptor of the type stands at q, before `end`
@@ -94,7 +93,7 @@ pub record FoundAt (list : List ℕ) (end type q : ℕ) : Type 0 where
   pub before : q < end
   pub type_is : type_at list q ≡ type
 
-found_in : (k : ℕ) (list : List ℕ) (end type p q : ℕ) → WholeTo list p → WholeTo list end → look_up_in k list end type p ≡ At q
+found_in : (k : ℕ) (list : List ℕ) (end type p q : ℕ) → WholeTo list p → WholeTo list end → look_up_in k list end type p ≡ Some q
     → FoundAt list end type q
 unfolding look_up_in
 found_in zero list end type p q w we e = absurd (at_somewhere q (sym e))
@@ -111,7 +110,7 @@ found_in (suc k) list end type p q w we e =
     (sym (lookup_on list k end type p l (eqb-false _ _ u)) ∙ e)))
     (λ t. absurd (at_somewhere q (sym e ∙ lookup-end list (suc k) end type p (ltb-false p end t))))
 
-pub found_at : (list : List ℕ) (end type q : ℕ) → WholeTo list end → look_up list end type ≡ At q → FoundAt list end type q
+pub found_at : (list : List ℕ) (end type q : ℕ) → WholeTo list end → look_up list end type ≡ Some q → FoundAt list end type q
 unfolding look_up
 found_at list end type q we e = found_in (suc end) list end type 0 q start we e
 
@@ -122,7 +121,7 @@ found_describes list end type q f = record { boundary = whole_boundary list q f.
 -- What it does not find is not there.
 
 missed_in : (k : ℕ) (list : List ℕ) (end type p q : ℕ) → WholeTo list p → WholeTo list end → end < p + k
-    → look_up_in k list end type p ≡ Nowhere → WholeTo list q → p ≤ q → q < end → type_at list q ≡ type → ⊥
+    → look_up_in k list end type p ≡ None → WholeTo list q → p ≤ q → q < end → type_at list q ≡ type → ⊥
 missed_in zero list end type p q wp we h e wq a b t = omega arith
 missed_in (suc k) list end type p q wp we h e wq a b t =
     let l : p < end = omega arith in
@@ -134,7 +133,7 @@ missed_in (suc k) list end type p q wp we h e wq a b t =
     missed_in k list end type (p + length_at list p) q s.reached we (omega (arith, s.long))
     (sym (lookup_on list k end type p l (eqb-false _ _ u)) ∙ e) wq s.ends b t)
 
-pub missed : (list : List ℕ) (end type q : ℕ) → WholeTo list end → look_up list end type ≡ Nowhere → Describes list end type q → ⊥
+pub missed : (list : List ℕ) (end type q : ℕ) → WholeTo list end → look_up list end type ≡ None → Describes list end type q → ⊥
 unfolding look_up
 missed list end type q we e d =
     missed_in (suc end) list end type 0 q start we (omega arith) e (boundary_whole list end we q d.boundary d.before) (omega arith) d.before

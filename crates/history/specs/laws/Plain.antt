@@ -1,7 +1,7 @@
 -- Heaps of plain objects, each with one pointer, allocate's answer, and one byte or more: what lists without moves and empty objects leave.
 -- In order: allocate's answers; one object more, written, less; a pointer's owner; what allocate and store do (free: `proofs/PlainFrees`). Not here: the
 -- image. Assumes nothing.
-use Rattle.std.specs.Prelude.{ℕ, zero, suc, ◌+◌, ◌-◌, ◌^◌, ◌<◌, ◌≡◌, refl, Bool, true, false, cond, ◌&&◌, List, [], ◌∷◌, ◌++◌, length, take, drop, get_or, eqb}
+use Rattle.std.specs.Prelude.{ℕ, zero, suc, ◌+◌, ◌-◌, ◌^◌, ◌<◌, ◌≡◌, refl, Bool, true, false, cond, ◌&&◌, List, [], ◌∷◌, ◌++◌, length, take, drop, get_or, eqb, Err, Ok}
 use Rattle.std.proofs.Common.{sym, ap, ◌∙◌, subst, suc-add, arith, eq-eqb, ne_eqb, eqb-true, le-leb}
 use Rattle.std.proofs.Math.Bool.{or-false}
 use mathlib.Core.List.Memᴰ
@@ -14,8 +14,7 @@ use Rattle.store.specs.State.{returned}
 use Rattle.store.specs.Calls.{good_width}
 use Rattle.store.specs.Step.{allocates, stores}
 use Rattle.store.specs.laws.Refusals.{refused_some}
-use Rattle.store.specs.declared.answer.Answer.{Answer}
-use Rattle.store.specs.declared.answer.Answer.TheVariants.{Accepted, Refused}
+use Rattle.store.specs.State.{Answer}
 use Rattle.store.specs.declared.answer.Refusal.{Refusal}
 use Rattle.history.specs.Heap.{Object, Heap, start, member, holds, owner_of, inside, written, new_object, change, without, write, hear}
 use Rattle.history.specs.History.{In, Pairwise, header_of, known}
@@ -199,7 +198,7 @@ held_none = record { same = answers_none; plain = tt }
 
 module _ (heap : Heap) (plain : AllPlain heap) where
   -- one more, with its answer
-  pub allocate_held : (size type p : ℕ) → 0 < size → p < 2 ^ 64 → Held (hear heap (allocates size type) (Accepted p)) (answers heap ++ (p ∷ []))
+  pub allocate_held : (size type p : ℕ) → 0 < size → p < 2 ^ 64 → Held (hear heap (allocates size type) (Ok p)) (answers heap ++ (p ∷ []))
   unfolding hear
   allocate_held size type p n l =
       record {
@@ -208,9 +207,9 @@ module _ (heap : Heap) (plain : AllPlain heap) where
       }
 
   -- a declined one adds none
-  pub declined_held : (size type : ℕ) (r : Refusal) → Held (hear heap (allocates size type) (Refused r)) (answers heap)
+  pub declined_held : (size type : ℕ) (r : Refusal) → Held (hear heap (allocates size type) (Err r)) (answers heap)
   unfolding hear
-  declined_held size type r = rw (ne_eqb (returned (Refused r)) 0 (refused_some r)) (record { same = refl; plain = plain })
+  declined_held size type r = rw (ne_eqb (returned (Err r)) 0 (refused_some r)) (record { same = refl; plain = plain })
 
   -- a store changes bytes alone
   pub store_held : (p width v : ℕ) (a : Answer) → Held (hear heap (stores p width v) a) (answers heap)

@@ -1,7 +1,6 @@
 -- `block::superblock::open`: each test that fails rules out a field of `Superblock`; where all pass, the exponent is the one read. Assumes nothing.
-use Rattle.std.proofs.Common.{sym, ap, ◌∙◌, arith, rules}
+use Rattle.std.proofs.Common.{sym, ap, ◌∙◌, arith, rules, Some}
 use Rattle.block.specs.laws.Superblock.{superblock_good_lem, opened_good, opened_bad}
-use Rattle.block.specs.declared.superblock.Opened.TheVariants as opening
 use Rattle.block.proofs.superblock.open.Goals as goal
 
 -- an image that is too short
@@ -34,4 +33,4 @@ returns-then-s-gt15 c = sym (opened_bad _ (λ p. omega arith))
 
 -- a good superblock
 pub returns : goal.returns
-returns c = ap opening.Exponent c.slot_exponent-s.ensures ∙ sym (opened_good _ (superblock_good_lem _ (search rules)))
+returns c = ap Some c.slot_exponent-s.ensures ∙ sym (opened_good _ (superblock_good_lem _ (search rules)))

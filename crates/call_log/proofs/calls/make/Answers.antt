@@ -9,7 +9,7 @@ use Rattle.store.specs.State.{State, state, Outcome, outcome}
 use Rattle.store.specs.Calls.{move_answer}
 use Rattle.store.specs.laws.Move.{move_leaves}
 use Rattle.store.specs.laws.Load.{load_leaves}
-use Rattle.store.specs.declared.answer.Answer.{Answer}
+use Rattle.store.specs.State.{Answer}
 use Rattle.call_log.specs.Run.{made}
 use Rattle.call_log.specs.declared.record.Call.{Call}
 use Rattle.call_log.proofs.calls.make.Goals as goal

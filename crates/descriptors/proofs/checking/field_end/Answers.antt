@@ -1,10 +1,10 @@
 -- `descriptors::checking::field_end`: the field's type is looked up; where it is found, its size tells. Assumes nothing.
+use Rattle.std.specs.Prelude.{Some}
 use mathlib.Core.Path.{◌≡◌, sym, ◌∙◌}
 use Rattle.descriptors.specs.Descriptors.{look_up}
 use Rattle.descriptors.specs.laws.Lookups.{step, found_at}
 use Rattle.descriptors.specs.laws.Fields.{unnamed_ends}
 use Rattle.descriptors.specs.laws.Checks.{field-ends}
-use Rattle.descriptors.specs.declared.descriptor.Lookup.TheVariants.{At}
 use Rattle.descriptors.proofs.checking.field_end.Goals as goal
 
 -- no earlier descriptor
@@ -15,7 +15,7 @@ returns-in_default c =
 
 pub read_descriptor-d-requires : goal.read_descriptor-d-requires
 read_descriptor-d-requires c =
-    let found : (let a = c.args in look_up a.list.now a.p a.field.ty ≡ At c.in-At.q) = sym c.find_type.ensures ∙ c.in-At.is in
+    let found : (let a = c.args in look_up a.list.now a.p a.field.ty ≡ Some c.in-Some.q) = sym c.find_type.ensures ∙ c.in-Some.is in
     let whole = c.requires.0 in
     let w = found_at _ _ _ _ whole found in
     (step _ _ _ w.whole whole w.before).head
@@ -23,6 +23,6 @@ read_descriptor-d-requires c =
 -- its size tells
 pub returns : goal.returns
 returns c =
-    let found : (let a = c.args in look_up a.list.now a.p a.field.ty ≡ At c.in-At.q) = sym c.find_type.ensures ∙ c.in-At.is in
+    let found : (let a = c.args in look_up a.list.now a.p a.field.ty ≡ Some c.in-Some.q) = sym c.find_type.ensures ∙ c.in-Some.is in
     c.end_within.ensures
     ∙ field-ends _ _ _ c.args.field _ _ _ found c.requires.1 c.read_descriptor-d.ensures

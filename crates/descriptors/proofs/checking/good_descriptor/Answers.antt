@@ -32,24 +32,24 @@ good_fields-requires c =
     )
 
 -- its type is described before it
-pub returns-in-At : goal.returns-in-At
-returns-in-At c =
+pub returns-in-Some : goal.returns-in-Some
+returns-in-Some c =
     let good : good_head c.args.list.now c.args.p ≡ true = sym c.good_head.ensures ∙ c.if-not-good_head.false in
     let a = c.args in
     let d = c.read_descriptor-d in
     sym
     (descriptor_again a.list.now a.p good d.result d.ensures _
-    (sym c.find_type.ensures ∙ c.in-At.is))
+    (sym c.find_type.ensures ∙ c.in-Some.is))
 
 -- its fields tell
-pub returns-in-Nowhere : goal.returns-in-Nowhere
-returns-in-Nowhere c =
+pub returns-in-None : goal.returns-in-None
+returns-in-None c =
     let good : good_head c.args.list.now c.args.p ≡ true = sym c.good_head.ensures ∙ c.if-not-good_head.false in
     let a = c.args in
     let d = c.read_descriptor-d in
     c.good_fields.ensures
     ∙ descriptor_by_fields a.list.now a.p good d.result d.ensures
-    (sym c.find_type.ensures ∙ c.in-Nowhere.is)
+    (sym c.find_type.ensures ∙ c.in-None.is)
 
 pub good_head-requires : goal.good_head-requires
 good_head-requires c = whole-inside _ _ c.requires

@@ -18,7 +18,7 @@ loop-k-smaller c = omega (arith, c.if-k-n.false, c.loop-k.invariant.inside)
 pub loop-k-preserved : goal.loop-k-preserved
 loop-k-preserved c =
     fielding_goes_on _ _ _ _ _ c.loop-k.invariant c.if-k-n.false c.read_field-field.result c.read_field-field.ensures _ c.field_end.ensures _
-    c.in-EndsAt.is
+    c.in-Some.is
 
 -- all fields are good
 pub returns-then-k-n : goal.returns-then-k-n

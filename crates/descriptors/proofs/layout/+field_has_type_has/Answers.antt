@@ -24,21 +24,21 @@ field_has-overflow_sub-o t c = omega (arith, ap (λ (d : Field). d.offset) c.rea
 pub field_has-type_has-requires : goal.field_has-type_has-requires
 field_has-type_has-requires t c =
     let stands = c.requires.0 in
-    let named = named_is _ _ _ _ _ _ c.read_field-f.ensures c.find_type.ensures c.in-At.is in
-    let before : c.in-At.q < c.args.p = (found_at _ _ _ _ stands.whole named).before in
+    let named = named_is _ _ _ _ _ _ c.read_field-f.ensures c.find_type.ensures c.in-Some.is in
+    let before : c.in-Some.q < c.args.p = (found_at _ _ _ _ stands.whole named).before in
     (omega arith, named_stands _ _ stands _ _ named)
 
 -- its type is not listed
-pub field_has-returns-in-Nowhere : goal.field_has-returns-in-Nowhere
-field_has-returns-in-Nowhere t c =
-    sym (field_unnamed _ _ _ _ _ c.requires.2 (named_is _ _ _ _ _ _ c.read_field-f.ensures c.find_type.ensures c.in-Nowhere.is))
+pub field_has-returns-in-None : goal.field_has-returns-in-None
+field_has-returns-in-None t c =
+    sym (field_unnamed _ _ _ _ _ c.requires.2 (named_is _ _ _ _ _ _ c.read_field-f.ensures c.find_type.ensures c.in-None.is))
 
 -- its type tells
-pub field_has-returns-in-At : goal.field_has-returns-in-At
-field_has-returns-in-At t c =
+pub field_has-returns-in-Some : goal.field_has-returns-in-Some
+field_has-returns-in-Some t c =
     c.type_has.ensures
     ∙ ap (type_has c.args.list.now c.args.wanted _) (ap (λ (d : Field). c.args.o - d.offset) c.read_field-f.ensures)
-    ∙ sym (field_at_lem _ _ _ _ _ _ c.requires.2 (named_is _ _ _ _ _ _ c.read_field-f.ensures c.find_type.ensures c.in-At.is))
+    ∙ sym (field_at_lem _ _ _ _ _ _ c.requires.2 (named_is _ _ _ _ _ _ c.read_field-f.ensures c.find_type.ensures c.in-Some.is))
 
 pub type_has-read_descriptor-d-requires : goal.type_has-read_descriptor-d-requires
 type_has-read_descriptor-d-requires t c = head_here _ _ c.requires
@@ -59,23 +59,23 @@ pub type_has-field_has-requires : goal.type_has-field_has-requires
 type_has-field_has-requires t c =
     let w =
     last_at _ _ _ _ _
-    (last_is c.args.list.now c.args.p c.args.o _ _ _ c.read_descriptor-d.ensures c.last_field.ensures c.in-At.is)
+    (last_is c.args.list.now c.args.p c.args.o _ _ _ c.read_descriptor-d.ensures c.last_field.ensures c.in-Some.is)
     in
     (omega arith, (c.requires, w.below, w.starts))
 
 -- no field starts at or before o
-pub type_has-returns-in-Nowhere : goal.type_has-returns-in-Nowhere
-type_has-returns-in-Nowhere t c =
+pub type_has-returns-in-None : goal.type_has-returns-in-None
+type_has-returns-in-None t c =
     sym
     (type_no_field _ _ _ _ c.requires
     (wanted_is _ _ _ c.args.o _ _ _ c.read_descriptor-d.ensures c.is_wanted.ensures c.if-is_wanted.false)
-    (last_is c.args.list.now c.args.p c.args.o _ _ _ c.read_descriptor-d.ensures c.last_field.ensures c.in-Nowhere.is))
+    (last_is c.args.list.now c.args.p c.args.o _ _ _ c.read_descriptor-d.ensures c.last_field.ensures c.in-None.is))
 
 -- the last that does tells
-pub type_has-returns-in-At : goal.type_has-returns-in-At
-type_has-returns-in-At t c =
+pub type_has-returns-in-Some : goal.type_has-returns-in-Some
+type_has-returns-in-Some t c =
     c.field_has.ensures
     ∙ sym
     (type_by_field _ _ _ _ c.requires _
     (wanted_is _ _ _ c.args.o _ _ _ c.read_descriptor-d.ensures c.is_wanted.ensures c.if-is_wanted.false)
-    (last_is c.args.list.now c.args.p c.args.o _ _ _ c.read_descriptor-d.ensures c.last_field.ensures c.in-At.is))
+    (last_is c.args.list.now c.args.p c.args.o _ _ _ c.read_descriptor-d.ensures c.last_field.ensures c.in-Some.is))

@@ -1,4 +1,5 @@
 -- `store::load_open` meets its contract: 10, 11 and 13 by the flag, then the field (`loaded`). Assumes nothing.
+use Rattle.std.specs.Prelude.{Ok}
 use Prim.Native.Nat.{◌<◌, ◌^◌}
 use mathlib.Core.Path.{◌≡◌, sym, ap, ◌∙◌}
 use native.Mathlib.Omega.{arith}
@@ -9,8 +10,7 @@ use Rattle.store.specs.Calls.{accessed, load_answer}
 use Rattle.store.specs.laws.TagReading.{asks_small, asks_large}
 use Rattle.store.specs.laws.Access.{accessed_parts, width_range}
 use Rattle.store.specs.laws.Load.{load_open}
-use Rattle.store.specs.declared.answer.Answer.{Answer}
-use Rattle.store.specs.declared.answer.Answer.TheVariants.{Accepted}
+use Rattle.store.specs.State.{Answer}
 use Rattle.store.proofs.access.load_open.Goals as goal
 
 pub access_small-a-requires : goal.access_small-a-requires
@@ -35,7 +35,7 @@ loaded-requires c =
 -- small-framed
 pub returns-then-p : goal.returns-then-p
 returns-then-p c =
-    let read : Answer → Answer = λ a. and_then a (λ at. Accepted (field c.args.image.now at c.args.width)) in
+    let read : Answer → Answer = λ a. and_then a (λ at. Ok (field c.args.image.now at c.args.width)) in
     let given : State = state c.args.image.now c.args.table.now in
     let decided : read (accessed c.args.s c.unpack-p.result c.args.width given) ≡ load_answer c.args.pointer c.args.width given = ap (λ (p : Pointer). read (accessed c.args.s p c.args.width given)) c.unpack-p.ensures ∙ load_open given c.args.s c.requires.0 c.args.pointer c.args.width c.requires.1 in
     c.loaded.ensures ∙ ap read (c.access_small-a.ensures _) ∙ decided
@@ -48,7 +48,7 @@ loaded-requires-2 c =
 -- large-framed
 pub returns : goal.returns
 returns c =
-    let read : Answer → Answer = λ a. and_then a (λ at. Accepted (field c.args.image.now at c.args.width)) in
+    let read : Answer → Answer = λ a. and_then a (λ at. Ok (field c.args.image.now at c.args.width)) in
     let given : State = state c.args.image.now c.args.table.now in
     let decided : read (accessed c.args.s c.unpack-p.result c.args.width given) ≡ load_answer c.args.pointer c.args.width given = ap (λ (p : Pointer). read (accessed c.args.s p c.args.width given)) c.unpack-p.ensures ∙ load_open given c.args.s c.requires.0 c.args.pointer c.args.width c.requires.1 in
     c.loaded-2.ensures ∙ ap read c.access_large-a.ensures ∙ decided

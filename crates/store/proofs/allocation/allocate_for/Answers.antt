@@ -1,4 +1,5 @@
 -- `store::allocate_for` meets its contract: refused by `opening` or `allocatable`, or the block is allotted and its entry noted. Assumes nothing.
+use Rattle.std.specs.Prelude.{Ok}
 use mathlib.Core.Path.{◌≡◌, sym, ap, ◌∙◌}
 use native.Mathlib.Omega.{arith}
 use Rattle.frame.specs.Tags.{pointer_to}
@@ -9,25 +10,24 @@ use Rattle.store.specs.Calls.{opening, allocate_checks}
 use Rattle.store.specs.laws.Opening.{Open, opening_parts}
 use Rattle.store.specs.laws.Allocate.{Allocates, allocate_parts, allocate_shut, allocate_declined, allocate_done, site_declined, site_chosen}
 use Rattle.store.specs.laws.Entries.{noted_for, tagged_in, tagged-noted}
-use Rattle.store.specs.declared.answer.Answer.TheVariants.{Accepted}
 use Rattle.store.proofs.Carving.{fit_needs}
 use Rattle.store.proofs.allocation.allocate_for.Goals as goal
 
 pub note-requires : goal.note-requires
 note-requires c =
     let given : State = state c.args.image.now c.args.table.now in
-    let is_open : opening given ≡ Accepted c.in-Accepted.s = sym c.opening.ensures ∙ c.in-Accepted.is in
+    let is_open : opening given ≡ Ok c.in-Accepted.s = sym c.opening.ensures ∙ c.in-Accepted.is in
     let opens : Open given c.in-Accepted.s = opening_parts _ _ is_open in
-    let chosen : let h = c.in-At.h in (allocate_checks c.args.size given ≡ Accepted h) × (c.in-At.t ≡ tagged c.in-Accepted.s h c.args.size) = site_chosen _ _ _ _ _ (sym c.allocatable.ensures ∙ c.in-At.is) in
+    let chosen : let h = c.in-At.h in (allocate_checks c.args.size given ≡ Ok h) × (c.in-At.t ≡ tagged c.in-Accepted.s h c.args.size) = site_chosen _ _ _ _ _ (sym c.allocatable.ensures ∙ c.in-At.is) in
     let allocates : Allocates c.args.size given c.in-At.h = allocate_parts _ (state _ _) _ chosen.0 in
     rw chosen.1 (tagged_in _ _ _ _ (fit_needs given _ _ _ opens allocates.found).3)
 
 pub pack-requires : goal.pack-requires
 pack-requires c =
     let given : State = state c.args.image.now c.args.table.now in
-    let is_open : opening given ≡ Accepted c.in-Accepted.s = sym c.opening.ensures ∙ c.in-Accepted.is in
+    let is_open : opening given ≡ Ok c.in-Accepted.s = sym c.opening.ensures ∙ c.in-Accepted.is in
     let opens : Open given c.in-Accepted.s = opening_parts _ _ is_open in
-    let chosen : let h = c.in-At.h in (allocate_checks c.args.size given ≡ Accepted h) × (c.in-At.t ≡ tagged c.in-Accepted.s h c.args.size) = site_chosen _ _ _ _ _ (sym c.allocatable.ensures ∙ c.in-At.is) in
+    let chosen : let h = c.in-At.h in (allocate_checks c.args.size given ≡ Ok h) × (c.in-At.t ≡ tagged c.in-Accepted.s h c.args.size) = site_chosen _ _ _ _ _ (sym c.allocatable.ensures ∙ c.in-At.is) in
     let allocates : Allocates c.args.size given c.in-At.h = allocate_parts _ (state _ _) _ chosen.0 in
     let pointer_is : c.pointer.result ≡ pointer_to c.in-Accepted.s c.in-At.h c.args.size = c.pointer.ensures ∙ ap tagged_pointer chosen.1 ∙ tagged_pointer_lem _ _ _ in
     let o = opens in
@@ -45,9 +45,9 @@ returns-in-Refused-allocatable c = allocate_declined _ (state _ _) _ _ _ (site_d
 pub returns-in-At : goal.returns-in-At
 returns-in-At c =
     let given : State = state c.args.image.now c.args.table.now in
-    let is_open : opening given ≡ Accepted c.in-Accepted.s = sym c.opening.ensures ∙ c.in-Accepted.is in
+    let is_open : opening given ≡ Ok c.in-Accepted.s = sym c.opening.ensures ∙ c.in-Accepted.is in
     let opens : Open given c.in-Accepted.s = opening_parts _ _ is_open in
-    let chosen : let h = c.in-At.h in (allocate_checks c.args.size given ≡ Accepted h) × (c.in-At.t ≡ tagged c.in-Accepted.s h c.args.size) = site_chosen _ _ _ _ _ (sym c.allocatable.ensures ∙ c.in-At.is) in
+    let chosen : let h = c.in-At.h in (allocate_checks c.args.size given ≡ Ok h) × (c.in-At.t ≡ tagged c.in-Accepted.s h c.args.size) = site_chosen _ _ _ _ _ (sym c.allocatable.ensures ∙ c.in-At.is) in
     let pointer_is : c.pointer.result ≡ pointer_to c.in-Accepted.s c.in-At.h c.args.size = c.pointer.ensures ∙ ap tagged_pointer chosen.1 ∙ tagged_pointer_lem _ _ _ in
     allocate_done _ (state _ _) _ _ _ _ _ _ _ _ chosen.0 opens.exponent c.allot.ensures pointer_is
     (c.note.ensures ∙ ap (λ (t : Tagged). noted_for t c.in-At.h c.args.table.now) chosen.1 ∙ tagged-noted _ _ _ _ _)
@@ -56,19 +56,19 @@ returns-in-At c =
 pub overflow_cast-s : goal.overflow_cast-s
 overflow_cast-s c =
     let given : State = state c.args.image.now c.args.table.now in
-    let is_open : opening given ≡ Accepted c.in-Accepted.s = sym c.opening.ensures ∙ c.in-Accepted.is in
+    let is_open : opening given ≡ Ok c.in-Accepted.s = sym c.opening.ensures ∙ c.in-Accepted.is in
     let opens : Open given c.in-Accepted.s = opening_parts _ _ is_open in
     omega (arith, opens.high)
 
 pub allocatable-requires : goal.allocatable-requires
 allocatable-requires c =
     let given : State = state c.args.image.now c.args.table.now in
-    let is_open : opening given ≡ Accepted c.in-Accepted.s = sym c.opening.ensures ∙ c.in-Accepted.is in
+    let is_open : opening given ≡ Ok c.in-Accepted.s = sym c.opening.ensures ∙ c.in-Accepted.is in
     is_open
 
 pub allot-requires : goal.allot-requires
 allot-requires c =
     let given : State = state c.args.image.now c.args.table.now in
-    let chosen : let h = c.in-At.h in (allocate_checks c.args.size given ≡ Accepted h) × (c.in-At.t ≡ tagged c.in-Accepted.s h c.args.size) = site_chosen _ _ _ _ _ (sym c.allocatable.ensures ∙ c.in-At.is) in
+    let chosen : let h = c.in-At.h in (allocate_checks c.args.size given ≡ Ok h) × (c.in-At.t ≡ tagged c.in-Accepted.s h c.args.size) = site_chosen _ _ _ _ _ (sym c.allocatable.ensures ∙ c.in-At.is) in
     let allocates : Allocates c.args.size given c.in-At.h = allocate_parts _ (state _ _) _ chosen.0 in
     let a = allocates in (a.lowest.is_sound, a.lowest.fits_in, a.total_holds)

@@ -1,14 +1,15 @@
 -- `store::access_large` meets its contract: `large_object`, then 13 (`reached`). Assumes nothing.
+use Rattle.std.specs.Prelude.{Result}
 use mathlib.Core.Path.{ap, ◌∙◌}
 use Rattle.store.specs.State.{state}
 use Rattle.store.specs.laws.Access.{reached_by, reached_by_lem}
-use Rattle.store.specs.declared.locate.Found.{Found}
+use Rattle.store.specs.declared.locate.Reading.{Reading}
 use Rattle.store.proofs.locate.access_large.Goals as goal
 
 pub returns : goal.returns
 returns c =
     let a = c.args in
-    c.reached.ensures ∙ ap (λ (f : Found). reached_by f a.p a.n) c.large_object-f.ensures
+    c.reached.ensures ∙ ap (λ (f : Result Reading Refusal). reached_by f a.p a.n) c.large_object-f.ensures
     ∙ reached_by_lem a.s a.p a.n (state a.image.now a.table.now)
 
 pub large_object-f-requires : goal.large_object-f-requires

@@ -1,5 +1,6 @@
 -- `store::large_object` meets its contract: 10 by the tag number; 11 where its frame starts past the image, where no live header stands at the place that its entry
 -- holds, or the object does not reach from half to half of the frame. Assumes nothing.
+use Rattle.std.specs.Prelude.{Ok}
 use Prim.Native.Nat.{ℕ, ◌+◌, ◌^◌, ◌≤◌, ◌<◌}
 use mathlib.Core.Path.{◌≡◌, sym, ap, ◌∙◌}
 use mathlib.Core.Bool.{true}
@@ -18,8 +19,6 @@ use Rattle.store.specs.Calls.{header_place, located}
 use Rattle.store.specs.laws.Opening.{Open, opening_parts}
 use Rattle.store.specs.laws.TagReading.{place-large, bad_tag, starts_past, led_nowhere, led-large, found_by, found-refused, found-verified, found_dangling}
 use Rattle.store.specs.declared.answer.Refusal.TheVariants.{Dangling}
-use Rattle.store.specs.declared.answer.Answer.TheVariants.{Accepted}
-use Rattle.store.specs.declared.locate.Found.TheVariants.{At}
 use borrow.Author.Rules.{rules}
 use Rattle.store.proofs.locate.large_object.Goals as goal
 
@@ -55,7 +54,7 @@ returns-then-not-frame_holds c =
     let starts : let a = c.args in frame_start a.p.tag a.p.address < length a.image.now = omega (arith, c.frame_start.ensures, c.if-image-frame_start.false) in
     let header : ℕ = get_or c.args.table.now c.entry_index-entry.result 0 in
     let led-to : let a = c.args in header ≡ header_place a.s a.p a.table.now = ap (λ (j : ℕ). get_or c.args.table.now j 0) c.entry_index-entry.ensures ∙ place-large c.args.s c.args.p c.args.table.now c.requires.2 in
-    let leads : demand (frame_holds header c.in-Size.size c.args.p) Dangling (Accepted header) ≡ located c.args.s c.args.p given = led-large c.args.s c.args.p given is-good header led-to _ c.requires.2 starts (sym c.live_size.ensures ∙ c.in-Size.is) in
+    let leads : demand (frame_holds header c.in-Size.size c.args.p) Dangling (Ok header) ≡ located c.args.s c.args.p given = led-large c.args.s c.args.p given is-good header led-to _ c.requires.2 starts (sym c.live_size.ensures ∙ c.in-Size.is) in
     found_dangling _ _ _ _ (sym c.frame_holds.ensures ∙ c.if-not-frame_holds.true) ∙ found_by c.args.s c.args.p given _ leads
 
 -- row 11: no object
@@ -78,8 +77,8 @@ returns-else-not-frame_holds c =
     let is-good : let a = c.args in good_tag a.s a.p ≡ true = sym c.frame_tag_good.ensures ∙ c.if-not-frame_tag_good.false in
     let starts : let a = c.args in frame_start a.p.tag a.p.address < length a.image.now = omega (arith, c.frame_start.ensures, c.if-image-frame_start.false) in
     let led-to : let a = c.args in header ≡ header_place a.s a.p a.table.now = ap (λ (j : ℕ). get_or c.args.table.now j 0) c.entry_index-entry.ensures ∙ place-large c.args.s c.args.p c.args.table.now c.requires.2 in
-    let leads : demand (frame_holds header c.in-Size.size c.args.p) Dangling (Accepted header) ≡ located c.args.s c.args.p given = led-large c.args.s c.args.p given is-good header led-to _ c.requires.2 starts (sym c.live_size.ensures ∙ c.in-Size.is) in
-    ap At c.measure.ensures
+    let leads : demand (frame_holds header c.in-Size.size c.args.p) Dangling (Ok header) ≡ located c.args.s c.args.p given = led-large c.args.s c.args.p given is-good header led-to _ c.requires.2 starts (sym c.live_size.ensures ∙ c.in-Size.is) in
+    ap Ok c.measure.ensures
     ∙ found-verified _ _ _ _ _ (sym c.frame_holds.ensures ∙ c.if-not-frame_holds.false) object.2
     ∙ found_by c.args.s c.args.p given _ leads
 

@@ -1,5 +1,6 @@
 -- `store::small_object` meets its contract: 10 by the tag number; 11 where no live header stands at its place of the slot, or the slot does not hold its object.
 -- Assumes nothing.
+use Rattle.std.specs.Prelude.{Ok}
 use Prim.Native.Nat.{ℕ, ◌+◌, ◌^◌, ◌≤◌}
 use mathlib.Core.Path.{◌≡◌, sym, ap, ◌∙◌}
 use mathlib.Core.Bool.{true}
@@ -13,7 +14,6 @@ use Rattle.block.specs.laws.Soundness.{sound-end, sound_live, object_is}
 use Rattle.store.specs.State.{state}
 use Rattle.store.specs.Calls.{header_place}
 use Rattle.store.specs.laws.TagReading.{place_small, bad_tag, led_nowhere, led_small, found_by, found-refused, found-verified, found_dangling}
-use Rattle.store.specs.declared.locate.Found.TheVariants.{At}
 use Rattle.store.proofs.locate.small_object.Goals as goal
 
 pub overflow_add-h : goal.overflow_add-h
@@ -60,7 +60,7 @@ returns-else-not-slot_holds c =
     let object : let a = c.args in (sound a.image.now header ≡ true) × (is_live a.image.now header ≡ true) × (c.in-Size.size ≡ size_at a.image.now header) = object_is _ _ _ (sym c.live_size.ensures ∙ c.in-Size.is) in
     let a = c.args in
     λ table.
-    ap At c.measure.ensures
+    ap Ok c.measure.ensures
     ∙ found-verified _ _ _ _ _ (sym c.slot_holds.ensures ∙ c.if-not-slot_holds.false) object.2
     ∙ found_by a.s a.p (state _ table) _
     (led_small a.s a.p (state _ table) is-good header (led-to table) _ c.requires.2

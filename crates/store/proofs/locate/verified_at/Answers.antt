@@ -1,5 +1,6 @@
 -- `store::locate::verified_at` meets its contract. Each test of the header that fails ends it with row 11: soundness, kind, tag, and slot or frame, in this order.
 -- Assumes nothing.
+use Rattle.std.specs.Prelude.{Ok}
 use mathlib.Core.Path.{◌≡◌, sym, ap, ◌∙◌}
 use mathlib.Core.Bool.{true}
 use Prim.Native.Nat.{ℕ}
@@ -13,7 +14,6 @@ use Rattle.block.specs.laws.Soundness.{sound_low, sound-end, sound_live, examine
 use Rattle.block.specs.declared.header.Header.{Header}
 use Rattle.store.specs.Calls.{verified}
 use Rattle.store.specs.laws.TagReading.{not_sound, not_live, no_match, match, found-verified, found_dangling}
-use Rattle.store.specs.declared.locate.Found.TheVariants.{At}
 use Rattle.store.proofs.locate.verified_at.Goals as goal
 
 -- the block is not live
@@ -77,4 +77,4 @@ returns-else-not-same_frame c =
     let is_live_lem : let a = c.args in kind_at a.image.now a.h ≡ 2 = sym (ap (λ (d : Header). d.kind) seen.1) ∙ c.if-d-ne2.false in
     let tag_is : let a = c.args in tag_matches a.s a.h (size_at a.image.now a.h) a.p ≡ c.tag_matches.result = let a = c.args in ap (λ (n : ℕ). tag_matches a.s a.h n a.p) (sym size_is) ∙ sym c.tag_matches.ensures in
     let tested : let a = c.args in verified a.s a.p a.image.now a.h ≡ c.same_frame.result = let a = c.args in match a.s a.p _ _ seen.0 is_live_lem (tag_is ∙ not-false _ c.if-not-tag_matches.false-raw) ∙ sym (c.same_frame.ensures ∙ ap (λ (n : ℕ). same_frame n a.h a.p.address) c.requires.3) in
-    ap At c.measure.ensures ∙ found-verified _ _ _ _ _ (tested ∙ not-false _ c.if-not-same_frame.false-raw) size_is
+    ap Ok c.measure.ensures ∙ found-verified _ _ _ _ _ (tested ∙ not-false _ c.if-not-same_frame.false-raw) size_is

@@ -1,5 +1,5 @@
 -- `store::offset_in` meets its contract: 10 (`reach`), then 12 (`moved`); or the moved pointer is packed. Assumes nothing.
-use Rattle.store.specs.declared.answer.Answer.TheVariants.{Accepted}
+use Rattle.std.specs.Prelude.{Ok}
 use Prim.Native.Nat.{ℕ}
 use mathlib.Core.Path.{◌≡◌, sym, ◌∙◌, subst, ap}
 use native.Mathlib.Omega.{arith}
@@ -37,7 +37,7 @@ returns-in-To c =
     let moves : let a = c.args in moved c.unpack-p.result (reach a.s c.unpack-p.result) a.distance ≡ c.moved.result = sym (ap (λ (n : ℕ). moved c.unpack-p.result n c.args.distance) reaches.exponent) ∙ sym (ap (moved c.unpack-p.result _) (to_z-of_z c.ranges.distance)) ∙ sym c.moved.ensures in
     let a = c.args in
     rw (← c.unpack-p.ensures)
-    (ap Accepted c.pack.ensures ∙ moved_in a.s c.unpack-p.result a.distance _ reaches.good (moves ∙ c.in-To.is))
+    (ap Ok c.pack.ensures ∙ moved_in a.s c.unpack-p.result a.distance _ reaches.good (moves ∙ c.in-To.is))
 
 pub moved-requires : goal.moved-requires
 moved-requires c =

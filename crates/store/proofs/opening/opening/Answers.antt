@@ -1,4 +1,5 @@
 -- `store::opening` meets its contract: 4 (`open`), then 5 by the used entries of the exponent that was read. Assumes nothing.
+use Rattle.std.specs.Prelude.{Ok}
 use mathlib.Core.Path.{◌≡◌, sym, ap, ◌∙◌}
 use mathlib.Core.Bool.{true}
 use native.Mathlib.Omega.{arith}
@@ -7,7 +8,6 @@ use Rattle.frame.specs.Tags.{used_entries}
 use Rattle.block.specs.Layout.{superblock_good, slot_exponent}
 use Rattle.block.specs.laws.Superblock.{superblock_parts, opened_is_good, opened_is_bad}
 use Rattle.store.specs.State.{state}
-use Rattle.store.specs.declared.answer.Answer.TheVariants.{Accepted}
 use Rattle.store.specs.laws.Opening.{opening-passes, not_open, table_short}
 use Rattle.store.proofs.opening.opening.Goals as goal
 
@@ -35,4 +35,4 @@ returns-else-table-used c =
     let good : let i = c.args.image.now in (superblock_good i ≡ true) × (c.in-Exponent.s ≡ slot_exponent i) = opened_is_good _ _ (sym c.open.ensures ∙ c.in-Exponent.is) in
     let used-is : let i = c.args.image.now in c.used_entries-used.result ≡ used_entries (slot_exponent i) (length i) = rw good.1 at c.used_entries-used.ensures in
     let g = good in
-    ap Accepted g.1 ∙ sym (opening-passes (state _ _) g.0 (omega (arith, used-is, c.if-table-used.false)))
+    ap Ok g.1 ∙ sym (opening-passes (state _ _) g.0 (omega (arith, used-is, c.if-table-used.false)))

@@ -1,4 +1,5 @@
 -- `store::free` meets its contract: refused by `opening` or `releasable`, or the block is given back and the entry is cleared. Assumes nothing.
+use Rattle.std.specs.Prelude.{Ok}
 use mathlib.Core.Path.{◌≡◌, sym, ap, ◌∙◌, subst}
 use Prim.Native.Nat.{ℕ}
 use native.Mathlib.Omega.{arith}
@@ -13,7 +14,6 @@ use Rattle.store.specs.laws.Opening.{Open, opening_parts}
 use Rattle.store.specs.laws.Entries.{entry_cleared, cleared-noted}
 use Rattle.store.specs.laws.TagReading.{Located}
 use Rattle.store.specs.laws.Free.{Frees, free_parts, free_shut, free_declined, free_done}
-use Rattle.store.specs.declared.answer.Answer.TheVariants.{Accepted}
 use Rattle.store.specs.declared.release.Release.TheVariants as release
 use Rattle.store.proofs.release.free.Goals as goal
 
@@ -28,7 +28,7 @@ give_back-requires c =
 pub clear_entry-requires : goal.clear_entry-requires
 clear_entry-requires c =
     let given : State = state c.args.image.now c.args.table.now in
-    let is_open : opening given ≡ Accepted c.in-Accepted.s = sym c.opening.ensures ∙ c.in-Accepted.is in
+    let is_open : opening given ≡ Ok c.in-Accepted.s = sym c.opening.ensures ∙ c.in-Accepted.is in
     let opens : Open given c.in-Accepted.s = opening_parts _ _ is_open in
     let accepted : free_release c.args.pointer given ≡ release.Merges c.in-Merges.h c.in-Merges.from c.in-Merges.to = sym c.releasable.ensures ∙ c.in-Merges.is in
     let frees : Frees c.args.pointer given c.in-Merges.h c.in-Merges.from c.in-Merges.to = free_parts _ (state _ _) _ _ _ accepted in
@@ -56,7 +56,7 @@ returns-in-Refused-releasable c = free_declined _ (state _ _) _ (sym c.releasabl
 pub returns-in-Merges : goal.returns-in-Merges
 returns-in-Merges c =
     let given : State = state c.args.image.now c.args.table.now in
-    let is_open : opening given ≡ Accepted c.in-Accepted.s = sym c.opening.ensures ∙ c.in-Accepted.is in
+    let is_open : opening given ≡ Ok c.in-Accepted.s = sym c.opening.ensures ∙ c.in-Accepted.is in
     let opens : Open given c.in-Accepted.s = opening_parts _ _ is_open in
     let accepted : free_release c.args.pointer given ≡ release.Merges c.in-Merges.h c.in-Merges.from c.in-Merges.to = sym c.releasable.ensures ∙ c.in-Merges.is in
     let frees : Frees c.args.pointer given c.in-Merges.h c.in-Merges.from c.in-Merges.to = free_parts _ (state _ _) _ _ _ accepted in
@@ -69,19 +69,19 @@ returns-in-Merges c =
 pub overflow_cast-s : goal.overflow_cast-s
 overflow_cast-s c =
     let given : State = state c.args.image.now c.args.table.now in
-    let is_open : opening given ≡ Accepted c.in-Accepted.s = sym c.opening.ensures ∙ c.in-Accepted.is in
+    let is_open : opening given ≡ Ok c.in-Accepted.s = sym c.opening.ensures ∙ c.in-Accepted.is in
     let opens : Open given c.in-Accepted.s = opening_parts _ _ is_open in
     omega (arith, opens.high)
 
 pub releasable-requires : goal.releasable-requires
 releasable-requires c =
     let given : State = state c.args.image.now c.args.table.now in
-    let is_open : opening given ≡ Accepted c.in-Accepted.s = sym c.opening.ensures ∙ c.in-Accepted.is in
+    let is_open : opening given ≡ Ok c.in-Accepted.s = sym c.opening.ensures ∙ c.in-Accepted.is in
     is_open
 
 pub overflow_cast-s-in-Merges : goal.overflow_cast-s-in-Merges
 overflow_cast-s-in-Merges c =
     let given : State = state c.args.image.now c.args.table.now in
-    let is_open : opening given ≡ Accepted c.in-Accepted.s = sym c.opening.ensures ∙ c.in-Accepted.is in
+    let is_open : opening given ≡ Ok c.in-Accepted.s = sym c.opening.ensures ∙ c.in-Accepted.is in
     let opens : Open given c.in-Accepted.s = opening_parts _ _ is_open in
     omega (arith, opens.high)

@@ -2,7 +2,7 @@
 use Rattle.std.proofs.Common.{arith}
 use Rattle.store.specs.State.{state}
 use Rattle.store.specs.Calls.{allocate}
-use Rattle.store.specs.declared.answer.Answer.{Answer}
+use Rattle.store.specs.State.{Answer}
 use Rattle.workload.proofs.Pointers.{joined_none, joined_one}
 use Rattle.workload.proofs.making.join.Goals as goal
 

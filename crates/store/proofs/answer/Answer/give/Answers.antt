@@ -2,7 +2,7 @@
 use mathlib.Core.Path.{sym, ap, ◌∙◌}
 use Rattle.store.specs.State.{returned}
 use Rattle.store.specs.laws.Refusals.{given}
-use Rattle.store.specs.declared.answer.Answer.{Answer}
+use Rattle.store.specs.State.{Answer}
 use Rattle.store.proofs.answer.Answer.give.Goals as goal
 
 -- the refusal's number; the place is as it was
