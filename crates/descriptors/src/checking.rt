@@ -6,7 +6,7 @@ use super::descriptor::{Descriptor, Field};
 use super::reading::{read_descriptor, read_field};
 use super::searching::find_type;
 
-// The offset at which `extent` bytes from `offset` on end, if they start at or after `from` and fit inside `size`. No sum is made before it is known to fit.
+// Where `extent` bytes from `offset` on end, if they start at or after `from` and fit inside `size`. No sum is made before it is known to fit.
 fn end_within(from: u64, size: u64, offset: u64, extent: u64) -> Option<u64>
     ensures { result ≡ end_within from size offset extent }
 {
@@ -27,7 +27,9 @@ fn field_end(list: &[u8], p: usize, from: u64, size: u64, field: Field) -> Optio
     requires { (WholeTo list.now p) × (size ≡ size_at list.now p) }
     ensures { result ≡ field_end list.now p from field }
 {
-    let q = find_type(list, p, field.ty)?;
+    let Some(q) = find_type(list, p, field.ty) else {
+        return None;
+    };
     let d = read_descriptor(list, q as usize);
     end_within(from, size, field.offset, d.size)
 }
@@ -38,13 +40,18 @@ fn good_fields(list: &[u8], p: usize, n: usize, size: u64) -> bool
     ensures { result ≡ good_fields_in n list.now p 0 0 }
 {
     let mut from: u64 = 0;
-    for k in 0..n {
-        let Some(end) = field_end(list, p, from, size, read_field(list, p, k)) else {
-            return false;
+    let mut k = 0;
+    loop {
+        if k == n {
+            break true;
+        }
+        let field = read_field(list, p, k);
+        let Some(end) = field_end(list, p, from, size, field) else {
+            break false;
         };
         from = end;
+        k = k + 1;
     }
-    true
 }
 
 // Whether the length is what the kind asks for.
@@ -92,7 +99,10 @@ fn good_descriptor(list: &[u8], p: usize) -> bool
     }
     let d = read_descriptor(list, p);
     let n = ((d.length - 12) / 6) as usize;
-    find_type(list, p, d.ty).is_none() && good_fields(list, p, n, d.size)
+    match find_type(list, p, d.ty) {
+        Some(_) => false,
+        None => good_fields(list, p, n, d.size),
+    }
 }
 
 // Whether every descriptor of the list is good.
@@ -100,11 +110,14 @@ pub fn good_list(list: &[u8]) -> bool
     ensures { result ≡ good_list list.now }
 {
     let mut p = 0;
-    while p < list.len() {
-        if !good_descriptor(list, p) {
-            return false;
+    loop {
+        if p == list.len() {
+            break true;
         }
-        p += read_descriptor(list, p).length as usize;
+        if !good_descriptor(list, p) {
+            break false;
+        }
+        let d = read_descriptor(list, p);
+        p = p + d.length as usize;
     }
-    true
 }

@@ -1,4 +1,4 @@
-// Descriptors and fields by value.
+// Descriptors and fields by value, and what a search answers.
 
 // A descriptor without its fields: its length in bytes, its kind, its type number and the described size in bytes.
 #[derive(Clone, Copy)]

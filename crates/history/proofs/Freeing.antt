@@ -1,4 +1,5 @@
 -- A block of the layout is freed: its gap, its own bytes and the next gap become one gap. Assumes nothing.
+use Rattle.store.specs.Calls.{merge_of}
 use Rattle.std.specs.Prelude.{Some}
 use Prim.Native.Nat.{ℕ, zero, suc, ◌+◌, ◌-◌, ◌≤◌}
 use mathlib.Core.Path.{◌≡◌, refl, sym, ap, ◌∙◌}
@@ -16,7 +17,6 @@ use Rattle.block.specs.laws.Walks.{walk_stopped}
 use Rattle.block.specs.laws.WalkTo.{walk_to_stopped}
 use Rattle.store.specs.Calls.{released, merge_start, merge_end, merged}
 use Rattle.store.specs.laws.Free.{merge_start_here, merge_start-free, merge_end_last, merge_end-free, merge_end_live, released_merges, merged_parts}
-use Rattle.store.specs.declared.release.Release.TheVariants as release
 use Rattle.history.proofs.Gaps.{Block, extent, Layout, last, item, zeros, render, gaps, lookup, Remade}
 use Rattle.history.proofs.Looks.{gap, regap, gap_ok, gap_le, regap_ok, regap-size, regap-gaps, look_regap, look_before}
 use Rattle.history.proofs.Rendered.{Part, part_after, part_next, gap_some, gap-free, gap-extent, render-regap, block_sound, block_not_free, block_extent}
@@ -79,7 +79,7 @@ module _ (image : List ℕ) (l : Layout) (k g : ℕ) (b : Block) (m : Layout) (f
 
   -- what free answers, what it leaves, and which blocks are left
 
-  pub free_merges : released image (k + g) (walk_to image (k + g)) ≡ release.Merges (k + g) k (k + joined)
+  pub free_merges : released image (k + g) (walk_to image (k + g)) ≡ merge_of (k + g) k (k + joined)
   free_merges =
       let n : Focus image l (k + g + extent b) m = focus_next image l k g b m f in
       let e : k + g + extent b + gap m ≡ k + joined = omega arith in

@@ -1,5 +1,6 @@
 -- What the definitions over bytes come to on an image with a layout. Assumes nothing.
-use Rattle.std.specs.Prelude.{Some}
+use Rattle.store.specs.Calls.{merge_of}
+use Rattle.std.specs.Prelude.{Some, Err}
 use Prim.Native.Nat.{ℕ, ◌+◌, ◌-◌, ◌^◌, ◌≤◌, ◌<◌}
 use mathlib.Core.Path.{◌≡◌, refl}
 use mathlib.Core.Bool.{true, false, cond}
@@ -14,7 +15,6 @@ use Rattle.block.specs.Walk.{first_fit, walk_to, count_blocks, OnWalk}
 use Rattle.block.specs.declared.walk.Fit.TheVariants as fit
 use Rattle.store.specs.Calls.{fresh, taken_extent, carved, released, merged}
 use Rattle.store.specs.declared.answer.Refusal.TheVariants.{Unsound}
-use Rattle.store.specs.declared.release.Release.TheVariants as release
 use Rattle.history.proofs.Gaps.{Block, extent, headed, Layout, last, item, gaps, block_at, BlockOk, counts, Placed, Remade, Clear, patched}
 use Rattle.history.proofs.Looks.{gap, regap, gaps_le, look_apart, look_swap}
 use Rattle.history.proofs.Rendered.{block_header, block_sound}
@@ -123,7 +123,7 @@ fitted image l p n type cue fits cue_fits = go (first_fit_lem image l p (16 + n)
 pub record Freed (image : List ℕ) (l : Layout) (h : ℕ) (b : Block) : Type 0 where
   pub from : ℕ
   pub to : ℕ
-  pub merges : released image h (walk_to image h) ≡ release.Merges h from to
+  pub merges : released image h (walk_to image h) ≡ merge_of h from to
   pub next : Layout
   pub remade : Remade image (merged image from to) next
   pub given : gaps next ≡ gaps l + extent_at image h
@@ -146,7 +146,7 @@ freed image l h b p e = go h (find image l h b p e)
 
 -- a free of any other place where a live header stands, as one forged inside a body: the walk does not meet it
 pub not-freed : (image : List ℕ) (l : Layout) (h : ℕ) → Placed image l → block_at l h ≡ none → is_live image h ≡ true → sound image h ≡ true
-    → released image h (walk_to image h) ≡ release.Refused Unsound
+    → released image h (walk_to image h) ≡ Err Unsound
 not-freed image l h p e live so = not_met image l p h e live (walk_to image h) refl
 
 -- a fresh image is one gap

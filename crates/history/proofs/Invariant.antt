@@ -1,6 +1,7 @@
 -- What holds of image, table and abstract heap between any two calls of a list.
 -- In order: the invariant; a live object in the image; what decides the image; what pointers lead to; another list of the objects; set-up. Not here: that each
 -- call keeps it (`Steps`). Assumes nothing.
+use Rattle.store.specs.State.{measured_as}
 use Rattle.std.specs.Prelude.{Ok}
 use Prim.Native.Nat.{ℕ, ◌+◌, ◌-◌, ◌^◌, ◌≤◌}
 use mathlib.Core.Path.{◌≡◌, refl, sym, ap, ◌∙◌, subst}
@@ -27,7 +28,6 @@ use Rattle.store.specs.laws.TagReading.{Stands, Located, located_object, located
 use Rattle.store.specs.laws.Access.{accessed-at}
 use Rattle.store.specs.laws.Distances.{distances-located}
 use Rattle.store.specs.declared.answer.Refusal.TheVariants.{OutOfBounds}
-use Rattle.store.specs.declared.measuring.Measurement.TheVariants.{Distances}
 use Rattle.history.specs.Heap.{Object, Heap, start, holds, owner_of, inside}
 use Rattle.history.specs.History.{header_of}
 use Rattle.history.proofs.Gaps.{Block, extent, Layout, last, render, size, gaps, lookup, block_at, Placed, Remade}
@@ -293,7 +293,7 @@ module _ {s L : ℕ} {x : State} {heap : Heap} (i : Invariant s L x heap) where
 
   -- the distances of a pointer are those from both ends of its object
   pub measures : (p : ℕ) (o : Object) → owner_of heap p ≡ some o
-      → distances p x ≡ Distances (sub_ℕ (unpack p).address (start o)) (sub_ℕ (start o + o.size) (unpack p).address)
+      → distances p x ≡ measured_as (sub_ℕ (unpack p).address (start o)) (sub_ℕ (start o + o.size) (unpack p).address)
   measures p o e =
       let q = known i.laid (header_of o) o (owned heap p o i.laid.distinct e).found in
       distances-located x s opens p (header_of o) (owner_leads p o e) ∙ rw (q.size, ← q.begins) refl

@@ -1,5 +1,5 @@
 -- What holds at every place that the walk over a layout's image comes to. Assumes nothing.
-use Rattle.std.specs.Prelude.{None, Option, Some}
+use Rattle.std.specs.Prelude.{None, Option, Some, Err}
 use Prim.Native.Nat.{ℕ, ◌+◌, ◌-◌, ◌≤◌, ◌<◌}
 use mathlib.Core.Path.{◌≡◌, sym, ap, ◌∙◌}
 use mathlib.Core.Bool.{true, false}
@@ -17,7 +17,6 @@ use Rattle.block.specs.laws.WalkTo.{MeetsBlock, walk_to_meets}
 use Rattle.store.specs.Calls.{released}
 use Rattle.store.specs.laws.Free.{released_lost}
 use Rattle.store.specs.declared.answer.Refusal.TheVariants.{Unsound}
-use Rattle.store.specs.declared.release.Release.TheVariants as release
 use Rattle.history.proofs.Gaps.{Block, extent, Layout, last, item, zeros, render, block_at, Placed}
 use Rattle.history.proofs.Looks.{gap, look_first, clash}
 use Rattle.history.proofs.Rendered.{Part, after, step-drop, gap_cut, gap-not_live, gap-extent, block_not_free, block_extent, block_size}
@@ -85,7 +84,7 @@ module _ (image : List ℕ) (l : Layout) where
 
   -- where the layout has no block, a live header is not met, and a free of it is refused
   pub not_met : Placed image l → (h : ℕ) → block_at l h ≡ none → is_live image h ≡ true → (w : Option ℕ) → walk_to image h ≡ w
-      → released image h w ≡ release.Refused Unsound
+      → released image h w ≡ Err Unsound
   not_met p h e r (Some before) q =
       let m : MeetsBlock image h before = walk_to_meets image h before q in
       absurd (standing_looked h (standing image l p h m.on_walk) e m.is_sound r)

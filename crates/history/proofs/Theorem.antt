@@ -1,5 +1,6 @@
 -- Demand 3, and the further claims about its lists.
 -- In order: the induction over the list; each field of `Holds` from the invariant; the claims. Not here: the steps of single calls (`Steps`). Assumes nothing.
+use Rattle.store.specs.State.{usage_of}
 use Rattle.std.specs.Prelude.{Err, None, Ok, Option, Some}
 use Prim.Native.Nat.{ℕ, ◌+◌, ◌^◌, ◌≤◌, ◌<◌}
 use mathlib.Core.Path.{◌≡◌, refl, sym, ap, ◌∙◌, subst}
@@ -34,7 +35,6 @@ use Rattle.store.specs.laws.Copy.{copy-through}
 use Rattle.store.specs.laws.Compare.{bytes_through, compare-through}
 use Rattle.store.specs.laws.Empty.{empty_load, empty_access}
 use Rattle.store.specs.declared.answer.Refusal.TheVariants.{OutOfBounds}
-use Rattle.store.specs.declared.counting.Usage.TheVariants as usage
 use Rattle.history.specs.Heap.{Object, Heap, holds, owner_of, inside, text_in, hear, HearsNoOther}
 use Rattle.history.specs.History.{known, admitted, Configuration, next, after, all_admitted, begun, In, header_of, FreeRun, EntriesApart, PointersApart, PointersLead, FreesExactly, LoadsExactly, StoresExactly, FillsExactly, BothInside, CopiesExactly, ComparesExactly, TextsExactly, LoadsBytes, ComparesBytes, TextsCounted, EachAllocate, Holds, Demand3}
 use Rattle.history.specs.Release.{ReleasesSingly}
@@ -315,7 +315,7 @@ module _ {s L : ℕ} (x : Configuration) (i : Invariant s L x.state x.heap) wher
       }
 
   -- tally gives the layout's counts
-  tallied : let l : Layout = i.laid.layout in tally x.state ≡ usage.Counts (blocks l) (bodies l) (gaps l) (overheads l)
+  tallied : let l : Layout = i.laid.layout in tally x.state ≡ usage_of (blocks l) (bodies l) (gaps l) (overheads l)
   tallied = sym (tally-counts x.state s (opens i) (counts i.laid.layout) (counted_as x.state.image i.laid.layout i.laid.placed))
 
   -- so that it is accepted

@@ -1,5 +1,6 @@
 -- Demand 3, one claim about every list of calls from a freshly set up image and table, and demand 2's part on such lists: document 01,
 -- "Demand 3's list and book" and "Why a call was declined", and document 02. Assumes nothing.
+use Rattle.store.specs.State.{measured_as}
 use Rattle.std.specs.Prelude.{ℕ, ◌+◌, ◌-◌, ◌^◌, ◌≤◌, ◌<◌, ◌≡◌, ◌⊎◌, ◌↔◌, Bool, true, false, ◌&&◌, ◌||◌, length, get_or, ltb, ℤ, pos, negsuc, Some}
 use mathlib.Core.List.{List, [], ◌∷◌, Memᴰ}
 use Rattle.std.proofs.Math.Option.{some}
@@ -12,7 +13,6 @@ use Rattle.block.specs.Layout.{slot_exponent, extent_at, size_at, cue_at}
 use Rattle.store.specs.State.{State, Outcome, IsAccepted, returned, value, comparison_number, comparison_value}
 use Rattle.store.specs.Calls.{set_up, allocate_for, load, store, free, fill, copy, compare, copy_text, release_cue, good_width, leads_back, header_place, distances}
 use Rattle.store.specs.Step.{Call, allocates, frees, moves, loads, stores, fills, copies, copies_text, allocates_for, releases, step}
-use Rattle.store.specs.declared.measuring.Measurement.TheVariants.{Distances}
 use Rattle.history.specs.Heap.{Object, Heap, start, holds, owner_of, inside, bytes_at, text_in, of_cue, hear}
 
 -- Lists.
@@ -159,7 +159,7 @@ TextsExactly x =
 abbrev pub DistancesShown : Configuration → Type 0
 DistancesShown x =
     (o : Object) (p : ℕ) → owner_of x.heap p ≡ some o
-    → distances p x.state ≡ Distances (sub_ℕ (unpack p).address (start o)) (sub_ℕ (start o + o.size) (unpack p).address)
+    → distances p x.state ≡ measured_as (sub_ℕ (unpack p).address (start o)) (sub_ℕ (start o + o.size) (unpack p).address)
 
 -- an accepted load gives the heap's bytes, little-endian
 abbrev pub LoadsBytes : Configuration → Type 0

@@ -1,5 +1,8 @@
 -- What holds of single calls on every image and table.
 -- In order: shapes that are kept; how each call ends; the claims. Assumes nothing.
+use Rattle.store.specs.State.{usage_of}
+use Rattle.store.specs.Calls.{merge_of}
+use Rattle.store.specs.State.{measured_as}
 use Rattle.std.specs.Prelude.{Err, Ok, Result}
 use Prim.Native.Nat.{ℕ, ◌+◌, ◌^◌, ◌≤◌, ◌<◌}
 use mathlib.Core.Path.{◌≡◌, refl, sym, ap, ap₂, ◌∙◌, subst}
@@ -46,15 +49,14 @@ use Rattle.store.specs.laws.Empty.{empty_load, empty_access}
 use Rattle.store.specs.laws.Entries.{length-noted, noted_beyond, noted_entry}
 use Rattle.store.specs.laws.Tally.{tally_balanced}
 use Rattle.store.specs.State.{Answer}
-use Rattle.store.specs.declared.release.Release.{Release}
-use Rattle.store.specs.declared.release.Release.TheVariants as release
+use Rattle.store.specs.declared.release.FreedBlock.{FreedBlock}
 use Rattle.store.specs.declared.locate.Reading.{Reading}
-use Rattle.store.specs.declared.measuring.Measurement.{Measurement}
-use Rattle.store.specs.declared.measuring.Measurement.TheVariants as measurement
-use Rattle.store.specs.declared.counting.Usage.{Usage}
-use Rattle.store.specs.declared.counting.Usage.TheVariants as usage
+use Rattle.store.specs.declared.measuring.BodyEnds.{BodyEnds}
+use Rattle.block.specs.declared.walk.Counts.{Counts}
 use Rattle.store.proofs.Sweeping.{sweep_freed}
 use Rattle.store.proofs.Gathering.{sweep_begins}
+use Rattle.store.specs.declared.answer.Refusal.{Refusal}
+use Rattle.block.specs.declared.order.Ordering.{Ordering}
 
 -- how a call ends: refused with nothing changed, or accepted with the shape kept
 data Ended (s : ℕ) (x : State) (r : Outcome) : Type 0 where
@@ -140,9 +142,12 @@ module _ (x : State) where
   unfolding exponent
   ended_free word = go (free_release word x) refl
     where
-      go : (a : Release) → free_release word x ≡ a → Ended exponent x (free word x)
-      go (release.Refused r) e = subst (Ended exponent x) (free_declined word x r e) (refused refl refl)
-      go (release.Merges h from to) e =
+      go : (a : Result FreedBlock Refusal) → free_release word x ≡ a → Ended exponent x (free word x)
+      go (Err r) e = subst (Ended exponent x) (free_declined word x r e) (refused refl refl)
+      go (Ok m) e =
+          let h = m.header in
+          let from = m.from in
+          let to = m.to in
           let f : Frees word x h from to = free_parts word x h from to e in
           subst (Ended exponent x) (free_done word x h from to exponent _ _ e refl refl refl)
           (accepted refl
@@ -208,9 +213,12 @@ free_exponent : (word : ℕ) (x : State) → exponent (free word x).after ≡ ex
 unfolding exponent
 free_exponent word x = go (free_release word x) refl
   where
-    go : (a : Release) → free_release word x ≡ a → slot_exponent (free word x).after.image ≡ slot_exponent x.image
-    go (release.Refused r) e = ap (λ (o : Outcome). slot_exponent o.after.image) (sym (free_declined word x r e))
-    go (release.Merges h from to) e =
+    go : (a : Result FreedBlock Refusal) → free_release word x ≡ a → slot_exponent (free word x).after.image ≡ slot_exponent x.image
+    go (Err r) e = ap (λ (o : Outcome). slot_exponent o.after.image) (sym (free_declined word x r e))
+    go (Ok m) e =
+        let h = m.header in
+        let from = m.from in
+        let to = m.to in
         let f : Frees word x h from to = free_parts word x h from to e in
         ap (λ (o : Outcome). slot_exponent o.after.image) (sym (free_done word x h from to (exponent x) _ _ e refl refl refl))
         ∙ (given_back_front x.image from to f.room f.high h f.low).1
@@ -253,9 +261,9 @@ comparison_refused (Ok o) n = absurd (n refl)
 comparison_refused (Err r) n = refl
 
 -- refused distances are 0
-measurement_refused : (m : Measurement) → (distances_number m ≡ 0 → ⊥) → (start_distance m ≡ pos 0) × (end_distance m ≡ pos 0)
-measurement_refused (measurement.Distances a b) n = absurd (n refl)
-measurement_refused (measurement.Refused r) n = (refl, refl)
+measurement_refused : (m : Result BodyEnds Refusal) → (distances_number m ≡ 0 → ⊥) → (start_distance m ≡ pos 0) × (end_distance m ≡ pos 0)
+measurement_refused (Ok d) n = absurd (n refl)
+measurement_refused (Err r) n = (refl, refl)
 
 -- a refused answer gives no value
 answer_refused : (a : Answer) → (returned a ≡ 0 → ⊥) → value a ≡ 0
@@ -263,9 +271,9 @@ answer_refused (Ok v) n = absurd (n refl)
 answer_refused (Err r) n = refl
 
 -- a refused tally gives no values
-usage_refused : (u : Usage) → (usage_number u ≡ 0 → ⊥) → (live_objects u ≡ 0) × (live_bytes u ≡ 0) × (free_bytes u ≡ 0) × (overhead_bytes u ≡ 0)
-usage_refused (usage.Counts objects live free overhead) n = absurd (n refl)
-usage_refused (usage.Refused r) n = (refl, refl, refl, refl)
+usage_refused : (u : Result Counts Refusal) → (usage_number u ≡ 0 → ⊥) → (live_objects u ≡ 0) × (live_bytes u ≡ 0) × (free_bytes u ≡ 0) × (overhead_bytes u ≡ 0)
+usage_refused (Ok c) n = absurd (n refl)
+usage_refused (Err r) n = (refl, refl, refl, refl)
 
 -- The claims.
 
@@ -442,9 +450,9 @@ read_as s p x o f =
 
 -- distances gives it
 distances-read : (s p : ℕ) (x : State) (o : Reading) → opening x ≡ Ok s → FoundAt s (unpack p) x o
-    → distances p x ≡ measurement.Distances o.offset o.remaining
+    → distances p x ≡ measured_as o.offset o.remaining
 distances-read s p x o e f =
-    sym (distances-given x s e p o.header f.tested) ∙ ap (λ (r : Reading). measurement.Distances r.offset r.remaining) (sym f.read)
+    sym (distances-given x s e p o.header f.tested) ∙ ap (λ (r : Reading). measured_as r.offset r.remaining) (sym f.read)
 
 -- each tag is measured
 pub measures : Measures

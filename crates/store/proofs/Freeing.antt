@@ -1,5 +1,6 @@
 -- One free where the block before the object is known: what it leaves, found without a walk. Assumes nothing.
-use Rattle.std.specs.Prelude.{Ok}
+use Rattle.store.specs.Calls.{merge_of}
+use Rattle.std.specs.Prelude.{Ok, Result}
 use Prim.Native.Nat.{ℕ, ◌+◌, ◌-◌, ◌^◌, ◌≤◌}
 use mathlib.Core.Path.{◌≡◌, refl, sym, ap, ◌∙◌, subst}
 use mathlib.Core.Bool.{true, ◌||◌}
@@ -26,9 +27,9 @@ use Rattle.store.specs.laws.Entries.{entry_held, holds_kept, length-noted}
 use Rattle.store.specs.laws.TagReading.{Stands, located_object, located-at}
 use Rattle.store.specs.laws.Free.{Frees, free_parts, free-at_base, free_merges, merge_start_here, merge_start-free, released_merges, totalled_merges, length_merged, merged-behind, merged-before, merged-header, merged-sound, length-given_back, given_back_front, given_back-header, given_back-total}
 use Rattle.store.specs.laws.Total.{total_fits_lem}
-use Rattle.store.specs.declared.release.Release.{Release}
-use Rattle.store.specs.declared.release.Release.TheVariants as release
+use Rattle.store.specs.declared.release.FreedBlock.{FreedBlock}
 use Rattle.store.proofs.Remains.{SameFrom}
+use Rattle.store.specs.declared.answer.Refusal.{Refusal}
 
 -- a live block of x at h whose entry leads back, behind the block at `before`, and with a sound header or the image's end behind it; the total has room
 -- for its extent
@@ -95,7 +96,7 @@ module _ {s : ℕ} {x : State} {before h : ℕ} (f : Freeable s x before h) wher
   at_base : (unpack word).address ≡ h + 16
   at_base = unpack_address s h (size_at x.image h) open_at.high fits
 
-  merges : released x.image h (walk_to x.image h) ≡ release.Merges h from to
+  merges : released x.image h (walk_to x.image h) ≡ merge_of h from to
   merges = ap (released x.image h) (behind_met f.behind f.is_sound) ∙ released_merges x.image h before f.next_good
 
   room_left : total_fits x.image (extent_at x.image h) ≡ true
@@ -104,7 +105,7 @@ module _ {s : ℕ} {x : State} {before h : ℕ} (f : Freeable s x before h) wher
   pub frees : Frees word x h from to
   frees =
       free_parts word x h from to
-      (sym (free-at_base word x s f.opens h is_located at_base) ∙ ap (λ (a : Release). totalled a x.image) merges
+      (sym (free-at_base word x s f.opens h is_located at_base) ∙ ap (λ (a : Result FreedBlock Refusal). totalled a x.image) merges
       ∙ totalled_merges x.image h from to room_left)
 
   -- and this is left

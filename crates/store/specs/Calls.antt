@@ -1,5 +1,7 @@
 -- What each call answers and leaves: document 01, "Calls" and "Why a call was declined", and document 02. The order of the rows is the order of the
 -- tests. Assumes nothing.
+use Rattle.store.specs.State.{usage_of}
+use Rattle.store.specs.State.{measured_as}
 use Rattle.std.specs.Prelude.{ℕ, ◌+◌, ◌-◌, ◌^◌, Bool, true, cond, ◌&&◌, ◌||◌, List, [], ◌∷◌, ◌++◌, length, take, drop, get_or, set, replicate, leb, ltb, eqb, ℤ, pos, negsuc, Err, None, Ok, Option, Result, Some}
 use Rattle.std.proofs.Math.IntN.{sub_ℕ}
 use Rattle.frame.specs.Frame.{frame_start, same_frame}
@@ -21,12 +23,10 @@ use Rattle.store.specs.State.{State, Outcome, outcome, demand, and_then, refuse,
 use Rattle.store.specs.declared.answer.Refusal.TheVariants.{BadExponent, BadLength, TooFewEntries, BadSuperblock, ShortTable, Empty, Unsound, NoSpace, EntryTaken, BadTag, Dangling, Leaves, OutOfBounds, BadWidth, NotBase, TooLarge, Unterminated, EntryLost, WrongTotal, BadDescriptor, Undescribed}
 use Rattle.store.specs.State.{Answer}
 use Rattle.store.specs.declared.locate.Reading.{Reading}
-use Rattle.store.specs.declared.measuring.Measurement.{Measurement}
-use Rattle.store.specs.declared.measuring.Measurement.TheVariants as measurement
-use Rattle.store.specs.declared.release.Release.{Release}
-use Rattle.store.specs.declared.release.Release.TheVariants as release
-use Rattle.store.specs.declared.counting.Usage.{Usage}
-use Rattle.store.specs.declared.counting.Usage.TheVariants as usage
+use Rattle.store.specs.declared.measuring.BodyEnds.{BodyEnds}
+use Rattle.store.specs.declared.release.FreedBlock.{FreedBlock}
+use Rattle.store.specs.declared.answer.Refusal.{Refusal}
+use Rattle.block.specs.declared.order.Ordering.{Ordering}
 
 -- Set-up: 1, 2, 3.
 
@@ -169,12 +169,12 @@ unfoldable pub distances_checks : ℕ → State → Answer
 distances_checks word x = and_then (opening x) λ s. located s (unpack word) x
 
 -- what follows where they are passed
-unfoldable pub distances_at : Answer → List ℕ → Pointer → Measurement
-distances_at (Ok h) image p = measurement.Distances (from_start h p) (to_end h (size_at image h) p)
-distances_at (Err r) image p = measurement.Refused r
+unfoldable pub distances_at : Answer → List ℕ → Pointer → Result BodyEnds Refusal
+distances_at (Ok h) image p = measured_as (from_start h p) (to_end h (size_at image h) p)
+distances_at (Err r) image p = Err r
 
 -- its answer: how far the pointer is from the start and from the end of its object's body
-unfoldable pub distances : ℕ → State → Measurement
+unfoldable pub distances : ℕ → State → Result BodyEnds Refusal
 distances word x = distances_at (distances_checks word x) x.image (unpack word)
 
 -- Type check before a cast: 24, 10, 11, 25. A list of type descriptors is lent too, and only read.
@@ -338,30 +338,33 @@ free_checks word x =
     and_then (opening x) λ s.
     and_then (located s (unpack word) x) λ h. demand (eqb (unpack word).address (h + 16)) NotBase (Ok h)
 
--- 7: the walk meets h, and the next header, below the image's end, is sound; then the object's header place, and from where to where the free block reaches
-unfoldable pub released : List ℕ → ℕ → Option ℕ → Release
+-- the object's header place, and from where to where the free block reaches
+abbrev pub merge_of : ℕ → ℕ → ℕ → Result FreedBlock Refusal
+merge_of h from to = Ok (record { header = h; from = from; to = to })
+
+-- 7: the walk meets h, and the next header, below the image's end, is sound; then what is merged
+unfoldable pub released : List ℕ → ℕ → Option ℕ → Result FreedBlock Refusal
 released image h (Some before) =
     let next : ℕ = h + extent_at image h in
-    cond (leb (length image) next || sound image next) (release.Merges h (merge_start image before h) (merge_end image next)) (release.Refused Unsound)
-released image h None = release.Refused Unsound
+    cond (leb (length image) next || sound image next) (merge_of h (merge_start image before h) (merge_end image next)) (Err Unsound)
+released image h None = Err Unsound
 
 -- 7, on the number that the tests up to 15 found
-unfoldable pub released_at : Answer → List ℕ → Release
+unfoldable pub released_at : Answer → List ℕ → Result FreedBlock Refusal
 released_at (Ok h) image = released image h (walk_to image h)
-released_at (Err r) image = release.Refused r
+released_at (Err r) image = Err r
 
 -- 22: with n bytes given back, the free total is not above all bytes behind the superblock
 unfoldable pub total_fits : List ℕ → ℕ → Bool
 total_fits image n = leb (stored_total image + n) (length image - 16)
 
 -- 22, where 7 is passed: the object's extent is given back
-unfoldable pub totalled : Release → List ℕ → Release
-totalled (release.Merges h from to) image =
-    cond (total_fits image (extent_at image h)) (release.Merges h from to) (release.Refused WrongTotal)
-totalled (release.Refused r) image = release.Refused r
+unfoldable pub totalled : Result FreedBlock Refusal → List ℕ → Result FreedBlock Refusal
+totalled (Ok m) image = cond (total_fits image (extent_at image m.header)) (Ok m) (Err WrongTotal)
+totalled (Err r) image = Err r
 
 -- all its tests
-unfoldable pub free_release : ℕ → State → Release
+unfoldable pub free_release : ℕ → State → Result FreedBlock Refusal
 free_release word x = totalled (released_at (free_checks word x) x.image) x.image
 
 -- the image that it leaves: one free block, the object's own extent given back to the free total
@@ -369,10 +372,11 @@ abbrev pub given_back : List ℕ → ℕ → ℕ → ℕ → List ℕ
 given_back image h from to = with_total (merged image from to) (stored_total image + extent_at image h)
 
 -- what the release of an object leaves
-unfoldable pub freed : Release → State → Outcome
-freed (release.Merges h from to) x =
-    outcome (Ok 0) (given_back x.image h from to) (noted (slot_exponent x.image) h (size_at x.image h) 0 x.table)
-freed (release.Refused r) x = refuse r x
+unfoldable pub freed : Result FreedBlock Refusal → State → Outcome
+freed (Ok m) x =
+    let h : ℕ = m.header in
+    outcome (Ok 0) (given_back x.image h m.from m.to) (noted (slot_exponent x.image) h (size_at x.image h) 0 x.table)
+freed (Err r) x = refuse r x
 
 -- its outcome
 unfoldable pub free : ℕ → State → Outcome
@@ -439,15 +443,15 @@ free_total x = and_then (opening x) λ s. Ok (stored_total x.image)
 -- bytes (16 for each live header, and each live extent's bytes beyond header and size).
 
 -- what follows where 4 and 5 are passed
-unfoldable pub tally_opened : Answer → Usage → Usage
+unfoldable pub tally_opened : Answer → Result Counts Refusal → Result Counts Refusal
 tally_opened (Ok s) next = next
-tally_opened (Err r) next = usage.Refused r
+tally_opened (Err r) next = Err r
 
 -- 7: what a count of the blocks comes to
-unfoldable pub tally_counted : Option Counts → Usage
-tally_counted (Some c) = usage.Counts c.objects c.live c.free c.overhead
-tally_counted None = usage.Refused Unsound
+unfoldable pub tally_counted : Option Counts → Result Counts Refusal
+tally_counted (Some c) = Ok c
+tally_counted None = Err Unsound
 
 -- its answer
-unfoldable pub tally : State → Usage
+unfoldable pub tally : State → Result Counts Refusal
 tally x = tally_opened (opening x) (tally_counted (count_blocks x.image))

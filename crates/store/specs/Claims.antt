@@ -1,6 +1,7 @@
 -- What holds of single calls on every image and table, damaged ones too: demand 1, of demand 2 the pointer that allocate gives, read-back, the
 -- balance of tally, that compare is an order, that a release frees all objects of its cue, what the distances say, that an object of no bytes gives no
 -- access, and what the type check before a cast says. Assumes nothing.
+use Rattle.store.specs.State.{measured_as}
 use Rattle.std.specs.Prelude.{ℕ, ◌+◌, ◌^◌, ◌≤◌, ◌<◌, ◌≡◌, true, ◌&&◌, List, [], ◌∷◌, ◌⊎◌, ◌↔◌, length, drop, pos, neg_ℤ, ◌+ℤ◌, ◌-ℤ◌, Err, Ok}
 use Rattle.std.specs.Int.Signed.{le_z}
 use Rattle.frame.specs.Pointers.{unpack, pack, good_tag}
@@ -16,7 +17,6 @@ use Rattle.store.specs.Calls.{set_up, allocate_for, load, store, fill, copy, fre
 use Rattle.store.specs.Step.{Call, step}
 use Rattle.store.specs.declared.answer.Refusal.{Refusal}
 use Rattle.store.specs.declared.locate.Reading.{Reading}
-use Rattle.store.specs.declared.measuring.Measurement.TheVariants as measurement
 
 -- Demand 1: a refusal leaves image and table as they were, and every value is 0.
 pub record RefusalsKeep : Type 0 where
@@ -114,11 +114,11 @@ pub record Measures : Type 0 where
   pub reads : (s : ℕ) (p : Pointer) (x : State) (o : Reading) → read_tag s p x ≡ Ok o → ReadAs s p x o
   pub shown :
       (s p : ℕ) (x : State) (o : Reading) → opening x ≡ Ok s → read_tag s (unpack p) x ≡ Ok o
-      → (distances p x ≡ measurement.Distances o.offset o.remaining)
+      → (distances p x ≡ measured_as o.offset o.remaining)
       × (start_distance (distances p x) +ℤ end_distance (distances p x) ≡ pos o.size)
   pub declined :
       (s p : ℕ) (x : State) (r : Refusal) → opening x ≡ Ok s → read_tag s (unpack p) x ≡ Err r
-      → distances p x ≡ measurement.Refused r
+      → distances p x ≡ Err r
 
 -- no load through p is accepted, of any width
 abbrev pub NoLoad : ℕ → State → Type 0

@@ -22,8 +22,10 @@ use Rattle.store.specs.Step as call
 use Rattle.store.specs.declared.answer.Refusal.TheVariants.{BadSuperblock, BadTag, Undescribed}
 use Rattle.store.specs.State.{Answer}
 use Rattle.store.specs.declared.locate.Reading.{Reading}
-use Rattle.store.specs.declared.measuring.Measurement.{Measurement}
-use Rattle.store.specs.declared.counting.Usage.{Usage}
+use Rattle.store.specs.declared.measuring.BodyEnds.{BodyEnds}
+use Rattle.block.specs.declared.walk.Counts.{Counts}
+use Rattle.store.specs.declared.answer.Refusal.{Refusal}
+use Rattle.block.specs.declared.order.Ordering.{Ordering}
 
 -- A case: what it starts from, and what the documents say of it. An image of L bytes is set up, and the sizes `before` are allocated.
 pub data Case : Type 0 where
@@ -114,7 +116,7 @@ abbrev given : Outcome → ℕ
 given o = (unpack (value o.answer)).address - 16
 
 -- tally returns that number and these counts
-abbrev gives : Usage → ℕ → ℕ → ℕ → ℕ → ℕ → Bool
+abbrev gives : Result Counts Refusal → ℕ → ℕ → ℕ → ℕ → ℕ → Bool
 gives u number objects live free overhead =
     eqb (usage_number u) number
     && (eqb (live_objects u) objects && (eqb (live_bytes u) live && (eqb (free_bytes u) free && eqb (overhead_bytes u) overhead)))
@@ -192,7 +194,7 @@ holds (retotals L sizes cues total index v at byte c number left) =
     && cond (eqb number 0) true (same_numbers o.after.image y.image && same_numbers o.after.table y.table))
 holds (measures L before entries at byte pointer number start end) =
     let x : State = placed before (begun L) in
-    let m : Measurement = distances pointer (state (set x.image at byte) (take entries x.table)) in
+    let m : Result BodyEnds Refusal = distances pointer (state (set x.image at byte) (take entries x.table)) in
     eqb (distances_number m) number && (equal (start_distance m) start && equal (end_distance m) end)
 holds (reads L before pointer header base size offset remaining) =
     finds (read_tag 6 (unpack pointer) (placed before (begun L))) header base size offset remaining

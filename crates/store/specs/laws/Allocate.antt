@@ -1,7 +1,7 @@
 -- Allocate.
 -- In order: the extent that is taken; what is known where its rows are passed; each row, and what is left by the answer; its outcomes; the carved image;
 -- the image that is left. Assumes nothing.
-use Rattle.std.specs.Prelude.{ℕ, ◌+◌, ◌^◌, ◌≤◌, ◌<◌, ◌-◌, ◌≡◌, true, false, List, leb, ltb, length, Err, Ok}
+use Rattle.std.specs.Prelude.{ℕ, ◌+◌, ◌^◌, ◌≤◌, ◌<◌, ◌-◌, ◌≡◌, true, false, List, leb, ltb, length, Err, Ok, Result}
 use Rattle.std.proofs.Math.Path.{refl}
 use Rattle.std.proofs.Common.{sym, ap, ◌∙◌, arith, inl}
 use borrow.Author.Tests.{leb-true, le-leb, lt-leb, ltb-true, lt-ltb, le-ltb, ltb-false}
@@ -29,7 +29,6 @@ use Rattle.store.specs.declared.answer.Refusal.{Refusal}
 use Rattle.store.specs.declared.answer.Refusal.TheVariants.{Unsound, NoSpace, EntryTaken, WrongTotal}
 use Rattle.store.specs.State.{Answer}
 use Rattle.store.specs.declared.allocation.Site.{Site}
-use Rattle.store.specs.declared.allocation.Site.TheVariants as site
 use Rattle.frame.specs.declared.tag.Tagged.{Tagged}
 use Rattle.block.specs.declared.walk.Fit.TheVariants as fit
 
@@ -153,31 +152,37 @@ allocate-word size type cue p x e = go (allocate_checks size x) refl
         let w : p ≡ pack (pointer_to s h size) = cc in
         rw w (pack_small (pointer_to s h size) (pointer_range s h size t.opens.high (omega (arith, t.inside, t.opens.short))))
 
--- The answer of its tests, with the object's pointer and entry.
-unfoldable pub site_of : ℕ → ℕ → Answer → Site
-site_of s size (Ok h) = site.At h (tagged s h size)
-site_of s size (Err r) = site.Refused r
+-- where a new object goes, with its pointer and entry
+abbrev pub site_with : ℕ → Tagged → Result Site Refusal
+site_with h t = Ok (record { header = h; tagged = t })
 
-pub site_refused : (s size : ℕ) (r : Refusal) (a : Answer) → Err r ≡ a → site.Refused r ≡ site_of s size a
+-- The answer of its tests, with the object's pointer and entry.
+unfoldable pub site_of : ℕ → ℕ → Answer → Result Site Refusal
+site_of s size (Ok h) = site_with h (tagged s h size)
+site_of s size (Err r) = Err r
+
+pub site_refused : (s size : ℕ) (r : Refusal) (a : Answer) → Err r ≡ a → Err r ≡ site_of s size a
 unfolding site_of
 site_refused s size r a e = rw (← e) refl
 
-pub site_at : (s size h : ℕ) (t : Tagged) (a : Answer) → t ≡ tagged s h size → Ok h ≡ a → site.At h t ≡ site_of s size a
+pub site_at : (s size h : ℕ) (t : Tagged) (a : Answer) → t ≡ tagged s h size → Ok h ≡ a → site_with h t ≡ site_of s size a
 unfolding site_of
 site_at s size h t a p e = rw (p, ← e) refl
 
 -- and back
-pub site_declined : (s size : ℕ) (a : Answer) (r : Refusal) → site_of s size a ≡ site.Refused r → a ≡ Err r
+pub site_declined : (s size : ℕ) (a : Answer) (r : Refusal) → site_of s size a ≡ Err r → a ≡ Err r
 unfolding site_of
 site_declined s size (Ok h) r e = let z : ◌≡◌ {A = ℕ} 0 1 = cc in absurd (omega arith)
 site_declined s size (Err t) r e = let w : t ≡ r = cc in ap Err w
 
-pub site_chosen : (s size : ℕ) (a : Answer) (h : ℕ) (t : Tagged) → site_of s size a ≡ site.At h t → (a ≡ Ok h) × (t ≡ tagged s h size)
+pub site_chosen : (s size : ℕ) (a : Answer) (h : ℕ) (t : Tagged) → site_of s size a ≡ site_with h t → (a ≡ Ok h) × (t ≡ tagged s h size)
 unfolding site_of
 site_chosen s size (Ok k) h t e =
-    let p : k ≡ h = cc in
-    let q : tagged s k size ≡ t = cc in
-    (ap Ok p, sym q ∙ ap (λ (j : ℕ). tagged s j size) p)
+    let chosen : Site = record { header = k; tagged = tagged s k size } in
+    let wanted : Site = record { header = h; tagged = t } in
+    let q : chosen ≡ wanted = cc in
+    let p : k ≡ h = ap (λ (x : Site). x.header) q in
+    (ap Ok p, sym (ap (λ (x : Site). x.tagged) q) ∙ ap (λ (j : ℕ). tagged s j size) p)
 site_chosen s size (Err r) h t e = let z : ◌≡◌ {A = ℕ} 0 1 = cc in absurd (omega arith)
 
 -- What it comes to, where rows 4 and 5 are passed.

@@ -1,6 +1,7 @@
 -- Free.
 -- In order: where the merged block starts and ends; what is known where the rows are passed; each row, and what is left by the answer; its outcomes; the merged
 -- image; the image that is left. Assumes nothing.
+use Rattle.store.specs.Calls.{merge_of}
 use Rattle.std.specs.Prelude.{ℕ, ◌+◌, ◌-◌, ◌^◌, ◌≤◌, ◌<◌, Bool, true, false, cond, ◌&&◌, ◌||◌, leb, ltb, eqb, replicate, Err, None, Ok, Option, Result, Some}
 use Rattle.std.proofs.Math.Path.{◌≡◌, refl, ap}
 use Rattle.std.proofs.Common.{sym, ◌∙◌, inl, inr, length-append}
@@ -33,8 +34,7 @@ use Rattle.store.specs.declared.answer.Refusal.TheVariants.{Unsound, NotBase, Wr
 use Rattle.store.specs.State.{Answer}
 use Rattle.frame.specs.declared.parts.Pointer.{Pointer}
 use Rattle.store.specs.declared.locate.Reading.{Reading}
-use Rattle.store.specs.declared.release.Release.{Release}
-use Rattle.store.specs.declared.release.Release.TheVariants as release
+use Rattle.store.specs.declared.release.FreedBlock.{FreedBlock}
 
 -- where the merged block starts
 
@@ -82,18 +82,18 @@ module _ (image : List ℕ) (next : ℕ) where
 module _ (image : List ℕ) (h : ℕ) where
   -- the next header is sound, or there is none
   pub released_merges : (before : ℕ) → leb (length image) (h + extent_at image h) || sound image (h + extent_at image h) ≡ true
-      → released image h (Some before) ≡ release.Merges h (merge_start image before h) (merge_end image (h + extent_at image h))
+      → released image h (Some before) ≡ merge_of h (merge_start image before h) (merge_end image (h + extent_at image h))
   unfolding released
   released_merges before e = rw e
 
   -- it is unsound
   pub released_unsound : (before : ℕ) → leb (length image) (h + extent_at image h) || sound image (h + extent_at image h) ≡ false
-      → released image h (Some before) ≡ release.Refused Unsound
+      → released image h (Some before) ≡ Err Unsound
   unfolding released
   released_unsound before e = rw e
 
   -- the walk does not meet the object
-  pub released_lost : released image h None ≡ release.Refused Unsound
+  pub released_lost : released image h None ≡ Err Unsound
   unfolding released
   released_lost = refl
 
@@ -125,24 +125,36 @@ pub record Releases (image : List ℕ) (h from to before : ℕ) : Type 0 where
   pub ends : to ≡ merge_end image (h + extent_at image h)
 
 -- what a release that merges was made of
-released_parts : (image : List ℕ) (k h from to : ℕ) → released image k (walk_to image k) ≡ release.Merges h from to → (h ≡ k) × (before : ℕ) × Releases image k from to before
+released_parts : (image : List ℕ) (k h from to : ℕ) → released image k (walk_to image k) ≡ merge_of h from to → (h ≡ k) × (before : ℕ) × Releases image k from to before
 unfolding released
 released_parts image k h from to e = go (walk_to image k) refl e
   where
     ok : Bool
     ok = leb (length image) (k + extent_at image k) || sound image (k + extent_at image k)
 
-    go : (m : Option ℕ) → walk_to image k ≡ m → released image k m ≡ release.Merges h from to → (h ≡ k) × (before : ℕ) × Releases image k from to before
+    go : (m : Option ℕ) → walk_to image k ≡ m → released image k m ≡ merge_of h from to → (h ≡ k) × (before : ℕ) × Releases image k from to before
     go (Some before) p e =
         by_bool ok
         (λ t.
-        let q : release.Merges k (merge_start image before k) (merge_end image (k + extent_at image k)) ≡ release.Merges h from to = rw t at e in
-        (cc, before, record { meets = p; next_good = t; starts = cc; ends = cc }))
+        let found : FreedBlock = record { header = k; from = merge_start image before k; to = merge_end image (k + extent_at image k) } in
+        let wanted : FreedBlock = record { header = h; from = from; to = to } in
+        let q : Ok found ≡ Ok wanted = rw t at e in
+        let w : found ≡ wanted = cc in
+        (
+          sym (ap (λ (b : FreedBlock). b.header) w),
+          before,
+          record {
+            meets = p;
+            next_good = t;
+            starts = sym (ap (λ (b : FreedBlock). b.from) w);
+            ends = sym (ap (λ (b : FreedBlock). b.to) w);
+          },
+        ))
         (λ t. let z : ◌≡◌ {A = ℕ} 0 1 = cc in absurd (omega arith))
     go None p e = let z : ◌≡◌ {A = ℕ} 0 1 = cc in absurd (omega arith)
 
 -- the same, with the test that found the object
-released_at_parts : (a : Answer) (image : List ℕ) (h from to : ℕ) → released_at a image ≡ release.Merges h from to
+released_at_parts : (a : Answer) (image : List ℕ) (h from to : ℕ) → released_at a image ≡ merge_of h from to
     → (a ≡ Ok h) × (before : ℕ) × Releases image h from to before
 unfolding released_at
 released_at_parts (Ok k) image h from to e =
@@ -151,39 +163,41 @@ released_at_parts (Ok k) image h from to e =
 released_at_parts (Err r) image h from to e = let z : ◌≡◌ {A = ℕ} 0 1 = cc in absurd (omega arith)
 
 -- the place in a release is that of the block that is asked for
-pub released-place : (image : List ℕ) (k h from to : ℕ) → released image k (walk_to image k) ≡ release.Merges h from to → h ≡ k
+pub released-place : (image : List ℕ) (k h from to : ℕ) → released image k (walk_to image k) ≡ merge_of h from to → h ≡ k
 released-place image k h from to e = (released_parts image k h from to e).0
 
 -- row 22
 
 module _ (image : List ℕ) where
   -- it is passed
-  pub totalled_merges : (h from to : ℕ) → total_fits image (extent_at image h) ≡ true → totalled (release.Merges h from to) image ≡ release.Merges h from to
+  pub totalled_merges : (h from to : ℕ) → total_fits image (extent_at image h) ≡ true → totalled (merge_of h from to) image ≡ merge_of h from to
   unfolding totalled
   totalled_merges h from to e = rw e refl
 
   -- it is not
-  pub totalled_wrong : (h from to : ℕ) → total_fits image (extent_at image h) ≡ false → totalled (release.Merges h from to) image ≡ release.Refused WrongTotal
+  pub totalled_wrong : (h from to : ℕ) → total_fits image (extent_at image h) ≡ false → totalled (merge_of h from to) image ≡ Err WrongTotal
   unfolding totalled
   totalled_wrong h from to e = rw e refl
 
   -- it is not reached
-  pub totalled-refused : (r : Refusal) → totalled (release.Refused r) image ≡ release.Refused r
+  pub totalled-refused : (r : Refusal) → totalled (Err r) image ≡ Err r
   unfolding totalled
   totalled-refused r = refl
 
   -- a release that passed it
-  totalled_parts : (a : Release) (h from to : ℕ) → totalled a image ≡ release.Merges h from to
-      → (a ≡ release.Merges h from to) × (total_fits image (extent_at image h) ≡ true)
+  totalled_parts : (a : Result FreedBlock Refusal) (h from to : ℕ) → totalled a image ≡ merge_of h from to
+      → (a ≡ merge_of h from to) × (total_fits image (extent_at image h) ≡ true)
   unfolding totalled
-  totalled_parts (release.Merges k f t) h from to e =
-      by_bool (total_fits image (extent_at image k))
+  totalled_parts (Ok m) h from to e =
+      by_bool (total_fits image (extent_at image m.header))
       (λ b.
-      let q : release.Merges k f t ≡ release.Merges h from to = rw b at e in
-      let k-is : k ≡ h = cc in
-      (q, ap (λ (j : ℕ). total_fits image (extent_at image j)) (sym k-is) ∙ b))
-      (λ b. let q : release.Refused WrongTotal ≡ release.Merges h from to = rw b at e in let z : ◌≡◌ {A = ℕ} 0 1 = cc in absurd (omega arith))
-  totalled_parts (release.Refused r) h from to e = let z : ◌≡◌ {A = ℕ} 0 1 = cc in absurd (omega arith)
+      let wanted : FreedBlock = record { header = h; from = from; to = to } in
+      let q : Ok m ≡ Ok wanted = rw b at e in
+      let w : m ≡ wanted = cc in
+      let is_place : m.header ≡ h = ap (λ (d : FreedBlock). d.header) w in
+      (q, ap (λ (j : ℕ). total_fits image (extent_at image j)) (sym is_place) ∙ b))
+      (λ b. let q : Err WrongTotal ≡ merge_of h from to = rw b at e in let z : ◌≡◌ {A = ℕ} 0 1 = cc in absurd (omega arith))
+  totalled_parts (Err r) h from to e = let z : ◌≡◌ {A = ℕ} 0 1 = cc in absurd (omega arith)
 
 -- the rows of free are passed: the object at h goes, and a free block reaches from `from` to `to`
 pub record Frees (word : ℕ) (x : State) (h from to : ℕ) : Type 0 where
@@ -203,7 +217,7 @@ pub record Frees (word : ℕ) (x : State) (h from to : ℕ) : Type 0 where
   pub indexed : entry_of (slot_exponent x.image) h (size_at x.image h) < length x.table
 
 -- a free that merges passes them
-pub free_parts : (word : ℕ) (x : State) (h from to : ℕ) → free_release word x ≡ release.Merges h from to → Frees word x h from to
+pub free_parts : (word : ℕ) (x : State) (h from to : ℕ) → free_release word x ≡ merge_of h from to → Frees word x h from to
 unfolding free_release free_checks
 free_parts word x h from to e =
     let (m, fits) = totalled_parts x.image (released_at (free_checks word x) x.image) h from to e in
@@ -260,7 +274,7 @@ module _ (word : ℕ) (x : State) where
       go (Err r) = refl
 
   -- by their answer
-  pub free_unchecked : (r : Refusal) → free_checks word x ≡ Err r → release.Refused r ≡ free_release word x
+  pub free_unchecked : (r : Refusal) → free_checks word x ≡ Err r → Err r ≡ free_release word x
   unfolding free_release totalled released_at
   free_unchecked r e = rw e
 
@@ -278,19 +292,19 @@ module _ (word : ℕ) (x : State) where
       rw q (located_parts s (unpack word) x k l).header.is_sound
 
   -- row 4 or 5
-  pub free_shut : (r : Refusal) → opening x ≡ Err r → release.Refused r ≡ free_release word x
+  pub free_shut : (r : Refusal) → opening x ≡ Err r → Err r ≡ free_release word x
   unfolding free_release totalled released_at free_checks
   free_shut r e = rw e
 
   module _ (s : ℕ) (o : opening x ≡ Ok s) where
     -- row 10 or 11
-    pub free-refused : (r : Refusal) → located s (unpack word) x ≡ Err r → release.Refused r ≡ free_release word x
+    pub free-refused : (r : Refusal) → located s (unpack word) x ≡ Err r → Err r ≡ free_release word x
     unfolding free_release totalled released_at free_checks
     free-refused r e = rw (o, e)
 
     module _ (h : ℕ) (l : located s (unpack word) x ≡ Ok h) where
       -- row 15
-      pub free_off_base : ((unpack word).address ≡ h + 16 → ⊥) → release.Refused NotBase ≡ free_release word x
+      pub free_off_base : ((unpack word).address ≡ h + 16 → ⊥) → Err NotBase ≡ free_release word x
       unfolding free_release totalled released_at free_checks
       free_off_base n = rw (o, l, ne_eqb (unpack word).address (h + 16) n)
 
@@ -300,12 +314,12 @@ module _ (word : ℕ) (x : State) where
       free-at_base e = rw (o, l, eq-eqb (unpack word).address (h + 16) e)
 
   -- a refusal leaves all as it was
-  pub free_declined : (r : Refusal) → free_release word x ≡ release.Refused r → outcome (Err r) x.image x.table ≡ free word x
+  pub free_declined : (r : Refusal) → free_release word x ≡ Err r → outcome (Err r) x.image x.table ≡ free word x
   unfolding free freed
   free_declined r e = rw e
 
   -- otherwise the blocks are merged, the object's extent given back, and the entry cleared
-  pub free_done : (h from to s : ℕ) (image table : List ℕ) → free_release word x ≡ release.Merges h from to → s ≡ slot_exponent x.image
+  pub free_done : (h from to s : ℕ) (image table : List ℕ) → free_release word x ≡ merge_of h from to → s ≡ slot_exponent x.image
       → image ≡ given_back x.image h from to → table ≡ noted s h (size_at x.image h) 0 x.table
       → outcome (Ok 0) image table ≡ free word x
   unfolding free freed
@@ -325,20 +339,20 @@ module _ (s : ℕ) (x : State) (o : opening x ≡ Ok s) where
 
     module _ (f : eqb (unpack p).address (h + 16) ≡ true) where
       -- the walk meets an unsound header
-      pub free_lost : (r : Refusal) → released x.image h (walk_to x.image h) ≡ release.Refused r → free p x ≡ refuse r x
+      pub free_lost : (r : Refusal) → released x.image h (walk_to x.image h) ≡ Err r → free p x ≡ refuse r x
       free_lost r g =
           sym
           (free_declined p x r
-          (sym (free-at_base p x s o h e (eqb-true _ _ f)) ∙ ap (λ (a : Release). totalled a x.image) g ∙ totalled-refused x.image r))
+          (sym (free-at_base p x s o h e (eqb-true _ _ f)) ∙ ap (λ (a : Result FreedBlock Refusal). totalled a x.image) g ∙ totalled-refused x.image r))
 
       -- the blocks are merged
-      pub free_merges : (from to : ℕ) → slot_exponent x.image ≡ s → released x.image h (walk_to x.image h) ≡ release.Merges h from to
+      pub free_merges : (from to : ℕ) → slot_exponent x.image ≡ s → released x.image h (walk_to x.image h) ≡ merge_of h from to
           → total_fits x.image (extent_at x.image h) ≡ true
           → free p x ≡ outcome (Ok 0) (given_back x.image h from to) (noted s h (size_at x.image h) 0 x.table)
       free_merges from to q g t =
           sym
           (free_done p x h from to s _ _
-          (sym (free-at_base p x s o h e (eqb-true _ _ f)) ∙ ap (λ (a : Release). totalled a x.image) g ∙ totalled_merges x.image h from to t)
+          (sym (free-at_base p x s o h e (eqb-true _ _ f)) ∙ ap (λ (a : Result FreedBlock Refusal). totalled a x.image) g ∙ totalled_merges x.image h from to t)
           (sym q) refl refl)
 
 -- The merged image.

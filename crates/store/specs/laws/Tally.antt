@@ -1,4 +1,5 @@
 -- Tally: its rows, and what it gives. Assumes nothing.
+use Rattle.store.specs.State.{usage_of}
 use Rattle.std.specs.Prelude.{ℕ, ◌≡◌, refl, length, Err, None, Ok, Option, Some}
 use Rattle.std.proofs.Common.{sym, ap, ◌∙◌, arith}
 use Rattle.block.specs.Walk.{count_blocks}
@@ -10,29 +11,28 @@ use Rattle.store.specs.laws.Refusals.{refused_some}
 use Rattle.store.specs.declared.answer.Refusal.{Refusal}
 use Rattle.store.specs.declared.answer.Refusal.TheVariants.{Unsound}
 use Rattle.store.specs.State.{Answer}
-use Rattle.store.specs.declared.counting.Usage.TheVariants as usage
 
 module _ (x : State) (r : Refusal) (e : opening x ≡ Err r) where
   -- row 4 or 5
-  pub tally_shut : usage.Refused r ≡ tally x
+  pub tally_shut : Err r ≡ tally x
   unfolding tally tally_opened
   tally_shut = rw e
 
 module _ (x : State) (s : ℕ) (e : opening x ≡ Ok s) where
   -- row 7
-  pub tally_unsound : count_blocks x.image ≡ None → usage.Refused Unsound ≡ tally x
+  pub tally_unsound : count_blocks x.image ≡ None → Err Unsound ≡ tally x
   unfolding tally tally_opened tally_counted
   tally_unsound u = rw (e, u)
 
   -- all are passed
-  pub tally-counts : (c : Counts) → count_blocks x.image ≡ Some c → usage.Counts c.objects c.live c.free c.overhead ≡ tally x
+  pub tally-counts : (c : Counts) → count_blocks x.image ≡ Some c → usage_of c.objects c.live c.free c.overhead ≡ tally x
   unfolding tally tally_opened tally_counted
   tally-counts c u = rw (e, u)
 
 -- c are the counts of the blocks, and tally gives them
 record Tallies (x : State) (c : Counts) : Type 0 where
   counts : count_blocks x.image ≡ Some c
-  gives : tally x ≡ usage.Counts c.objects c.live c.free c.overhead
+  gives : tally x ≡ usage_of c.objects c.live c.free c.overhead
 
 -- there are such where it is accepted
 tally_parts : (x : State) → usage_number (tally x) ≡ 0 → (c : Counts) × Tallies x c

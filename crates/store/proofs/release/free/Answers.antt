@@ -1,4 +1,5 @@
 -- `store::free` meets its contract: refused by `opening` or `releasable`, or the block is given back and the entry is cleared. Assumes nothing.
+use Rattle.store.specs.Calls.{merge_of}
 use Rattle.std.specs.Prelude.{Ok}
 use mathlib.Core.Path.{◌≡◌, sym, ap, ◌∙◌, subst}
 use Prim.Native.Nat.{ℕ}
@@ -14,13 +15,12 @@ use Rattle.store.specs.laws.Opening.{Open, opening_parts}
 use Rattle.store.specs.laws.Entries.{entry_cleared, cleared-noted}
 use Rattle.store.specs.laws.TagReading.{Located}
 use Rattle.store.specs.laws.Free.{Frees, free_parts, free_shut, free_declined, free_done}
-use Rattle.store.specs.declared.release.Release.TheVariants as release
 use Rattle.store.proofs.release.free.Goals as goal
 
 pub give_back-requires : goal.give_back-requires
 give_back-requires c =
     let given : State = state c.args.image.now c.args.table.now in
-    let accepted : free_release c.args.pointer given ≡ release.Merges c.in-Merges.h c.in-Merges.from c.in-Merges.to = sym c.releasable.ensures ∙ c.in-Merges.is in
+    let accepted : free_release c.args.pointer given ≡ merge_of c.in-Merges.h c.in-Merges.from c.in-Merges.to = sym c.releasable.ensures ∙ c.in-Merges.is in
     let frees : Frees c.args.pointer given c.in-Merges.h c.in-Merges.from c.in-Merges.to = free_parts _ (state _ _) _ _ _ accepted in
     let f = frees in
     (omega (arith, f.inside), f.room, f.high, omega (arith, f.total, f.opens.short))
@@ -30,7 +30,7 @@ clear_entry-requires c =
     let given : State = state c.args.image.now c.args.table.now in
     let is_open : opening given ≡ Ok c.in-Accepted.s = sym c.opening.ensures ∙ c.in-Accepted.is in
     let opens : Open given c.in-Accepted.s = opening_parts _ _ is_open in
-    let accepted : free_release c.args.pointer given ≡ release.Merges c.in-Merges.h c.in-Merges.from c.in-Merges.to = sym c.releasable.ensures ∙ c.in-Merges.is in
+    let accepted : free_release c.args.pointer given ≡ merge_of c.in-Merges.h c.in-Merges.from c.in-Merges.to = sym c.releasable.ensures ∙ c.in-Merges.is in
     let frees : Frees c.args.pointer given c.in-Merges.h c.in-Merges.from c.in-Merges.to = free_parts _ (state _ _) _ _ _ accepted in
     let object : Located c.in-Accepted.s (unpack c.args.pointer) given c.in-Merges.h = subst (λ (s : ℕ). Located s (unpack c.args.pointer) given c.in-Merges.h) (sym opens.exponent) frees.object in
     let o = opens in
@@ -58,7 +58,7 @@ returns-in-Merges c =
     let given : State = state c.args.image.now c.args.table.now in
     let is_open : opening given ≡ Ok c.in-Accepted.s = sym c.opening.ensures ∙ c.in-Accepted.is in
     let opens : Open given c.in-Accepted.s = opening_parts _ _ is_open in
-    let accepted : free_release c.args.pointer given ≡ release.Merges c.in-Merges.h c.in-Merges.from c.in-Merges.to = sym c.releasable.ensures ∙ c.in-Merges.is in
+    let accepted : free_release c.args.pointer given ≡ merge_of c.in-Merges.h c.in-Merges.from c.in-Merges.to = sym c.releasable.ensures ∙ c.in-Merges.is in
     let frees : Frees c.args.pointer given c.in-Merges.h c.in-Merges.from c.in-Merges.to = free_parts _ (state _ _) _ _ _ accepted in
     let object : Located c.in-Accepted.s (unpack c.args.pointer) given c.in-Merges.h = subst (λ (s : ℕ). Located s (unpack c.args.pointer) given c.in-Merges.h) (sym opens.exponent) frees.object in
     let t = c.args.table.now in
