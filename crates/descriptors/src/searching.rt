@@ -5,8 +5,8 @@ ghost use Rattle.descriptors.specs.Layouts.{last_starting};
 
 use super::reading::{read_descriptor, read_field};
 
-// The descriptor of the type among those before `end`.
-pub fn find_type(list: &[u8], end: usize, ty: u64) -> Option<u64>
+// The position of the descriptor of the type among those before `end`.
+pub fn find_type(list: &[u8], end: usize, ty: u64) -> Option<usize>
     requires { WholeTo list.now end }
     ensures { result ≡ look_up list.now end ty }
 {
@@ -17,26 +17,20 @@ pub fn find_type(list: &[u8], end: usize, ty: u64) -> Option<u64>
         }
         let d = read_descriptor(list, p);
         if d.ty == ty {
-            break Some(p as u64);
+            return Some(p);
         }
         p = p + d.length as usize;
     }
 }
 
-// The last of the first n fields of the descriptor at p that starts at or before o.
-pub fn last_field(list: &[u8], p: usize, n: usize, o: u64) -> Option<u64>
+// The index of the last of the first n fields of the descriptor at p that starts at or before o.
+pub fn last_field(list: &[u8], p: usize, n: usize, o: u64) -> Option<usize>
     requires { p + 12 + 6 * n ≤ length list.now }
     ensures { result ≡ last_starting list.now p o n }
 {
-    let mut k = n;
-    loop {
-        if k == 0 {
-            break None;
-        }
-        k = k - 1;
-        let f = read_field(list, p, k);
-        if f.offset <= o {
-            break Some(k as u64);
+    for k in (0..n).rev() {
+        if read_field(list, p, k).offset <= o {
+            return Some(k);
         }
     }
 }

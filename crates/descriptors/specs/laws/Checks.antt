@@ -1,9 +1,8 @@
 -- The check of a list, test by test and turn by turn: a field, the fields, a shape, a head, a descriptor, the list. Assumes nothing.
-use Rattle.std.specs.Prelude.{ℕ, zero, suc, ◌+◌, ◌-◌, ◌/◌, ◌%◌, ◌≤◌, ◌<◌, ◌≡◌, refl, true, false, List, length, leb, ltb, eqb, None, Option, Some}
+use Rattle.std.specs.Prelude.{ℕ, zero, suc, ◌+◌, ◌-◌, ◌/◌, ◌%◌, ◌≤◌, ◌<◌, ◌≡◌, refl, true, false, List, length, leb, ltb, eqb, None, Some}
 use Rattle.std.proofs.Math.Path.{sym, ap}
 use Rattle.std.proofs.Common.{◌∙◌, add-one}
 use Rattle.std.proofs.Math.Bool.{and-false}
-use Rattle.std.proofs.Math.Nat.{sub-zero}
 use native.Mathlib.Omega.{arith}
 use borrow.Author.Tests.{le-leb, lt-leb, eq-eqb, ne_eqb}
 use Rattle.descriptors.specs.Descriptors.{descriptor_at, length_at, type_at, size_at, field_at, WholeTo, start, look_up, end_within, field_end, good_fields_in, good_shape, good_head, good_descriptor, good_from_in, good_list}
@@ -20,44 +19,23 @@ field-ends list p from f q size d l s r =
     ap (λ (x : ℕ). end_within from x f.offset d.size) s
     ∙ ap (λ (x : Descriptor). end_within from (size_at list p) f.offset x.size) r ∙ sym (named_ends list p from f q l)
 
--- The fields: what is left from field k on, behind `from`, says what all fields say.
+-- The fields from field k on, behind `from`, of n fields in all.
 
-pub record Fielding (list : List ℕ) (p n from k : ℕ) : Type 0 where
-  pub inside : k ≤ n
-  pub same : good_fields_in (n - k) list p from k ≡ good_fields_in n list p 0 0
-
-pub fielding_begins : (list : List ℕ) (p n : ℕ) → Fielding list p n 0 0
-fielding_begins list p n = record { inside = omega arith; same = ap (λ (m : ℕ). good_fields_in m list p 0 0) (sub-zero n) }
-
-module _ (list : List ℕ) (p n from k : ℕ) (now : Fielding list p n from k) where
-  pub fielding_ends : k ≡ n → true ≡ good_fields_in n list p 0 0
+module _ (list : List ℕ) (p n from k : ℕ) where
+  pub fields_end : n ≤ k → good_fields_in (n - k) list p from k ≡ true
   unfolding good_fields_in
-  fielding_ends e =
-      let z : 0 ≡ n - k = omega arith in
-      ap (λ (m : ℕ). good_fields_in m list p from k) z ∙ now.same
+  fields_end l = let z : n - k ≡ 0 = omega arith in ap (λ (m : ℕ). good_fields_in m list p from k) z
 
-  -- by the field that was read, and what was said of its end
-  module _ (ne : k ≡ n → ⊥) (f : Field) (is : f ≡ field_at list p k) (r : Option ℕ) (said : r ≡ field_end list p from f) where
-    one_left : n - k ≡ suc (n - (k + 1))
-    one_left = omega (arith, now.inside, ne)
+  one_left : k < n → good_fields_in (n - k) list p from k ≡ good_fields_in (suc (n - (k + 1))) list p from k
+  one_left l = ap (λ (m : ℕ). good_fields_in m list p from k) (omega arith)
 
-    said_here : field_end list p from (field_at list p k) ≡ r
-    said_here = ap (field_end list p from) (sym is) ∙ sym said
+  pub fields_fail : k < n → field_end list p from (field_at list p k) ≡ None → good_fields_in (n - k) list p from k ≡ false
+  fields_fail l e = one_left l ∙ fields_bad list p (n - (k + 1)) from k e
 
-    pub fielding_fails : r ≡ None → false ≡ good_fields_in n list p 0 0
-    fielding_fails e =
-        sym (fields_bad list p (n - (k + 1)) from k (said_here ∙ e))
-        ∙ ap (λ (m : ℕ). good_fields_in m list p from k) (sym one_left) ∙ now.same
-
-    pub fielding_goes_on : (end : ℕ) → r ≡ Some end → Fielding list p n end (k + 1)
-    fielding_goes_on end e =
-        record {
-          inside = omega (arith, now.inside);
-          same =
-              ap (λ (m : ℕ). good_fields_in (n - (k + 1)) list p end m) (add-one k)
-              ∙ sym (fields_on list p (n - (k + 1)) from k end (said_here ∙ e))
-              ∙ ap (λ (m : ℕ). good_fields_in m list p from k) (sym one_left) ∙ now.same;
-        }
+  pub fields_go_on : (end : ℕ) → k < n → field_end list p from (field_at list p k) ≡ Some end
+      → good_fields_in (n - k) list p from k ≡ good_fields_in (n - (k + 1)) list p end (k + 1)
+  fields_go_on end l e =
+      one_left l ∙ fields_on list p (n - (k + 1)) from k end e ∙ ap (λ (m : ℕ). good_fields_in (n - (k + 1)) list p end m) (sym (add-one k))
 
 -- A shape.
 
@@ -139,24 +117,26 @@ module _ (list : List ℕ) (p : ℕ) (now : Checking list p) where
       go zero h s = absurd (omega (arith, whole-inside list p now.whole))
       go (suc k) h s = f k h s
 
-  pub checking_ends : p ≡ length list → true ≡ good_list list
+  pub checking_ends : length list ≤ p → true ≡ good_list list
   unfolding good_from_in
-  checking_ends e = by_step (λ k h s. rw (good_from_in, eq-eqb p (length list) e) at s)
+  checking_ends l = by_step (λ k h s. rw (good_from_in, eq-eqb p (length list) (omega (arith, whole-inside list p now.whole))) at s)
 
-  module _ (ne : p ≡ length list → ⊥) where
+  -- a descriptor d stands at p, before the end
+  module _ (l : p < length list) where
     pub checking_fails : good_descriptor list p ≡ false → false ≡ good_list list
     unfolding good_from_in
-    checking_fails g = by_step (λ k h s. rw (good_from_in, ne_eqb p (length list) ne, g) at s)
+    checking_fails g = by_step (λ k h s. rw (good_from_in, ne_eqb p (length list) (λ e. omega arith), g) at s)
 
-    pub checking_goes_on : good_descriptor list p ≡ true → Checking list (p + length_at list p)
+    pub checking_goes_on : good_descriptor list p ≡ true → (d : Descriptor) → d ≡ descriptor_at list p → Checking list (p + d.length)
     unfolding good_from_in
-    checking_goes_on g =
+    checking_goes_on g d is =
         let h = (good_parts list p g).at_head in
-        by_step
+        rw is
+        (by_step
         (λ k e s.
         record {
           whole = headed-over list p now.whole h;
           steps = k;
           enough = omega (arith, headed-length list p h);
-          same = rw (good_from_in, ne_eqb p (length list) ne, g) at s;
-        })
+          same = rw (good_from_in, ne_eqb p (length list) (λ e. omega arith), g) at s;
+        }))

@@ -257,21 +257,21 @@ module _ (list : List ℕ) (p o : ℕ) where
       (λ u. subst (λ (x : ℕ). o < (field_at list p x).offset) (omega (arith, ltb-false j n u)) (leb-false _ _ t)))
 
   -- the turns of the search for it, from the last field down
-  pub last_ended : (k : ℕ) → k ≡ 0 → last_starting list p o k ≡ None
+  pub last_ended : (k : ℕ) → k ≤ 0 → last_starting list p o k ≡ None
   unfolding last_starting
   last_ended zero e = refl
   last_ended (suc k) e = absurd (omega arith)
 
-  pub last_found : (k : ℕ) → (k ≡ 0 → ⊥) → (field_at list p (k - 1)).offset ≤ o → last_starting list p o k ≡ Some (k - 1)
+  pub last_found : (k : ℕ) → 0 < k → (field_at list p (k - 1)).offset ≤ o → last_starting list p o k ≡ Some (k - 1)
   unfolding last_starting
-  last_found zero n l = absurd (n refl)
+  last_found zero n l = absurd (omega arith)
   last_found (suc k) n l =
       let e : suc k - 1 ≡ k = omega arith in
       rw (last_starting, le-leb _ _ (subst (λ (x : ℕ). (field_at list p x).offset ≤ o) e l)) (ap Some (sym e))
 
-  pub last_on : (k : ℕ) → (k ≡ 0 → ⊥) → o < (field_at list p (k - 1)).offset → last_starting list p o k ≡ last_starting list p o (k - 1)
+  pub last_on : (k : ℕ) → 0 < k → o < (field_at list p (k - 1)).offset → last_starting list p o k ≡ last_starting list p o (k - 1)
   unfolding last_starting
-  last_on zero n l = absurd (n refl)
+  last_on zero n l = absurd (omega arith)
   last_on (suc k) n l =
       let e : suc k - 1 ≡ k = omega arith in
       rw (last_starting, lt-leb _ _ (subst (λ (x : ℕ). o < (field_at list p x).offset) e l)) (ap (last_starting list p o) (sym e))

@@ -146,6 +146,10 @@ module _ (list : List ℕ) (p : ℕ) (s : Stands list p) where
   pub head_here : p + 12 ≤ length list
   head_here = good_here.at_head.head
 
+  -- and so do all its bytes
+  pub whole_here : p + length_at list p ≤ length list
+  whole_here = good_here.at_head.whole
+
   -- its length is 12 and whole fields
   pub length_here : length_at list p ≡ 12 + 6 * field_count list p
   length_here = headed-length list p good_here.at_head

@@ -114,6 +114,10 @@ pub found_at : (list : List ℕ) (end type q : ℕ) → WholeTo list end → loo
 unfolding look_up
 found_at list end type q we e = found_in (suc end) list end type 0 q start we e
 
+-- its first 12 bytes lie in the list
+pub found_head : (list : List ℕ) (end type q : ℕ) → WholeTo list end → look_up list end type ≡ Some q → q + 12 ≤ length list
+found_head list end type q we e = let f = found_at list end type q we e in (step list q end f.whole we f.before).head
+
 -- as the claims have it
 pub found_describes : (list : List ℕ) (end type q : ℕ) → FoundAt list end type q → Describes list end type q
 found_describes list end type q f = record { boundary = whole_boundary list q f.whole; before = f.before; type_is = f.type_is }
