@@ -42,8 +42,8 @@ fn good_fields(list: &[u8], p: usize, d: Descriptor) -> bool
             return false;
         };
         from = end;
-        k = k + 1;
     }
+    true
 }
 
 // Whether the descriptor at p is not cut short, of a good shape, and of a size that is not 0.
@@ -76,14 +76,11 @@ pub fn good_list(list: &[u8]) -> bool
     ensures { result ≡ good_list list.now }
 {
     let mut p = 0;
-    loop {
-        if p == list.len() {
-            break true;
-        }
+    while p < list.len() {
         if !good_descriptor(list, p) {
-            break false;
+            return false;
         }
-        let d = read_descriptor(list, p);
-        p = p + d.length as usize;
+        p += read_descriptor(list, p).length as usize;
     }
+    true
 }

@@ -11,16 +11,14 @@ pub fn find_type(list: &[u8], end: usize, ty: u64) -> Option<usize>
     ensures { result ≡ look_up list.now end ty }
 {
     let mut p = 0;
-    loop {
-        if end <= p {
-            break None;
-        }
+    while p < end {
         let d = read_descriptor(list, p);
         if d.ty == ty {
             return Some(p);
         }
-        p = p + d.length as usize;
+        p += d.length as usize;
     }
+    None
 }
 
 // The index of the last of the first n fields of the descriptor at p that starts at or before o.
@@ -33,4 +31,5 @@ pub fn last_field(list: &[u8], p: usize, n: usize, o: u64) -> Option<usize>
             return Some(k);
         }
     }
+    None
 }
