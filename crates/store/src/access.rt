@@ -38,7 +38,7 @@ pub fn load(image: &[u8], table: &[u64], pointer: u64, width: u64) -> Result<u64
         return Err(Refusal::BadWidth);
     }
     let at = store.access(pointer, width)?;
-    Ok(read_field(image, at as usize, width))
+    Ok(read_field(store.image, at as usize, width))
 }
 
 impl Opened<'_> {

@@ -13,12 +13,12 @@ use descriptors::reading::read_descriptor;
 use descriptors::searching::find_type;
 
 // Row 25, for an object of that type and raw size; the number is the position of the type's descriptor.
-fn described(list: &[u8], ty: u64, size: u64) -> Result<u64, Refusal>
+fn described(list: &[u8], ty: u64, size: u64) -> Result<usize, Refusal>
     requires { good_list list.now ≡ true }
     ensures { result ≡ described list.now ty size }
 {
     let q = find_type(list, list.len(), ty).ok_or(Refusal::Undescribed)?;
-    if size < read_descriptor(list, q as usize).size {
+    if size < read_descriptor(list, q).size {
         return Err(Refusal::Undescribed);
     }
     Ok(q)
@@ -32,7 +32,11 @@ fn has_at(list: &[u8], wanted: u64, q: usize, distance: i64) -> u64
     if distance < 0 {
         return 0;
     }
-    type_has(list, wanted, q, distance as u64) as u64
+    if type_has(list, wanted, q, distance as u64) {
+        1
+    } else {
+        0
+    }
 }
 
 // Row 25, then the answer, for an object of that type and raw size and a pointer at that distance from its base.
@@ -41,7 +45,7 @@ fn cast(list: &[u8], wanted: u64, ty: u64, size: u64, distance: i64) -> Result<u
     ensures { result ≡ cast_answer list.now wanted ty size distance }
 {
     let q = described(list, ty, size)?;
-    Ok(has_at(list, wanted, q as usize, distance))
+    Ok(has_at(list, wanted, q, distance))
 }
 
 // Whether the object's type has the wanted one at the pointer's distance from the base: 1 for yes, 0 for no.
@@ -53,6 +57,6 @@ pub fn has_type(image: &[u8], table: &[u64], list: &[u8], pointer: u64, wanted: 
         return Err(Refusal::BadDescriptor);
     }
     let object = store.locate(pointer)?;
-    let d = read_header(image, object.header as usize);
+    let d = read_header(store.image, object.header as usize);
     cast(list, wanted as u64, d.ty, object.size, object.offset)
 }

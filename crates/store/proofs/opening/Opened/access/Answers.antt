@@ -1,34 +1,15 @@
--- `store::access` meets its contract: small-framed or large-framed, by the flag. Assumes nothing.
-use mathlib.Core.Path.{◌≡◌, ap, ◌∙◌}
-use Rattle.frame.specs.Pointers.{unpack}
-use Rattle.frame.specs.declared.parts.Pointer.{Pointer}
-use Rattle.store.specs.State.{State, state}
-use Rattle.store.specs.Calls.{accessed}
-use Rattle.store.specs.laws.TagReading.{asks_small, asks_large}
+-- `store::Opened::access` meets its contract: 10 or 11 (`locate`), then 13. Assumes nothing.
+use Rattle.std.proofs.Common.{arith, sym}
+use Rattle.std.proofs.lemmas.Grind.{common_steps}
+use Rattle.std.proofs.lemmas.Result.{err_from_is_err_and}
+use Rattle.store.proofs.Tags.{access_refused, access_outside, access_inside}
 use Rattle.store.proofs.opening.Opened.access.Goals as goal
 
-pub access_small-requires : goal.access_small-requires
-access_small-requires c =
-    let given : State = state c.args.image.now c.args.table.now in
-    let (few, range, flag, long, short) = asks_small given _ _ _ c.requires.0 c.unpack-p.ensures c.if-p.true in
-    (few, range, flag, long, short, c.requires.1)
+pub returns-in_err-object : goal.returns-in_err-object
+returns-in_err-object c = let p = err_from_is_err_and c.from_residual.result c.from_residual.ensures.1 in rw (p.1, p.2) (access_refused _ _ _ _ _ (sym c.in_err-object.ensures))
 
-pub access_large-requires : goal.access_large-requires
-access_large-requires c =
-    let given : State = state c.args.image.now c.args.table.now in
-    let (opens, range, flag) = asks_large given _ _ _ c.requires.0 c.unpack-p.ensures c.if-p.false in
-    (opens, range, flag, c.requires.1)
+pub returns-then-not-in_body : goal.returns-then-not-in_body
+returns-then-not-in_body c = grind (arith, common_steps, access_outside)
 
--- small-framed
-pub returns-then-p : goal.returns-then-p
-returns-then-p c =
-    let given : State = state c.args.image.now c.args.table.now in
-    let through : let a = c.args in accessed a.s c.unpack-p.result a.n given ≡ accessed a.s (unpack a.pointer) a.n given = ap (λ (p : Pointer). accessed c.args.s p c.args.n given) c.unpack-p.ensures in
-    c.access_small.ensures _ ∙ through
-
--- large-framed
 pub returns : goal.returns
-returns c =
-    let given : State = state c.args.image.now c.args.table.now in
-    let through : let a = c.args in accessed a.s c.unpack-p.result a.n given ≡ accessed a.s (unpack a.pointer) a.n given = ap (λ (p : Pointer). accessed c.args.s p c.args.n given) c.unpack-p.ensures in
-    c.access_large.ensures ∙ through
+returns c = grind (arith, common_steps, access_inside)
