@@ -1,11 +1,10 @@
 -- A block of the layout is freed: its gap, its own bytes and the next gap become one gap. Assumes nothing.
 use Rattle.store.specs.Calls.{merge_of}
-use Rattle.std.specs.Prelude.{Some}
+use Rattle.std.specs.Prelude.{Some, None}
 use Prim.Native.Nat.{ℕ, zero, suc, ◌+◌, ◌-◌, ◌≤◌}
 use mathlib.Core.Path.{◌≡◌, refl, sym, ap, ◌∙◌}
 use mathlib.Core.Bool.{Bool, true, false, cond, ◌||◌}
 use mathlib.Core.List.{List, ◌++◌}
-use mathlib.Core.Option.{none}
 use native.Mathlib.Omega.{arith}
 use lib.ListN.{length, take, drop}
 use lib.Dec.{leb, eqb}
@@ -108,7 +107,7 @@ module _ (image : List ℕ) (l : Layout) (k g : ℕ) (b : Block) (m : Layout) (f
   pub free-given : gaps (f.fill (regap joined m)) ≡ gaps l + extent_at image (k + g)
   free-given = omega (arith, f.free_bytes_lem (regap joined m), regap-gaps joined m, block_extent image k g b m f.part)
 
-  pub free_looks : (j : ℕ) → lookup k (regap joined m) j ≡ cond (eqb j (k + g)) none (lookup k (item g b m) j)
+  pub free_looks : (j : ℕ) → lookup k (regap joined m) j ≡ cond (eqb j (k + g)) None (lookup k (item g b m) j)
   unfolding lookup
   free_looks j =
       rw (look_regap (k + g + extent b) k joined m j (omega arith))

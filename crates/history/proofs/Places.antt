@@ -4,7 +4,6 @@ use Prim.Native.Nat.{ℕ, ◌+◌, ◌-◌, ◌≤◌, ◌<◌}
 use mathlib.Core.Path.{◌≡◌, sym, ap, ◌∙◌}
 use mathlib.Core.Bool.{true, false}
 use mathlib.Core.List.{List, ◌++◌}
-use mathlib.Core.Option.{none}
 use native.Mathlib.Omega.{arith}
 use lib.ListN.{length, drop, get_or, length-replicate, get_or-replicate, get_or-append}
 use lib.Seq.{get_or-drop, drop-length}
@@ -77,13 +76,13 @@ module _ (image : List ℕ) (l : Layout) where
   standing_tail_zero _ the_end lt r i low high = absurd (omega arith)
 
   -- a live header on the walk is a block of the layout
-  pub standing_looked : (h : ℕ) → Standing image l h → block_at l h ≡ none → sound image h ≡ true → is_live image h ≡ true → ⊥
+  pub standing_looked : (h : ℕ) → Standing image l h → block_at l h ≡ None → sound image h ≡ true → is_live image h ≡ true → ⊥
   standing_looked _ (a_gap k m f wide) e o r = true_false r (gap-not_live image k m f.part wide)
   standing_looked _ (a_block k g b m f) e o r = clash b (sym e ∙ f.looked (k + g) (omega arith) ∙ look_first k g b m)
   standing_looked _ the_end e o r = omega (arith, sound_in image (length image) o)
 
   -- where the layout has no block, a live header is not met, and a free of it is refused
-  pub not_met : Placed image l → (h : ℕ) → block_at l h ≡ none → is_live image h ≡ true → (w : Option ℕ) → walk_to image h ≡ w
+  pub not_met : Placed image l → (h : ℕ) → block_at l h ≡ None → is_live image h ≡ true → (w : Option ℕ) → walk_to image h ≡ w
       → released image h w ≡ Err Unsound
   not_met p h e r (Some before) q =
       let m : MeetsBlock image h before = walk_to_meets image h before q in

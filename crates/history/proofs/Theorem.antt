@@ -7,7 +7,6 @@ use mathlib.Core.Path.{◌≡◌, refl, sym, ap, ◌∙◌, subst}
 use mathlib.Core.Bool.{Bool, true, false, cond, ◌&&◌}
 use mathlib.Core.List.{List, [], ◌∷◌}
 use mathlib.Core.Logic.{◌↔◌, ◌⊎◌, inl, inr}
-use mathlib.Core.Option.{Option, some}
 use native.Mathlib.Omega.{arith}
 use lib.ListN.{length, take, drop}
 use lib.Dec.{ltb}
@@ -95,20 +94,20 @@ begins s x e = let (t, q) = set_up-accepted s x e in rw q (begins_with s x t)
 -- What the invariant says.
 
 module _ {s L : ℕ} (x : Configuration) (i : Invariant s L x.state x.heap) where
-  at_place : (o : Object) → In o x.heap → find x.heap (header_of o) ≡ some o
+  at_place : (o : Object) → In o x.heap → find x.heap (header_of o) ≡ Some o
   at_place o m = in_find x.heap o i.laid.distinct m
 
   about : (o : Object) (m : In o x.heap) → invariant.Known s L x.state.image x.heap i.laid (header_of o) o
   about o m = invariant.known i.laid (header_of o) o (at_place o m)
 
-  pointer_leads : (o : Object) (p : ℕ) → find x.heap (header_of o) ≡ some o → holds o p ≡ true → Leads i (header_of o) p
+  pointer_leads : (o : Object) (p : ℕ) → find x.heap (header_of o) ≡ Some o → holds o p ≡ true → Leads i (header_of o) p
   pointer_leads o p e t = leads i (header_of o) o p e ((i.laid.fine (header_of o) o e).good p t)
 
-  two_entries : (o o' : Object) → find x.heap (header_of o) ≡ some o → find x.heap (header_of o') ≡ some o' → (header_of o ≡ header_of o' → ⊥) → EntriesApart s o o'
+  two_entries : (o o' : Object) → find x.heap (header_of o) ≡ Some o → find x.heap (header_of o') ≡ Some o' → (header_of o ≡ header_of o' → ⊥) → EntriesApart s o o'
   two_entries o o' e f n l m q =
       entries_differ s L x.heap (ranged i.laid) (header_of o) (header_of o') o o' e f n (leb-false _ _ l) (leb-false _ _ m) q
 
-  two_owners : (o o' : Object) → find x.heap (header_of o) ≡ some o → find x.heap (header_of o') ≡ some o' → (header_of o ≡ header_of o' → ⊥) → PointersApart o o'
+  two_owners : (o o' : Object) → find x.heap (header_of o) ≡ Some o → find x.heap (header_of o') ≡ Some o' → (header_of o ≡ header_of o' → ⊥) → PointersApart o o'
   two_owners o o' e f n p t u =
       let a : located s (unpack p) x.state ≡ Ok (header_of o) = (pointer_leads o p e t).found in
       let b : located s (unpack p) x.state ≡ Ok (header_of o') = (pointer_leads o' p f u).found in
@@ -161,7 +160,7 @@ module _ {s L : ℕ} (x : Configuration) (i : Invariant s L x.state x.heap) wher
       (through_iff x.state 0 (inside o t n && inside o' p n) (unpack t).address _))
 
   -- two pointers' bytes, compared where both lie inside their objects
-  compares_both : (o o' : Object) (p q : ℕ) → owner_of x.heap p ≡ some o → owner_of x.heap q ≡ some o' → (n : ℕ) → 0 < n
+  compares_both : (o o' : Object) (p q : ℕ) → owner_of x.heap p ≡ Some o → owner_of x.heap q ≡ Some o' → (n : ℕ) → 0 < n
       → compare p q n x.state
       ≡ cond (inside o p n && inside o' q n) (Ok (compare_bytes (bytes_through x.state n p) (bytes_through x.state n q)))
       (Err OutOfBounds)
@@ -226,7 +225,7 @@ module _ {s L : ℕ} (x : Configuration) (i : Invariant s L x.state x.heap) wher
             (subst (λ (z : ℕ). (header_of o + z ≤ a) ⊎ (a + n ≤ header_of o)) same (r.outside o m));
       }
     where
-      block_same : {r : Option Block} {b c : Block} → r ≡ some b → r ≡ some c → b ≡ c
+      block_same : {r : Option Block} {b c : Block} → r ≡ Some b → r ≡ Some c → b ≡ c
       block_same e f = cc
 
   clear_run : (a n : ℕ) → Clear x.state.image i.laid.layout a n → FreeRun x a n

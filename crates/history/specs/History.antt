@@ -3,7 +3,6 @@
 use Rattle.store.specs.State.{measured_as}
 use Rattle.std.specs.Prelude.{ℕ, ◌+◌, ◌-◌, ◌^◌, ◌≤◌, ◌<◌, ◌≡◌, ◌⊎◌, ◌↔◌, Bool, true, false, ◌&&◌, ◌||◌, length, get_or, ltb, ℤ, pos, negsuc, Some}
 use mathlib.Core.List.{List, [], ◌∷◌, Memᴰ}
-use Rattle.std.proofs.Math.Option.{some}
 use Rattle.std.proofs.Math.IntN.{sub_ℕ}
 use Rattle.frame.specs.Pointers.{unpack, good_tag}
 use Rattle.frame.specs.Tags.{is_small, entry_of}
@@ -120,7 +119,7 @@ ReleasesCounted x =
 
 -- through a pointer of a live object, a call is accepted exactly when all n bytes lie inside the pointer's object
 abbrev pub Exactly : Configuration → ℕ → (ℕ → State → Outcome) → Type 0
-Exactly x n call = (o : Object) (p : ℕ) → owner_of x.heap p ≡ some o → IsAccepted (call p x.state) ↔ (inside o p n ≡ true)
+Exactly x n call = (o : Object) (p : ℕ) → owner_of x.heap p ≡ Some o → IsAccepted (call p x.state) ↔ (inside o p n ≡ true)
 
 abbrev pub LoadsExactly : Configuration → Type 0
 LoadsExactly x = (width : ℕ) → good_width width ≡ true → Exactly x width (λ p. load p width)
@@ -133,7 +132,7 @@ FillsExactly x = (n byte : ℕ) → 0 < n → n < 2 ^ 32 → byte < 256 → Exac
 
 -- a claim about pointers of two live objects, which may be one
 abbrev pub EachTwo : Configuration → (Object → Object → ℕ → ℕ → Type 0) → Type 0
-EachTwo x P = (o o' : Object) (p q : ℕ) → owner_of x.heap p ≡ some o → owner_of x.heap q ≡ some o' → P o o' p q
+EachTwo x P = (o o' : Object) (p q : ℕ) → owner_of x.heap p ≡ Some o → owner_of x.heap q ≡ Some o' → P o o' p q
 
 -- n bytes from each pointer's address on lie inside its object
 abbrev pub BothInside : Object → Object → ℕ → ℕ → ℕ → Type 0
@@ -158,13 +157,13 @@ TextsExactly x =
 -- the distances of a live object's pointer, in its body or not, are those from the object's start and to its end
 abbrev pub DistancesShown : Configuration → Type 0
 DistancesShown x =
-    (o : Object) (p : ℕ) → owner_of x.heap p ≡ some o
+    (o : Object) (p : ℕ) → owner_of x.heap p ≡ Some o
     → distances p x.state ≡ measured_as (sub_ℕ (unpack p).address (start o)) (sub_ℕ (start o + o.size) (unpack p).address)
 
 -- an accepted load gives the heap's bytes, little-endian
 abbrev pub LoadsBytes : Configuration → Type 0
 LoadsBytes x =
-    (o : Object) (p : ℕ) → owner_of x.heap p ≡ some o → (width : ℕ) → good_width width ≡ true
+    (o : Object) (p : ℕ) → owner_of x.heap p ≡ Some o → (width : ℕ) → good_width width ≡ true
     → IsAccepted (load p width x.state) → value (load p width x.state).answer ≡ decode (bytes_at o p width)
 
 -- an accepted compare gives how the heap's bytes stand to each other

@@ -1,11 +1,10 @@
 -- Heaps of plain objects, each with one pointer, allocate's answer, and one byte or more: what lists without moves and empty objects leave.
 -- In order: allocate's answers; one object more, written, less; a pointer's owner; what allocate and store do (free: `proofs/PlainFrees`). Not here: the
 -- image. Assumes nothing.
-use Rattle.std.specs.Prelude.{ℕ, zero, suc, ◌+◌, ◌-◌, ◌^◌, ◌<◌, ◌≡◌, refl, Bool, true, false, cond, ◌&&◌, List, [], ◌∷◌, ◌++◌, length, take, drop, get_or, eqb, Err, Ok}
+use Rattle.std.specs.Prelude.{ℕ, zero, suc, ◌+◌, ◌-◌, ◌^◌, ◌<◌, ◌≡◌, refl, Bool, true, false, cond, ◌&&◌, List, [], ◌∷◌, ◌++◌, length, take, drop, get_or, eqb, Err, Ok, Option, None, Some}
 use Rattle.std.proofs.Common.{sym, ap, ◌∙◌, subst, suc-add, arith, eq-eqb, ne_eqb, eqb-true, le-leb}
 use Rattle.std.proofs.Math.Bool.{or-false}
 use mathlib.Core.List.Memᴰ
-use Rattle.std.proofs.Math.Option.{Option, none, some}
 use Rattle.std.proofs.Math.Dec.{ltb}
 use Rattle.frame.specs.Pointers.{unpack}
 use Rattle.block.specs.Bytes.{encode}
@@ -97,8 +96,8 @@ change_alike p bytes (x ∷ xs) q =
 -- whoever owns the pointer, and whether the bytes lie inside
 write_alike : (owner : Option Object) (p n : ℕ) (bytes : List ℕ) (heap : Heap) → Alike heap (write owner p n bytes heap)
 unfolding write
-write_alike none p n bytes heap = alike_itself heap
-write_alike (some o) p n bytes heap = alike_cond (inside o p n) (change_alike p bytes heap p) (alike_itself heap)
+write_alike None p n bytes heap = alike_itself heap
+write_alike (Some o) p n bytes heap = alike_cond (inside o p n) (change_alike p bytes heap p) (alike_itself heap)
 
 -- One object less.
 
@@ -134,7 +133,7 @@ plain-without (x ∷ xs) p a =
 -- the object whose answer the pointer is
 pub record Owner (heap : Heap) (p : ℕ) : Type 0 where
   pub object : Object
-  pub owns : owner_of heap p ≡ some object
+  pub owns : owner_of heap p ≡ Some object
   pub is_known : known heap p ≡ true
   pub lives : In object heap
   pub plain : Plain object
