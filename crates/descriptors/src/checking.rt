@@ -18,7 +18,7 @@ fn end_within(from: u64, size: u64, offset: u64, extent: u64) -> Option<u64>
 }
 
 // Where a field of the descriptor at p, of a record of `size` bytes, ends, if it is good behind `from`.
-#[tactic(auto, using(crate::specs::laws::Lookups::found_head, crate::specs::laws::Fields::unnamed_ends, crate::specs::laws::Fields::named_ends),)]
+#[tactic(auto, using(crate::specs::laws::Lookups::found_head, crate::specs::laws::Fields::unnamed_ends, crate::specs::laws::Fields::named_ends))]
 fn field_end(list: &[u8], p: usize, from: u64, size: u64, field: Field) -> Option<u64>
     requires { (WholeTo list.now p) × (size ≡ size_at list.now p) }
     ensures { result ≡ field_end list.now p from field }
@@ -29,6 +29,7 @@ fn field_end(list: &[u8], p: usize, from: u64, size: u64, field: Field) -> Optio
 }
 
 // Whether the fields of the descriptor d at p are good.
+#[tactic(auto, using(crate::proofs::Turns::fields_end, crate::proofs::Turns::fields_fail, crate::proofs::Turns::fields_go_on))]
 fn good_fields(list: &[u8], p: usize, d: Descriptor) -> bool
     requires whole { WholeTo list.now p }
     requires here { d ≡ descriptor_at list.now p }
@@ -60,6 +61,7 @@ fn good_head(list: &[u8], p: usize) -> bool
 }
 
 // Whether the descriptor at p is good: its head, its type, which no descriptor before it has, and its fields.
+#[tactic(auto, unfolding(crate::specs::Descriptors::good_descriptor))]
 fn good_descriptor(list: &[u8], p: usize) -> bool
     requires { WholeTo list.now p }
     ensures { result ≡ good_descriptor list.now p }

@@ -22,6 +22,7 @@ pub fn find_type(list: &[u8], end: usize, ty: u64) -> Option<usize>
 }
 
 // The index of the last of the first n fields of the descriptor at p that starts at or before o.
+#[tactic(auto, using(crate::specs::laws::Layouts::last_ended, crate::specs::laws::Layouts::last_found, crate::specs::laws::Layouts::last_on))]
 pub fn last_field(list: &[u8], p: usize, n: usize, o: u64) -> Option<usize>
     requires { p + 12 + 6 * n ≤ length list.now }
     ensures { result ≡ last_starting list.now p o n }

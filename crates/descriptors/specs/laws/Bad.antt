@@ -6,13 +6,13 @@ use Rattle.std.proofs.Common.{sym, ap, ◌∙◌, eq-eqb, leb-false, ltb-false, 
 use Rattle.std.proofs.Math.Bool.{true}
 use native.Mathlib.Omega.{arith}
 use Rattle.std.proofs.lemmas.Bool.{eqb-false}
+use Rattle.std.proofs.lemmas.Grind.{common_steps}
 use Rattle.block.specs.laws.Booleans.{by_bool, true_false}
 use Rattle.descriptors.specs.Descriptors.{descriptor_at, length_at, kind_at, type_at, size_at, field_count, field_at, WholeTo, start, look_up, field_end, good_fields_in, good_shape, good_head, good_descriptor, good_from_in, good_list, Stands}
 use Rattle.descriptors.specs.Claims.{Describes, BadFieldAt, no_earlier_type, overlaps, sticks_out, BadDescriptorAt, no_head, cut_short, unknown_kind, no_size, plain-length, record_length_lem, repeated_type, bad_field, SomeBad}
 use Rattle.descriptors.specs.laws.Lookups.{whole-inside, whole_boundary, at_injective, found_at, found_describes, missed}
 use Rattle.descriptors.specs.laws.Fields.{Fits, end_of, Tried, fits, unnamed, early, late, tried, fields_on, fields_apart}
 use Rattle.descriptors.specs.laws.Lists.{Shaped, plain, fielded, headed-length, headed-over, good_parts, good_here, field_fits, describes_stands, lookup-at}
-use Rattle.descriptors.specs.laws.Checks.{shape_record}
 
 -- A list that is refused has a bad descriptor.
 
@@ -51,15 +51,10 @@ module _ (list : List ℕ) (p : ℕ) (w : WholeTo list p) where
   bad_shape : good_shape (descriptor_at list p) ≡ false → BadDescriptorAt list p
   bad_shape g =
       by_bool (eqb (kind_at list p) 4)
-      (λ t. plain-length (eqb-true _ _ t) (eqb-false (length_at list p) 12 (rw t at g)))
+      (λ t. plain-length (eqb-true _ _ t) (λ e. grind (arith, common_steps)))
       (λ t.
       by_bool (eqb (kind_at list p) 5)
-      (λ u.
-      record_length_lem (eqb-true _ _ u)
-      (λ n e.
-      true_false
-      (sym (shape_record (descriptor_at list p) (eqb-false _ _ t) (eqb-true _ _ u) (omega arith)) ∙ eq-eqb ((length_at list p - 12) % 6) 0 (omega arith))
-      g))
+      (λ u. record_length_lem (eqb-true _ _ u) (λ n e. grind (arith, common_steps)))
       (λ u. unknown_kind (eqb-false _ _ t) (eqb-false _ _ u)))
 
   bad_head : good_head list p ≡ false → BadDescriptorAt list p

@@ -2,7 +2,7 @@
 -- (`Checking`). Measure: the bytes that are left. Assumes nothing.
 use Prim.Native.Nat.{◌-◌}
 use lib.ListN.{length}
-use Rattle.descriptors.specs.laws.Checks.{Checking}
+use Rattle.descriptors.proofs.Turns.{Checking}
 use Rattle.descriptors.proofs.checking.good_list.Given as goal
 
 abbrev pub invariant-loop-p : goal.invariant-loop-p
