@@ -6,6 +6,7 @@ ghost use Rattle.descriptors.specs.Layouts.{last_starting};
 use super::reading::{read_descriptor, read_field};
 
 // The position of the descriptor of the type among those before `end`.
+#[tactic(auto, using(crate::specs::laws::Lookups::step))]
 pub fn find_type(list: &[u8], end: usize, ty: u64) -> Option<usize>
     requires { WholeTo list.now end }
     ensures { result ≡ look_up list.now end ty }

@@ -10,7 +10,7 @@ use Rattle.std.proofs.lemmas.Grind.{common_steps}
 use Rattle.block.specs.laws.Booleans.{by_bool, true_false}
 use Rattle.descriptors.specs.Descriptors.{descriptor_at, length_at, kind_at, type_at, size_at, field_count, field_at, WholeTo, start, look_up, field_end, good_fields_in, good_shape, good_head, good_descriptor, good_from_in, good_list, Stands}
 use Rattle.descriptors.specs.Claims.{Describes, BadFieldAt, no_earlier_type, overlaps, sticks_out, BadDescriptorAt, no_head, cut_short, unknown_kind, no_size, plain-length, record_length_lem, repeated_type, bad_field, SomeBad}
-use Rattle.descriptors.specs.laws.Lookups.{whole-inside, whole_boundary, at_injective, found_at, found_describes, missed}
+use Rattle.descriptors.specs.laws.Lookups.{whole-inside, whole_boundary, found_at, found_describes, missed}
 use Rattle.descriptors.specs.laws.Fields.{Fits, end_of, Tried, fits, unnamed, early, late, tried, fields_on, fields_apart}
 use Rattle.descriptors.specs.laws.Lists.{Shaped, plain, fielded, headed-length, headed-over, good_parts, good_here, field_fits, describes_stands, lookup-at}
 
@@ -111,7 +111,7 @@ module _ (list : List ℕ) (p : ℕ) (s : Stands list p) where
       omega (arith, apart, l)
   no_bad_field k m (sticks_out q d l) =
       let f = field_fits list p s k m in
-      let same : q ≡ f.of = at_injective q f.of (sym (lookup-at list s.good p (field_at list p k).ty q s.whole d) ∙ f.named) in
+      let same : q ≡ f.of = cc (lookup-at list s.good p (field_at list p k).ty q s.whole d, f.named) in
       omega (arith, f.inside, l, ap (λ (x : ℕ). size_at list x) same)
 
   no_bad_descriptor : BadDescriptorAt list p → ⊥

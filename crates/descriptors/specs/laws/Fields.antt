@@ -5,7 +5,6 @@ use Rattle.std.proofs.Math.Bool.{and-false}
 use Rattle.std.proofs.lemmas.Bool.{lt-leb}
 use Rattle.block.specs.laws.Booleans.{by_bool, true_false}
 use Rattle.descriptors.specs.Descriptors.{size_at, field_at, look_up, end_within, field_end, good_fields_in}
-use Rattle.descriptors.specs.laws.Lookups.{at_injective}
 use Rattle.descriptors.specs.declared.descriptor.Field.{Field}
 
 -- Where bytes end.
@@ -134,8 +133,6 @@ fields_apart (suc n) list p from k g i j a b c q e =
     (λ u. fields_apart n list p end (suc k) t.rest i j (ltb-true k i u) b (omega arith) q e)
     (λ u.
     let i-is : i ≡ k = omega (arith, ltb-false k i u) in
-    let of_is : q ≡ t.this.of =
-    at_injective q t.this.of (sym e ∙ ap (λ (x : ℕ). look_up list p (field_at list p x).ty) i-is ∙ t.this.named)
-    in
+    let of_is : q ≡ t.this.of = cc (e, ap (λ (x : ℕ). look_up list p (field_at list p x).ty) i-is, t.this.named) in
     let f = fields_fit n list p end (suc k) t.rest j (omega arith) (omega arith) in
     omega (arith, f.after, ap (λ (x : ℕ). (field_at list p x).offset) i-is, ap (λ (x : ℕ). size_at list x) of_is))

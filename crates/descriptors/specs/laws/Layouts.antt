@@ -11,7 +11,7 @@ use Rattle.block.specs.laws.Booleans.{by_bool, true_false, refuted, and_left, an
 use Rattle.descriptors.specs.Descriptors.{type_at, size_at, field_count, field_at, WholeTo, look_up, good_list, Stands}
 use Rattle.descriptors.specs.Layouts.{any_below, field_has, type_has_in, type_has, last_starting}
 use Rattle.descriptors.specs.Claims.{Describes, Has, itself, by_field}
-use Rattle.descriptors.specs.laws.Lookups.{at_injective, at_somewhere, found_at, found_describes}
+use Rattle.descriptors.specs.laws.Lookups.{found_at, found_describes}
 use Rattle.descriptors.specs.laws.Fields.{fields_apart}
 use Rattle.descriptors.specs.laws.Lists.{good_here, field_fits, named_stands, stands_describes, describes_stands, described_once}
 use Rattle.descriptors.specs.declared.descriptor.Field.{Field}
@@ -24,7 +24,7 @@ or_true false b h = h
 
 any_some : (test : ℕ → Bool) (n : ℕ) → any_below test n ≡ true → (k : ℕ) × (k < n) × (test k ≡ true)
 unfolding any_below
-any_some test zero e = let z : ◌≡◌ {A = ℕ} 0 1 = cc in absurd (omega arith)
+any_some test zero e = cc
 any_some test (suc n) e =
     by_bool (any_below test n)
     (λ t. let (k, l, u) = any_some test n t in (k, omega arith, u))
@@ -141,7 +141,7 @@ type_has_is list wanted p o w =
 module _ (list : List ℕ) where
   has_in : (steps wanted p o : ℕ) → Stands list p → type_has_in steps list wanted p o ≡ true → Has list (type_at list p) wanted o
   unfolding type_has_in
-  has_in zero wanted p o s h = let z : ◌≡◌ {A = ℕ} 0 1 = cc in absurd (omega arith)
+  has_in zero wanted p o s h = cc
   has_in (suc steps) wanted p o s h =
       by_bool (is_wanted list wanted p o)
       (λ t.
@@ -189,7 +189,7 @@ module _ (list : List ℕ) where
   -- nothing is had at a type's end or past it
   ends_in : (steps wanted p o : ℕ) → Stands list p → type_has_in steps list wanted p o ≡ true → o < size_at list p
   unfolding type_has_in
-  ends_in zero wanted p o s h = let z : ◌≡◌ {A = ℕ} 0 1 = cc in absurd (omega arith)
+  ends_in zero wanted p o s h = cc
   ends_in (suc steps) wanted p o s h =
       by_bool (is_wanted list wanted p o)
       (λ t. omega (arith, eqb-true o 0 (and_right (eqb (type_at list p) wanted) (eqb o 0) t), (good_here list p s).at_head.some_size))
@@ -198,7 +198,7 @@ module _ (list : List ℕ) where
       let d = field_at list p k in
       let f = field_has_parts (λ q r. type_has_in steps list wanted q r) list p o d u in
       let i = field_fits list p s k m in
-      let same : f.of ≡ i.of = at_injective f.of i.of (sym f.named ∙ i.named) in
+      let same : f.of ≡ i.of = cc (f.named, i.named) in
       let inner = ends_in steps wanted f.of (o - d.offset) (named_stands list p s d.ty f.of f.named) f.has_it in
       omega (arith, inner, f.starts, i.inside, ap (λ (x : ℕ). size_at list x) same))
 
@@ -214,7 +214,7 @@ module _ (list : List ℕ) where
       (λ t.
       let d = field_at list p k in
       let f = field_has_parts (type_has list wanted) list p o d t in
-      let same : f.of ≡ q = at_injective f.of q (sym f.named ∙ n) in
+      let same : f.of ≡ q = cc (f.named, n) in
       let inner = had_inside wanted f.of (o - d.offset) (named_stands list p s d.ty f.of f.named) f.has_it in
       omega (arith, inner, f.starts, ap (λ (x : ℕ). size_at list x) same))
 
@@ -228,12 +228,12 @@ module _ (list : List ℕ) (p o : ℕ) where
 
   pub last_at : (n k : ℕ) → last_starting list p o n ≡ Some k → LastAt n k
   unfolding last_starting
-  last_at zero k e = absurd (at_somewhere k (sym e))
+  last_at zero k e = cc
   last_at (suc n) k e =
       by_bool (leb (field_at list p n).offset o)
       (λ t.
-      subst (λ (x : ℕ). LastAt (suc n) x) (at_injective n k (rw (last_starting, t) at e))
-      (record { below = omega arith; starts = leb-true _ _ t; last = λ j a b. absurd (omega arith) }))
+      let here : k ≡ n = cc (rw (last_starting, t) at e) in
+      rw here (record { below = omega arith; starts = leb-true _ _ t; last = λ j a b. absurd (omega arith) }))
       (λ t.
       let i = last_at n k (rw (last_starting, t) at e) in
       record {
@@ -250,7 +250,7 @@ module _ (list : List ℕ) (p o : ℕ) where
   last_none zero e j l = absurd (omega arith)
   last_none (suc n) e j l =
       by_bool (leb (field_at list p n).offset o)
-      (λ t. absurd (at_somewhere n (rw (last_starting, t) at e)))
+      (λ t. cc (rw (last_starting, t) at e))
       (λ t.
       by_bool (ltb j n)
       (λ u. last_none n (rw (last_starting, t) at e) j (ltb-true j n u))

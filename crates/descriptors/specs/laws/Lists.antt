@@ -73,7 +73,7 @@ pub record Good (list : List ℕ) (p : ℕ) : Type 0 where
   pub fields : good_fields_in (field_count list p) list p 0 0 ≡ true
 
 nowhere : (r : Option ℕ) → is_nowhere r ≡ true → r ≡ None
-nowhere (Some q) e = let z : ◌≡◌ {A = ℕ} 0 1 = cc in absurd (omega arith)
+nowhere (Some q) e = cc
 nowhere None e = refl
 
 pub good_parts : (list : List ℕ) (p : ℕ) → good_descriptor list p ≡ true → Good list p
@@ -127,7 +127,7 @@ module _ (list : List ℕ) where
 
   end_in : (k p : ℕ) → good_from_in k list p ≡ true → WholeTo list p → p ≤ length list → WholeTo list (length list)
   unfolding good_from_in
-  end_in zero p g w l = let z : ◌≡◌ {A = ℕ} 0 1 = cc in absurd (omega arith)
+  end_in zero p g w l = cc
   end_in (suc k) p g w l =
       by_bool (eqb p (length list))
       (λ t. subst (λ (x : ℕ). WholeTo list x) (eqb-true p (length list) t) w)

@@ -26,4 +26,4 @@ loop-p-preserved c = check_goes_on _ _ c.loop-p.invariant c.loop-p-test.true (sy
 
 -- the end
 pub returns : goal.returns
-returns c = grind (arith, common_steps, check_ends)
+returns c = check_ends _ _ c.loop-p.invariant c.loop-p-test.false
