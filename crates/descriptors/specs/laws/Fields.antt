@@ -3,23 +3,10 @@ use Rattle.std.specs.Prelude.{ℕ, zero, suc, ◌+◌, ◌≤◌, ◌<◌, ◌�
 use Rattle.std.proofs.Common.{sym, ap, ◌∙◌, subst, arith, le-leb, leb-true, leb-false, ltb-true, ltb-false}
 use Rattle.std.proofs.Math.Bool.{and-false}
 use Rattle.std.proofs.lemmas.Bool.{lt-leb}
+use Rattle.std.proofs.lemmas.Grind.{common_steps}
 use Rattle.block.specs.laws.Booleans.{by_bool, true_false}
 use Rattle.descriptors.specs.Descriptors.{size_at, field_at, look_up, end_within, field_end, good_fields_in}
 use Rattle.descriptors.specs.declared.descriptor.Field.{Field}
-
--- Where bytes end.
-
-module _ (from size offset extent : ℕ) where
-  -- they start too early
-  pub ends_early : offset < from → end_within from size offset extent ≡ None
-  ends_early l = rw (lt-leb from offset l)
-
-  -- they end too late
-  pub ends_past : size < offset + extent → end_within from size offset extent ≡ None
-  ends_past l = rw (lt-leb (offset + extent) size l, and-false)
-
-  pub ends-inside : from ≤ offset → offset + extent ≤ size → end_within from size offset extent ≡ Some (offset + extent)
-  ends-inside l m = rw (le-leb from offset l, le-leb (offset + extent) size m)
 
 -- Where a field ends, by its type's descriptor.
 
@@ -74,17 +61,12 @@ tried list p from d = go (look_up list p d.ty) refl
         let ends = named_ends list p from d q e in
         by_bool (leb from d.offset)
         (λ t.
-        let a = leb-true from d.offset t in
         by_bool (leb (d.offset + size_at list q) (size_at list p))
         (λ u.
-        let i = leb-true (d.offset + size_at list q) (size_at list p) u in
-        fits (record { of = q; named = e; after = a; inside = i }) (ends ∙ ends-inside from (size_at list p) d.offset (size_at list q) a i))
-        (λ u.
-        let i = leb-false (d.offset + size_at list q) (size_at list p) u in
-        late q e i (ends ∙ ends_past from (size_at list p) d.offset (size_at list q) i)))
-        (λ t.
-        let a = leb-false from d.offset t in
-        early q e a (ends ∙ ends_early from (size_at list p) d.offset (size_at list q) a))
+        let fit : Fits list p from d = record { of = q; named = e; after = leb-true _ _ t; inside = leb-true _ _ u } in
+        fits fit (grind (arith, common_steps)))
+        (λ u. late q e (leb-false _ _ u) (grind (arith, common_steps))))
+        (λ t. early q e (leb-false _ _ t) (grind (arith, common_steps)))
 
 -- Good fields.
 

@@ -3,6 +3,7 @@ use Prim.Native.Nat.{ℕ, zero, suc, ◌+◌, ◌-◌, ◌*◌, ◌/◌, ◌%◌
 use Rattle.std.proofs.Math.Path.{◌≡◌, subst}
 use Rattle.std.specs.Prelude.{refl, Bool, true, ◌&&◌, List, length, leb, ltb, eqb, None, Option, Some}
 use Rattle.std.proofs.Common.{sym, ap, ◌∙◌, arith}
+use Rattle.std.proofs.lemmas.Grind.{common_steps}
 use borrow.Author.Tests.{ne_eqb, leb-true, ltb-true, ltb-false, eqb-true, eqb-false}
 use Rattle.block.specs.laws.Booleans.{by_bool, true_false, and_left, and_right}
 use Rattle.descriptors.specs.Descriptors.{descriptor_at, length_at, type_at, size_at, field_count, field_at, WholeTo, start, over, look_up, is_nowhere, good_fields_in, good_shape, good_head, good_descriptor, good_from_in, good_list, Stands}
@@ -21,13 +22,8 @@ pub data Shaped (d : Descriptor) : Type 0 where
 shaped : (d : Descriptor) → good_shape d ≡ true → Shaped d
 shaped d g =
     by_bool (eqb d.kind 4)
-    (λ t. plain (eqb-true _ _ t) (eqb-true _ _ (rw t at g)))
-    (λ t.
-    let r : eqb d.kind 5 && (leb 12 d.length && eqb ((d.length - 12) % 6) 0) ≡ true = rw t at g in
-    let q = and_right (eqb d.kind 5) _ r in
-    let l = leb-true 12 d.length (and_left (leb 12 d.length) (eqb ((d.length - 12) % 6) 0) q) in
-    let m = eqb-true ((d.length - 12) % 6) 0 (and_right (leb 12 d.length) (eqb ((d.length - 12) % 6) 0) q) in
-    fielded (eqb-true _ _ (and_left (eqb d.kind 5) _ r)) (omega arith))
+    (λ t. plain (eqb-true _ _ t) (grind (arith, common_steps)))
+    (λ t. fielded (grind (arith, common_steps)) (grind (arith, common_steps)))
 
 -- its length, whatever the kind
 shaped_length : (d : Descriptor) → Shaped d → d.length ≡ 12 + 6 * ((d.length - 12) / 6)
@@ -44,17 +40,12 @@ pub record Headed (list : List ℕ) (p : ℕ) : Type 0 where
 
 pub headed : (list : List ℕ) (p : ℕ) → good_head list p ≡ true → Headed list p
 headed list p g =
-    let a : Bool = leb (p + 12) (length list) in
-    let b : Bool = leb (p + length_at list p) (length list) in
-    let c : Bool = good_shape (descriptor_at list p) in
-    let d : Bool = ltb 0 (size_at list p) in
-    let after-a = and_right a (b && (c && d)) g in
-    let after-b = and_right b (c && d) after-a in
+    let shape : good_shape (descriptor_at list p) ≡ true = grind (arith, common_steps) in
     record {
-      head = leb-true (p + 12) (length list) (and_left a (b && (c && d)) g);
-      whole = leb-true (p + length_at list p) (length list) (and_left b (c && d) after-a);
-      shape = shaped (descriptor_at list p) (and_left c d after-b);
-      some_size = ltb-true 0 (size_at list p) (and_right c d after-b);
+      head = grind (arith, common_steps);
+      whole = grind (arith, common_steps);
+      shape = shaped (descriptor_at list p) shape;
+      some_size = grind (arith, common_steps);
     }
 
 -- its length is 12 and whole fields
