@@ -32,7 +32,7 @@ module _ (list : List ℕ) (p : ℕ) (w : WholeTo list p) where
 
   bad_field_in : (n k from : ℕ) → From k from → good_fields_in n list p from k ≡ false → (j : ℕ) × (j < k + n) × BadFieldAt list p j
   unfolding good_fields_in
-  bad_field_in zero k from f g = absurd (true_false refl g)
+  bad_field_in zero k from f g = cc
   bad_field_in (suc n) k from f g =
       go (tried list p from (field_at list p k))
       (λ i e.
@@ -64,7 +64,7 @@ module _ (list : List ℕ) (p : ℕ) (w : WholeTo list p) where
       by_bool (leb (p + length_at list p) (length list))
       (λ b.
       by_bool (good_shape (descriptor_at list p))
-      (λ c. no_size (let t : ltb 0 (size_at list p) ≡ false = rw (a, b, c) at g in omega (arith, ltb-false 0 (size_at list p) t)))
+      (λ c. no_size (grind (arith, common_steps)))
       bad_shape)
       (λ b. cut_short (leb-false _ _ b)))
       (λ a. no_head (leb-false _ _ a))
@@ -84,7 +84,7 @@ unfolding good_from_in
 some_bad_in list zero p g w e = absurd (omega (arith, whole-inside list p w))
 some_bad_in list (suc k) p g w e =
     by_bool (eqb p (length list))
-    (λ t. absurd (true_false (rw (good_from_in, t) refl) g))
+    (λ t. grind (arith, common_steps))
     (λ t.
     let l : p < length list = omega (arith, whole-inside list p w, eqb-false p (length list) t) in
     by_bool (good_descriptor list p)

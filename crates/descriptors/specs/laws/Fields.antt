@@ -79,7 +79,7 @@ fields_turn : (list : List ℕ) (p n from k : ℕ) → good_fields_in (suc n) li
 fields_turn list p n from k g = go (tried list p from (field_at list p k))
   where
     bad : field_end list p from (field_at list p k) ≡ None → Turn list p n from k
-    bad e = absurd (true_false g (fields_bad list p n from k e))
+    bad e = cc (g, fields_bad list p n from k e)
 
     go : Tried list p from (field_at list p k) → Turn list p n from k
     go (fits f e) = record { this = f; rest = sym (fields_on list p n from k _ e) ∙ g }

@@ -7,6 +7,7 @@ use Rattle.std.proofs.Math.Bool.{true}
 use native.Mathlib.Omega.{arith}
 use Rattle.std.proofs.Math.Dec.{leb}
 use borrow.Author.Tests.{le-leb, lt-leb, eq-eqb, leb-true, leb-false, ltb-true, ltb-false, eqb-true, eqb-false}
+use Rattle.std.proofs.lemmas.Grind.{common_steps}
 use Rattle.block.specs.laws.Booleans.{by_bool, true_false, refuted, and_left, and_right}
 use Rattle.descriptors.specs.Descriptors.{type_at, size_at, field_count, field_at, WholeTo, look_up, good_list, Stands}
 use Rattle.descriptors.specs.Layouts.{any_below, field_has, type_has_in, type_has, last_starting}
@@ -70,11 +71,11 @@ module _ (has : ℕ → ℕ → Bool) (list : List ℕ) (p o : ℕ) (d : Field) 
   field_has_parts h =
       by_bool (leb d.offset o)
       (λ t. go t (look_up list p d.ty) refl)
-      (λ t. absurd (true_false h (rw (field_has, t) refl)))
+      (λ t. grind (arith, common_steps))
     where
       go : leb d.offset o ≡ true → (r : Option ℕ) → look_up list p d.ty ≡ r → FieldHas
       go t (Some q) e = record { of = q; starts = leb-true _ _ t; named = e; has_it = rw (field_has, t, e) at h }
-      go t None e = absurd (true_false h (rw (field_has, t, e) refl))
+      go t None e = grind (arith, common_steps)
 
   -- its three ways out
   pub field_at_lem : (q : ℕ) → d.offset ≤ o → look_up list p d.ty ≡ Some q → field_has has list p o d ≡ has q (o - d.offset)

@@ -40,11 +40,10 @@ pub record Headed (list : List ℕ) (p : ℕ) : Type 0 where
 
 pub headed : (list : List ℕ) (p : ℕ) → good_head list p ≡ true → Headed list p
 headed list p g =
-    let shape : good_shape (descriptor_at list p) ≡ true = grind (arith, common_steps) in
     record {
       head = grind (arith, common_steps);
       whole = grind (arith, common_steps);
-      shape = shaped (descriptor_at list p) shape;
+      shape = shaped (descriptor_at list p) (grind (arith, common_steps));
       some_size = grind (arith, common_steps);
     }
 
@@ -70,15 +69,11 @@ nowhere None e = refl
 pub good_parts : (list : List ℕ) (p : ℕ) → good_descriptor list p ≡ true → Good list p
 unfolding good_descriptor
 good_parts list p g =
-    by_bool (good_head list p)
-    (λ t.
-    let r : is_nowhere (look_up list p (type_at list p)) && good_fields_in (field_count list p) list p 0 0 ≡ true = rw (good_descriptor, t) at g in
     record {
-      at_head = headed list p t;
-      once = nowhere (look_up list p (type_at list p)) (and_left _ (good_fields_in (field_count list p) list p 0 0) r);
-      fields = and_right (is_nowhere (look_up list p (type_at list p))) _ r;
-    })
-    (λ t. absurd (true_false g (rw (good_descriptor, t) refl)))
+      at_head = headed list p (grind (arith, common_steps));
+      once = nowhere (look_up list p (type_at list p)) (grind (arith, common_steps));
+      fields = grind (arith, common_steps);
+    }
 
 -- A good list.
 
@@ -89,7 +84,7 @@ module _ (list : List ℕ) where
   turn k p g l =
       by_bool (good_descriptor list p)
       (λ t. (t, rw (good_from_in, ne_eqb p (length list) (λ e. omega arith), t) at g))
-      (λ t. absurd (true_false g (rw (good_from_in, ne_eqb p (length list) (λ e. omega arith), t) refl)))
+      (λ t. grind (arith, common_steps))
 
   -- the walk comes to p, with steps enough for what is left
   record Comes (p : ℕ) : Type 0 where
