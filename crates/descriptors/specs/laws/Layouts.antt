@@ -146,8 +146,8 @@ module _ (list : List ℕ) where
   has_in (suc steps) wanted p o s h =
       by_bool (is_wanted list wanted p o)
       (λ t.
-      let a : wanted ≡ type_at list p = sym (eqb-true (type_at list p) wanted (and_left (eqb (type_at list p) wanted) (eqb o 0) t)) in
-      let b : 0 ≡ o = sym (eqb-true o 0 (and_right (eqb (type_at list p) wanted) (eqb o 0) t)) in
+      let a : wanted ≡ type_at list p = grind (arith, common_steps) in
+      let b : 0 ≡ o = grind (arith, common_steps) in
       subst (λ (x : ℕ). Has list (type_at list p) wanted x) b (subst (λ (x : ℕ). Has list x wanted 0) a (itself wanted)))
       (λ t.
       let (k, m, u) = any_some _ (field_count list p) (rw t at h) in
@@ -193,7 +193,7 @@ module _ (list : List ℕ) where
   ends_in zero wanted p o s h = cc
   ends_in (suc steps) wanted p o s h =
       by_bool (is_wanted list wanted p o)
-      (λ t. omega (arith, eqb-true o 0 (and_right (eqb (type_at list p) wanted) (eqb o 0) t), (good_here list p s).at_head.some_size))
+      (λ t. grind (arith, common_steps, (good_here list p s).at_head.some_size))
       (λ t.
       let (k, m, u) = any_some _ (field_count list p) (rw t at h) in
       let d = field_at list p k in

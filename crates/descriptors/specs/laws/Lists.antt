@@ -12,30 +12,12 @@ use Rattle.descriptors.specs.laws.Lookups.{whole-inside, whole_boundary, boundar
 use Rattle.descriptors.specs.laws.Fields.{Fits, fields_fit}
 use Rattle.descriptors.specs.declared.descriptor.Descriptor.{Descriptor}
 
--- A good shape.
-
--- a plain type of 12 bytes, or a record of 12 and whole fields
-pub data Shaped (d : Descriptor) : Type 0 where
-  plain : d.kind ≡ 4 → d.length ≡ 12 → Shaped d
-  fielded : d.kind ≡ 5 → d.length ≡ 12 + 6 * ((d.length - 12) / 6) → Shaped d
-
-shaped : (d : Descriptor) → good_shape d ≡ true → Shaped d
-shaped d g =
-    by_bool (eqb d.kind 4)
-    (λ t. plain (eqb-true _ _ t) (grind (arith, common_steps)))
-    (λ t. fielded (grind (arith, common_steps)) (grind (arith, common_steps)))
-
--- its length, whatever the kind
-shaped_length : (d : Descriptor) → Shaped d → d.length ≡ 12 + 6 * ((d.length - 12) / 6)
-shaped_length d (plain k l) = omega arith
-shaped_length d (fielded k l) = l
-
 -- A good head.
 
 pub record Headed (list : List ℕ) (p : ℕ) : Type 0 where
   pub head : p + 12 ≤ length list
   pub whole : p + length_at list p ≤ length list
-  pub shape : Shaped (descriptor_at list p)
+  pub shape : good_shape (descriptor_at list p) ≡ true
   pub some_size : 0 < size_at list p
 
 pub headed : (list : List ℕ) (p : ℕ) → good_head list p ≡ true → Headed list p
@@ -43,13 +25,13 @@ headed list p g =
     record {
       head = grind (arith, common_steps);
       whole = grind (arith, common_steps);
-      shape = shaped (descriptor_at list p) (grind (arith, common_steps));
+      shape = grind (arith, common_steps);
       some_size = grind (arith, common_steps);
     }
 
 -- its length is 12 and whole fields
 pub headed-length : (list : List ℕ) (p : ℕ) → Headed list p → length_at list p ≡ 12 + 6 * field_count list p
-headed-length list p h = shaped_length (descriptor_at list p) h.shape
+headed-length list p h = grind (arith, common_steps, h.shape)
 
 -- the walk goes on behind it
 pub headed-over : (list : List ℕ) (p : ℕ) → WholeTo list p → Headed list p → WholeTo list (p + length_at list p)
