@@ -1,8 +1,8 @@
 -- The loops of `find_type`, `good_fields` and `good_list`, turn by turn. Assumes nothing.
 use Rattle.std.specs.Prelude.{ℕ, suc, ◌+◌, ◌-◌, ◌≤◌, ◌<◌, ◌≡◌, refl, true, false, List, length, None, Some}
-use Rattle.std.proofs.Common.{sym, ap, ◌∙◌, add-one, arith}
+use Rattle.std.proofs.Common.{sym, ◌∙◌, add-one, arith}
 use borrow.Author.Tests.{eq-eqb, ne_eqb}
-use Rattle.descriptors.specs.Descriptors.{descriptor_at, length_at, type_at, field_at, WholeTo, start, look_up_in, look_up, field_end, good_fields_in, good_descriptor, good_from_in, good_list}
+use Rattle.descriptors.specs.Descriptors.{descriptor_at, field_at, WholeTo, start, look_up_in, look_up, field_end, good_fields_in, good_descriptor, good_from_in, good_list}
 use Rattle.descriptors.specs.laws.Lookups.{whole-inside, step, lookup-end, lookup-found, lookup_on}
 use Rattle.descriptors.specs.laws.Fields.{fields_bad, fields_on}
 use Rattle.descriptors.specs.laws.Lists.{headed-length, headed-over, good_parts}

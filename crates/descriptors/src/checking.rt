@@ -20,7 +20,8 @@ fn end_within(from: u64, size: u64, offset: u64, extent: u64) -> Option<u64>
 // Where a field of the descriptor at p, of a record of `size` bytes, ends, if it is good behind `from`.
 #[tactic(auto, using(crate::specs::laws::Lookups::found_head, crate::specs::laws::Fields::unnamed_ends, crate::specs::laws::Fields::named_ends))]
 fn field_end(list: &[u8], p: usize, from: u64, size: u64, field: Field) -> Option<u64>
-    requires { (WholeTo list.now p) × (size ≡ size_at list.now p) }
+    requires whole { WholeTo list.now p }
+    requires sized { size ≡ size_at list.now p }
     ensures { result ≡ field_end list.now p from field }
 {
     let q = find_type(list, p, field.ty)?;
@@ -57,7 +58,7 @@ fn good_head(list: &[u8], p: usize) -> bool
         return false;
     }
     let d = read_descriptor(list, p);
-    d.length as usize <= left && d.has_good_shape() && 0 < d.size
+    d.length <= left && d.has_good_shape() && 0 < d.size
 }
 
 // Whether the descriptor at p is good: its head, its type, which no descriptor before it has, and its fields.
@@ -82,7 +83,7 @@ pub fn good_list(list: &[u8]) -> bool
         if !good_descriptor(list, p) {
             return false;
         }
-        p += read_descriptor(list, p).length as usize;
+        p += read_descriptor(list, p).length;
     }
     true
 }

@@ -26,7 +26,9 @@ pub fn type_has(list: &[u8], wanted: u64, p: usize, o: u64) -> bool
 // Whether field k of the record described at p, which starts at or before o, has `wanted` there.
 #[cycle(field_has_type_has)]
 fn field_has(list: &[u8], wanted: u64, p: usize, k: usize, o: u64) -> bool
-    requires { (Stands list.now p) × (k < field_count list.now p) × ((field_at list.now p k).offset ≤ o) }
+    requires stands { Stands list.now p }
+    requires below { k < field_count list.now p }
+    requires starts { (field_at list.now p k).offset ≤ o }
     ensures { result ≡ field_has (type_has list.now wanted) list.now p o (field_at list.now p k) }
 {
     let f = read_field(list, p, k);

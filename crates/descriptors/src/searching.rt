@@ -17,7 +17,7 @@ pub fn find_type(list: &[u8], end: usize, ty: u64) -> Option<usize>
         if d.ty == ty {
             return Some(p);
         }
-        p += d.length as usize;
+        p += d.length;
     }
     None
 }

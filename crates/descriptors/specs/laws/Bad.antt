@@ -1,13 +1,13 @@
 -- What row 24 refuses, and what it lets pass, case by case. Assumes nothing.
-use Prim.Native.Nat.{ℕ, zero, suc, ◌+◌, ◌-◌, ◌%◌, ◌<◌}
-use Rattle.std.specs.Prelude.{◌≡◌, false, List, length, leb, ltb, eqb, None, Option, Some}
+use Prim.Native.Nat.{ℕ, zero, suc, ◌+◌, ◌<◌}
+use Rattle.std.specs.Prelude.{◌≡◌, false, List, length, leb, eqb, None, Option, Some}
 use Rattle.std.proofs.Math.Path.{refl}
-use Rattle.std.proofs.Common.{sym, ap, ◌∙◌, eq-eqb, leb-false, ltb-false, eqb-true}
+use Rattle.std.proofs.Common.{sym, ap, ◌∙◌, leb-false, eqb-true}
 use Rattle.std.proofs.Math.Bool.{true}
 use native.Mathlib.Omega.{arith}
 use Rattle.std.proofs.lemmas.Bool.{eqb-false}
 use Rattle.std.proofs.lemmas.Grind.{common_steps}
-use Rattle.block.specs.laws.Booleans.{by_bool, true_false}
+use Rattle.block.specs.laws.Booleans.{by_bool}
 use Rattle.descriptors.specs.Descriptors.{descriptor_at, length_at, kind_at, type_at, size_at, field_count, field_at, WholeTo, start, look_up, field_end, good_fields_in, good_shape, good_head, good_descriptor, good_from_in, good_list, Stands}
 use Rattle.descriptors.specs.Claims.{Describes, BadFieldAt, no_earlier_type, overlaps, sticks_out, BadDescriptorAt, no_head, cut_short, unknown_kind, no_size, plain-length, record_length_lem, repeated_type, bad_field, SomeBad}
 use Rattle.descriptors.specs.laws.Lookups.{whole-inside, whole_boundary, found_at, found_describes, missed}

@@ -8,7 +8,7 @@ use native.Mathlib.Omega.{arith}
 use Rattle.std.proofs.Math.Dec.{leb}
 use borrow.Author.Tests.{le-leb, lt-leb, eq-eqb, leb-true, leb-false, ltb-true, ltb-false, eqb-true, eqb-false}
 use Rattle.std.proofs.lemmas.Grind.{common_steps}
-use Rattle.block.specs.laws.Booleans.{by_bool, true_false, refuted, and_left, and_right}
+use Rattle.block.specs.laws.Booleans.{by_bool, refuted}
 use Rattle.descriptors.specs.Descriptors.{type_at, size_at, field_count, field_at, WholeTo, look_up, good_list, Stands}
 use Rattle.descriptors.specs.Layouts.{any_below, field_has, type_has_in, type_has, last_starting}
 use Rattle.descriptors.specs.Claims.{Describes, Has, itself, by_field}

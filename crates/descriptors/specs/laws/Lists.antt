@@ -1,16 +1,15 @@
 -- Good descriptors and good lists. Assumes nothing.
-use Prim.Native.Nat.{ℕ, zero, suc, ◌+◌, ◌-◌, ◌*◌, ◌/◌, ◌%◌, ◌≤◌, ◌<◌}
+use Prim.Native.Nat.{ℕ, zero, suc, ◌+◌, ◌*◌, ◌≤◌, ◌<◌}
 use Rattle.std.proofs.Math.Path.{◌≡◌, subst}
-use Rattle.std.specs.Prelude.{refl, Bool, true, ◌&&◌, List, length, leb, ltb, eqb, None, Option, Some}
+use Rattle.std.specs.Prelude.{refl, true, List, length, ltb, eqb, None, Option, Some}
 use Rattle.std.proofs.Common.{sym, ap, ◌∙◌, arith}
 use Rattle.std.proofs.lemmas.Grind.{common_steps}
-use borrow.Author.Tests.{ne_eqb, leb-true, ltb-true, ltb-false, eqb-true, eqb-false}
-use Rattle.block.specs.laws.Booleans.{by_bool, true_false, and_left, and_right}
+use borrow.Author.Tests.{ne_eqb, ltb-true, ltb-false, eqb-true, eqb-false}
+use Rattle.block.specs.laws.Booleans.{by_bool}
 use Rattle.descriptors.specs.Descriptors.{descriptor_at, length_at, type_at, size_at, field_count, field_at, WholeTo, start, over, look_up, is_nowhere, good_fields_in, good_shape, good_head, good_descriptor, good_from_in, good_list, Stands}
 use Rattle.descriptors.specs.Claims.{Describes}
 use Rattle.descriptors.specs.laws.Lookups.{whole-inside, whole_boundary, boundary_whole, found_at, found_describes, missed}
 use Rattle.descriptors.specs.laws.Fields.{Fits, fields_fit}
-use Rattle.descriptors.specs.declared.descriptor.Descriptor.{Descriptor}
 
 -- A good head.
 

@@ -12,8 +12,8 @@ pub returns-then-not-good_descriptor : goal.returns-then-not-good_descriptor
 returns-then-not-good_descriptor c =
     check_fails _ _ c.loop-p.invariant c.loop-p-test.true (sym c.good_descriptor.ensures ∙ c.if-not-good_descriptor.true)
 
-pub read_descriptor-requires : goal.read_descriptor-requires
-read_descriptor-requires c = (good_parts _ _ (sym c.good_descriptor.ensures ∙ c.if-not-good_descriptor.false)).at_head.head
+pub read_descriptor-p-requires : goal.read_descriptor-p-requires
+read_descriptor-p-requires c = (good_parts _ _ (sym c.good_descriptor.ensures ∙ c.if-not-good_descriptor.false)).at_head.head
 
 pub overflow_add-p : goal.overflow_add-p
 overflow_add-p c = grind (arith, common_steps, good_parts, headed-length)
@@ -22,7 +22,7 @@ pub loop-p-smaller : goal.loop-p-smaller
 loop-p-smaller c = grind (arith, common_steps, good_parts, headed-length)
 
 pub loop-p-preserved : goal.loop-p-preserved
-loop-p-preserved c = check_goes_on _ _ c.loop-p.invariant c.loop-p-test.true (sym c.good_descriptor.ensures ∙ c.if-not-good_descriptor.false) _ c.read_descriptor.ensures
+loop-p-preserved c = check_goes_on _ _ c.loop-p.invariant c.loop-p-test.true (sym c.good_descriptor.ensures ∙ c.if-not-good_descriptor.false) _ c.read_descriptor-p.ensures
 
 -- the end
 pub returns : goal.returns

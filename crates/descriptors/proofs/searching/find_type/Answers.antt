@@ -1,6 +1,3 @@
-use Rattle.std.proofs.Common.{arith}
-use Rattle.std.proofs.lemmas.Grind.{common_steps}
-use Rattle.descriptors.specs.laws.Lookups.{step}
 use Rattle.descriptors.proofs.Turns.{search_begins, search_ends, search_finds, search_goes_on}
 use Rattle.descriptors.proofs.searching.find_type.Goals as goal
 
