@@ -10,11 +10,7 @@ use super::searching::find_type;
 fn end_within(from: u64, size: u64, offset: u64, extent: u64) -> Option<u64>
     ensures { result ≡ end_within from size offset extent }
 {
-    let end = offset.checked_add(extent)?;
-    if offset < from || size < end {
-        return None;
-    }
-    Some(end)
+    offset.checked_add(extent).filter(|&end| from <= offset && end <= size)
 }
 
 // Where a field of the descriptor at p, of a record of `size` bytes, ends, if it is good behind `from`.
@@ -25,8 +21,7 @@ fn field_end(list: &[u8], p: usize, from: u64, size: u64, field: Field) -> Optio
     ensures { result ≡ field_end list.now p from field }
 {
     let q = find_type(list, p, field.ty)?;
-    let d = read_descriptor(list, q);
-    end_within(from, size, field.offset, d.size)
+    end_within(from, size, field.offset, read_descriptor(list, q).size)
 }
 
 // Whether the fields of the descriptor d at p are good.

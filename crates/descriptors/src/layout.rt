@@ -1,5 +1,5 @@
 // Which type has which at an offset: a type reads its fields, and a field reads its type. A field's type is described before its record, so that the
-// descriptor's position falls. The recursion comes last and passes one slice: a level takes 32 bytes of stack.
+// descriptor's position falls. Each calls the other last and passes the same slice on, so that LLVM makes a loop of them, whose stack does not grow.
 ghost use Rattle.std.specs.Prelude.{◌≡◌, ◌≤◌, ◌<◌};
 ghost use Rattle.descriptors.specs.Descriptors.{field_count, field_at, Stands};
 ghost use Rattle.descriptors.specs.Layouts.{field_has, type_has};

@@ -22,7 +22,9 @@ pub loop-p-smaller : goal.loop-p-smaller
 loop-p-smaller c = grind (arith, common_steps, good_parts, headed-length)
 
 pub loop-p-preserved : goal.loop-p-preserved
-loop-p-preserved c = check_goes_on _ _ c.loop-p.invariant c.loop-p-test.true (sym c.good_descriptor.ensures ∙ c.if-not-good_descriptor.false) _ c.read_descriptor-p.ensures
+loop-p-preserved c =
+    check_goes_on _ _ c.loop-p.invariant c.loop-p-test.true (sym c.good_descriptor.ensures ∙ c.if-not-good_descriptor.false) _
+    c.read_descriptor-p.ensures
 
 -- the end
 pub returns : goal.returns
