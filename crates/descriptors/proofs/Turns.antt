@@ -1,7 +1,5 @@
--- The loops of `find_type`, `good_fields` and `good_list`, turn by turn. Assumes nothing.
-use Rattle.std.specs.Prelude.{ℕ, suc, ◌+◌, ◌-◌, ◌≤◌, ◌<◌, ◌≡◌, refl, true, false, List, length, None, Some}
-use Rattle.std.proofs.Common.{sym, ◌∙◌, add-one, arith}
-use borrow.Author.Tests.{eq-eqb, ne_eqb}
+-- The loops of `find_type` and `good_fields`, turn by turn. Assumes nothing.
+use Rattle.std.proofs.Common.{ℕ, suc, ◌+◌, ◌-◌, ◌≤◌, ◌<◌, ◌≡◌, refl, true, false, List, length, None, Some, sym, ◌∙◌, add-one, arith, eq-eqb, ne_eqb}
 use Rattle.descriptors.specs.Descriptors.{descriptor_at, field_at, WholeTo, start, look_up_in, look_up, field_end, good_fields_in, good_descriptor, good_from_in, good_list}
 use Rattle.descriptors.specs.laws.Lookups.{whole-inside, step, lookup-end, lookup-found, lookup_on}
 use Rattle.descriptors.specs.laws.Fields.{fields_bad, fields_on}
@@ -57,42 +55,3 @@ module _ (list : List ℕ) (p n from k : ℕ) where
   pub fields_go_on : (end : ℕ) → k < n → field_end list p from (field_at list p k) ≡ Some end
       → good_fields_in (n - k) list p from k ≡ good_fields_in (n - (k + 1)) list p end (k + 1)
   fields_go_on end l e = rw (one_left l) (fields_on list p (n - (k + 1)) from k end e ∙ rw add-one)
-
--- The check of the list: what is left of it from p on says what the whole list says.
-
-pub record Checking (list : List ℕ) (p : ℕ) : Type 0 where
-  pub whole : WholeTo list p
-  pub steps : ℕ
-  pub enough : length list ≤ p + steps
-  pub same : good_from_in (suc steps) list p ≡ good_list list
-
-pub check_begins : (list : List ℕ) → Checking list 0
-unfolding good_list
-check_begins list = record { whole = start; steps = length list; enough = omega arith; same = refl }
-
-module _ (list : List ℕ) (p : ℕ) (now : Checking list p) where
-  pub check_ends : length list ≤ p → true ≡ good_list list
-  unfolding good_from_in
-  check_ends l = rw (good_from_in, eq-eqb p (length list) (omega (arith, whole-inside list p now.whole))) at now.same
-
-  -- the descriptor d is read at p, before the end
-  module _ (l : p < length list) where
-    apart : p ≡ length list → ⊥
-    apart e = omega arith
-
-    pub check_fails : good_descriptor list p ≡ false → false ≡ good_list list
-    unfolding good_from_in
-    check_fails g = rw (good_from_in, ne_eqb p (length list) apart, g) at now.same
-
-    pub check_goes_on : good_descriptor list p ≡ true → (d : Descriptor) → d ≡ descriptor_at list p → Checking list (p + d.length)
-    unfolding good_from_in
-    check_goes_on g d is =
-        let h = (good_parts list p g).at_head in
-        let left : suc (now.steps - 1) ≡ now.steps = omega arith in
-        rw is
-        (record {
-          whole = headed-over list p now.whole h;
-          steps = now.steps - 1;
-          enough = omega (arith, headed-length list p h);
-          same = rw left (rw (good_from_in, ne_eqb p (length list) apart, g) at now.same);
-        })

@@ -1,10 +1,5 @@
 -- What row 24 refuses, and what it lets pass, case by case. Assumes nothing.
-use Prim.Native.Nat.{ℕ, zero, suc, ◌+◌, ◌<◌}
-use Rattle.std.specs.Prelude.{◌≡◌, false, List, length, leb, eqb, None, Option, Some}
-use Rattle.std.proofs.Math.Path.{refl}
-use Rattle.std.proofs.Common.{sym, ap, ◌∙◌, leb-false, eqb-true}
-use Rattle.std.proofs.Math.Bool.{true}
-use native.Mathlib.Omega.{arith}
+use Rattle.std.proofs.Common.{ℕ, zero, suc, ◌+◌, ◌<◌, ◌≡◌, false, List, length, leb, eqb, None, Option, Some, refl, sym, ap, ◌∙◌, leb-false, eqb-true, true, arith}
 use Rattle.std.proofs.lemmas.Bool.{eqb-false}
 use Rattle.std.proofs.lemmas.Grind.{common_steps}
 use Rattle.block.specs.laws.Booleans.{by_bool}

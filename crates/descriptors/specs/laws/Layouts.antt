@@ -1,12 +1,6 @@
 -- Which type has which at an offset: what is computed, the relation, and that one field alone need be asked. Assumes nothing.
-use Prim.Native.Nat.{ℕ, zero, suc, ◌+◌, ◌-◌, ◌≤◌, ◌<◌}
-use Rattle.std.proofs.Math.Path.{◌≡◌, refl, sym, ap, subst}
-use Rattle.std.proofs.Common.{◌∙◌, le_trans, None, Option, Some}
-use Rattle.std.specs.Prelude.{Bool, false, ◌&&◌, ◌||◌, List, length, ltb, eqb}
-use Rattle.std.proofs.Math.Bool.{true}
-use native.Mathlib.Omega.{arith}
-use Rattle.std.proofs.Math.Dec.{leb}
-use borrow.Author.Tests.{le-leb, lt-leb, eq-eqb, leb-true, leb-false, ltb-true, ltb-false, eqb-true, eqb-false}
+use Rattle.std.proofs.Common.{ℕ, zero, suc, ◌+◌, ◌-◌, ◌≤◌, ◌<◌, ◌≡◌, refl, sym, ap, subst, ◌∙◌, le_trans, None, Option, Some, Bool, false, ◌&&◌, ◌||◌, List, length, ltb, eqb, true, arith, leb, le-leb, eq-eqb, leb-true, leb-false, ltb-true, ltb-false, eqb-true}
+use Rattle.std.proofs.lemmas.Bool.{lt-leb, eqb-false}
 use Rattle.std.proofs.lemmas.Grind.{common_steps}
 use Rattle.block.specs.laws.Booleans.{by_bool, refuted}
 use Rattle.descriptors.specs.Descriptors.{type_at, size_at, field_count, field_at, WholeTo, look_up, good_list, Stands}
@@ -115,7 +109,8 @@ abbrev some_field_has : List ℕ → ℕ → ℕ → ℕ → Bool
 some_field_has list wanted p o = any_below (λ k. field_has (type_has list wanted) list p o (field_at list p k)) (field_count list p)
 
 -- the count of steps is never used up
-in_enough : (k n : ℕ) (list : List ℕ) (wanted p o : ℕ) → WholeTo list p → p < k → p < n → type_has_in k list wanted p o ≡ type_has_in n list wanted p o
+in_enough : (k n : ℕ) (list : List ℕ) (wanted p o : ℕ) → WholeTo list p → p < k → p < n
+    → type_has_in k list wanted p o ≡ type_has_in n list wanted p o
 unfolding type_has_in
 in_enough zero n list wanted p o w hk hn = absurd (omega arith)
 in_enough (suc k) zero list wanted p o w hk hn = absurd (omega arith)

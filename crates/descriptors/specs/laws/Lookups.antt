@@ -1,10 +1,7 @@
 -- Positions in a list of descriptors, and looking a type up. Assumes nothing.
-use Prim.Native.Nat.{ℕ, zero, suc, ◌+◌, ◌≤◌, ◌<◌}
-use Rattle.std.specs.Prelude.{◌≡◌, Bool, true, false, List, length, leb, ltb, eqb, None, Some}
-use Rattle.std.proofs.Math.Path.{refl}
-use Rattle.std.proofs.Common.{sym, ap, ◌∙◌, arith}
+use Rattle.std.proofs.Common.{ℕ, zero, suc, ◌+◌, ◌≤◌, ◌<◌, ◌≡◌, Bool, true, false, List, length, leb, ltb, eqb, None, Some, refl, sym, ap, ◌∙◌, arith, le-ltb, lt-ltb, eq-eqb, ne_eqb, leb-true, leb-false, ltb-true, ltb-false, eqb-true}
+use Rattle.std.proofs.lemmas.Bool.{eqb-false}
 use Rattle.std.proofs.Math.Decide.{ℕ_discrete}
-use borrow.Author.Tests.{le-ltb, lt-ltb, eq-eqb, ne_eqb, leb-true, leb-false, ltb-true, ltb-false, eqb-true, eqb-false}
 use Rattle.block.specs.laws.Booleans.{by_bool}
 use Rattle.descriptors.specs.Descriptors.{length_at, type_at, WholeTo, start, over, look_up_in, look_up}
 use Rattle.descriptors.specs.Claims.{Boundary, first, next, Describes}
@@ -24,7 +21,8 @@ module _ (list : List ℕ) where
     pub ends : p + length_at list p ≤ q
     pub reached : WholeTo list (p + length_at list p)
 
-  here : (p q : ℕ) → p ≡ q → q + 12 ≤ length list → 12 ≤ length_at list q → WholeTo list (q + length_at list q) → Step p (q + length_at list q)
+  here : (p q : ℕ) → p ≡ q → q + 12 ≤ length list → 12 ≤ length_at list q → WholeTo list (q + length_at list q)
+      → Step p (q + length_at list q)
   here p q e a b w = rw e (record { head = a; long = b; ends = omega arith; reached = w })
 
   further : (p q r : ℕ) → q ≤ r → Step p q → Step p r

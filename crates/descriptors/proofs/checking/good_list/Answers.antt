@@ -1,7 +1,6 @@
 use Rattle.std.proofs.Common.{arith, sym, ◌∙◌}
 use Rattle.std.proofs.lemmas.Grind.{common_steps}
-use Rattle.descriptors.specs.laws.Lists.{headed-length, good_parts}
-use Rattle.descriptors.proofs.Turns.{check_begins, check_ends, check_fails, check_goes_on}
+use Rattle.descriptors.specs.laws.Lists.{headed-length, good_parts, check_begins, check_ends, check_fails, check_goes_on}
 use Rattle.descriptors.proofs.checking.good_list.Goals as goal
 
 pub loop-p-init : goal.loop-p-init
