@@ -1,9 +1,8 @@
 -- The loops of `find_type` and `good_fields`, turn by turn. Assumes nothing.
-use Rattle.std.proofs.Common.{ℕ, suc, ◌+◌, ◌-◌, ◌≤◌, ◌<◌, ◌≡◌, refl, true, false, List, length, None, Some, sym, ◌∙◌, add-one, arith, eq-eqb, ne_eqb}
-use Rattle.descriptors.specs.Descriptors.{descriptor_at, field_at, WholeTo, start, look_up_in, look_up, field_end, good_fields_in, good_descriptor, good_from_in, good_list}
-use Rattle.descriptors.specs.laws.Lookups.{whole-inside, step, lookup-end, lookup-found, lookup_on}
+use Rattle.std.proofs.Common.{ℕ, suc, ◌+◌, ◌-◌, ◌≤◌, ◌<◌, ◌≡◌, refl, true, false, List, None, Some, sym, ◌∙◌, add-one, arith}
+use Rattle.descriptors.specs.Descriptors.{descriptor_at, field_at, WholeTo, start, look_up_in, look_up, field_end, good_fields_in}
+use Rattle.descriptors.specs.laws.Lookups.{step, lookup-end, lookup-found, lookup_on}
 use Rattle.descriptors.specs.laws.Fields.{fields_bad, fields_on}
-use Rattle.descriptors.specs.laws.Lists.{headed-length, headed-over, good_parts}
 use Rattle.descriptors.specs.declared.descriptor.Descriptor.{Descriptor}
 
 -- The search for a type: what is left of it from p on comes to what the whole search comes to.

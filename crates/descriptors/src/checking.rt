@@ -10,7 +10,9 @@ use super::searching::find_type;
 fn end_within(from: u64, size: u64, offset: u64, extent: u64) -> Option<u64>
     ensures { result ≡ end_within from size offset extent }
 {
-    offset.checked_add(extent).filter(|&end| from <= offset && end <= size)
+    offset
+        .checked_add(extent)
+        .filter(|&end| from <= offset && end <= size)
 }
 
 // Where a field of the descriptor at p, of a record of `size` bytes, ends, if it is good behind `from`.

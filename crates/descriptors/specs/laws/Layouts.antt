@@ -31,7 +31,7 @@ some_any test zero k l e = absurd (omega arith)
 some_any test (suc n) k l e =
     by_bool (ltb k n)
     (λ t. rw (some_any test n k (ltb-true k n t) e) refl)
-    (λ t. or_true (any_below test n) (test n) (ap test (omega (arith, ltb-false k n t)) ∙ e))
+    (λ t. let last : n ≡ k = omega (arith, ltb-false k n t) in or_true (any_below test n) (test n) (rw last e))
 
 any_same : (f g : ℕ → Bool) (n : ℕ) → ((k : ℕ) → k < n → f k ≡ g k) → any_below f n ≡ any_below g n
 unfolding any_below
@@ -261,16 +261,12 @@ module _ (list : List ℕ) (p o : ℕ) where
   pub last_found : (k : ℕ) → 0 < k → (field_at list p (k - 1)).offset ≤ o → last_starting list p o k ≡ Some (k - 1)
   unfolding last_starting
   last_found zero n l = absurd (omega arith)
-  last_found (suc k) n l =
-      let e : suc k - 1 ≡ k = omega arith in
-      rw (last_starting, le-leb _ _ (subst (λ (x : ℕ). (field_at list p x).offset ≤ o) e l)) (ap Some (sym e))
+  last_found (suc k) n l = let e : suc k - 1 ≡ k = omega arith in rw (e, last_starting, le-leb _ _ (rw e at l))
 
   pub last_on : (k : ℕ) → 0 < k → o < (field_at list p (k - 1)).offset → last_starting list p o k ≡ last_starting list p o (k - 1)
   unfolding last_starting
   last_on zero n l = absurd (omega arith)
-  last_on (suc k) n l =
-      let e : suc k - 1 ≡ k = omega arith in
-      rw (last_starting, lt-leb _ _ (subst (λ (x : ℕ). o < (field_at list p x).offset) e l)) (ap (last_starting list p o) (sym e))
+  last_on (suc k) n l = let e : suc k - 1 ≡ k = omega arith in rw (e, last_starting, lt-leb _ _ (rw e at l))
 
 -- The ways out of a search: only the last field that starts at or before o can have it.
 
