@@ -6,13 +6,14 @@ use super::descriptor::{Descriptor, Field};
 use super::reading::{read_descriptor, read_field};
 use super::searching::find_type;
 
-// The offset at which `extent` bytes from `offset` on end, if they start at or after `from` and fit inside `size`.
+// The offset at which `extent` bytes from `offset` on end, if they start at or after `from` and fit inside `size`. No sum is made before it is known to fit.
 fn end_within(from: u64, size: u64, offset: u64, extent: u64) -> Option<u64>
     ensures { result ≡ end_within from size offset extent }
 {
-    offset
-        .checked_add(extent)
-        .filter(|&end| from <= offset && end <= size)
+    if offset < from || size < offset || size - offset < extent {
+        return None;
+    }
+    Some(offset + extent)
 }
 
 // Where a field of the descriptor at p, of a record of `size` bytes, ends, if it is good behind `from`.
