@@ -1,4 +1,4 @@
 -- What the proofs of several functions use.
-mod Turns
+pub mod Turns
 -- The claims on lists and layouts.
 pub mod Claims

@@ -6,29 +6,29 @@ use super::descriptor::{Descriptor, Field};
 use super::reading::{read_descriptor, read_field};
 use super::searching::find_type;
 
-// The offset at which `extent` bytes from `offset` on end, if they start at or after `from` and fit inside `size`.
+// The offset at which `extent` bytes from `offset` on end, if they start at or after `from` and fit inside `size`. No sum is made before it is known to fit.
 fn end_within(from: u64, size: u64, offset: u64, extent: u64) -> Option<u64>
     ensures { result ≡ end_within from size offset extent }
 {
-    let end = offset.checked_add(extent)?;
-    if offset < from || size < end {
+    if offset < from || size < offset || size - offset < extent {
         return None;
     }
-    Some(end)
+    Some(offset + extent)
 }
 
 // Where a field of the descriptor at p, of a record of `size` bytes, ends, if it is good behind `from`.
-#[tactic(auto, using(crate::specs::laws::Lookups::found_head, crate::specs::laws::Fields::unnamed_ends, crate::specs::laws::Fields::named_ends),)]
+#[tactic(auto, using(crate::specs::laws::Lookups::found_head, crate::specs::laws::Fields::unnamed_ends, crate::specs::laws::Fields::named_ends))]
 fn field_end(list: &[u8], p: usize, from: u64, size: u64, field: Field) -> Option<u64>
-    requires { (WholeTo list.now p) × (size ≡ size_at list.now p) }
+    requires whole { WholeTo list.now p }
+    requires sized { size ≡ size_at list.now p }
     ensures { result ≡ field_end list.now p from field }
 {
     let q = find_type(list, p, field.ty)?;
-    let d = read_descriptor(list, q);
-    end_within(from, size, field.offset, d.size)
+    end_within(from, size, field.offset, read_descriptor(list, q).size)
 }
 
 // Whether the fields of the descriptor d at p are good.
+#[tactic(auto, using(crate::proofs::Turns::fields_end, crate::proofs::Turns::fields_fail, crate::proofs::Turns::fields_go_on))]
 fn good_fields(list: &[u8], p: usize, d: Descriptor) -> bool
     requires whole { WholeTo list.now p }
     requires here { d ≡ descriptor_at list.now p }
@@ -56,10 +56,11 @@ fn good_head(list: &[u8], p: usize) -> bool
         return false;
     }
     let d = read_descriptor(list, p);
-    d.length as usize <= left && d.has_good_shape() && 0 < d.size
+    d.length <= left && d.has_good_shape() && 0 < d.size
 }
 
 // Whether the descriptor at p is good: its head, its type, which no descriptor before it has, and its fields.
+#[tactic(auto, unfolding(crate::specs::Descriptors::good_descriptor))]
 fn good_descriptor(list: &[u8], p: usize) -> bool
     requires { WholeTo list.now p }
     ensures { result ≡ good_descriptor list.now p }
@@ -80,7 +81,7 @@ pub fn good_list(list: &[u8]) -> bool
         if !good_descriptor(list, p) {
             return false;
         }
-        p += read_descriptor(list, p).length as usize;
+        p += read_descriptor(list, p).length;
     }
     true
 }

@@ -11,7 +11,7 @@ const RECORD: u64 = 5;
 // A descriptor without its fields: its length in bytes, its kind, its type number and the described size in bytes.
 #[derive(Clone, Copy)]
 pub struct Descriptor {
-    pub length: u64,
+    pub length: usize,
     pub kind: u64,
     pub ty: u64,
     pub size: u64,
@@ -23,7 +23,7 @@ impl Descriptor {
         requires { 12 ≤ self.length }
         ensures { result ≡ (self.length - 12) / 6 }
     {
-        ((self.length - 12) / 6) as usize
+        (self.length - 12) / 6
     }
 
     // Whether the length is what the kind asks for.

@@ -1,5 +1,5 @@
 // Which type has which at an offset: a type reads its fields, and a field reads its type. A field's type is described before its record, so that the
-// descriptor's position falls. The recursion comes last and passes one slice: a level takes 32 bytes of stack.
+// descriptor's position falls. Each calls the other last and passes the same slice on, so that LLVM makes a loop of them, whose stack does not grow.
 ghost use Rattle.std.specs.Prelude.{◌≡◌, ◌≤◌, ◌<◌};
 ghost use Rattle.descriptors.specs.Descriptors.{field_count, field_at, Stands};
 ghost use Rattle.descriptors.specs.Layouts.{field_has, type_has};
@@ -26,7 +26,9 @@ pub fn type_has(list: &[u8], wanted: u64, p: usize, o: u64) -> bool
 // Whether field k of the record described at p, which starts at or before o, has `wanted` there.
 #[cycle(field_has_type_has)]
 fn field_has(list: &[u8], wanted: u64, p: usize, k: usize, o: u64) -> bool
-    requires { (Stands list.now p) × (k < field_count list.now p) × ((field_at list.now p k).offset ≤ o) }
+    requires stands { Stands list.now p }
+    requires below { k < field_count list.now p }
+    requires starts { (field_at list.now p k).offset ≤ o }
     ensures { result ≡ field_has (type_has list.now wanted) list.now p o (field_at list.now p k) }
 {
     let f = read_field(list, p, k);

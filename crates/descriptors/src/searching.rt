@@ -6,6 +6,7 @@ ghost use Rattle.descriptors.specs.Layouts.{last_starting};
 use super::reading::{read_descriptor, read_field};
 
 // The position of the descriptor of the type among those before `end`.
+#[tactic(auto, using(crate::specs::laws::Lookups::step))]
 pub fn find_type(list: &[u8], end: usize, ty: u64) -> Option<usize>
     requires { WholeTo list.now end }
     ensures { result ≡ look_up list.now end ty }
@@ -16,12 +17,13 @@ pub fn find_type(list: &[u8], end: usize, ty: u64) -> Option<usize>
         if d.ty == ty {
             return Some(p);
         }
-        p += d.length as usize;
+        p += d.length;
     }
     None
 }
 
 // The index of the last of the first n fields of the descriptor at p that starts at or before o.
+#[tactic(auto, using(crate::specs::laws::Layouts::last_ended, crate::specs::laws::Layouts::last_found, crate::specs::laws::Layouts::last_on))]
 pub fn last_field(list: &[u8], p: usize, n: usize, o: u64) -> Option<usize>
     requires { p + 12 + 6 * n ≤ length list.now }
     ensures { result ≡ last_starting list.now p o n }

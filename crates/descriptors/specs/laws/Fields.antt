@@ -1,26 +1,9 @@
 -- The fields of a record. Assumes nothing.
-use Rattle.std.specs.Prelude.{ℕ, zero, suc, ◌+◌, ◌≤◌, ◌<◌, ◌≡◌, refl, true, false, List, leb, ltb, None, Option, Some}
-use Rattle.std.proofs.Common.{sym, ap, ◌∙◌, subst, arith, le-leb, leb-true, leb-false, ltb-true, ltb-false}
-use Rattle.std.proofs.Math.Bool.{and-false}
-use Rattle.std.proofs.lemmas.Bool.{lt-leb}
-use Rattle.block.specs.laws.Booleans.{by_bool, true_false}
+use Rattle.std.proofs.Common.{ℕ, zero, suc, ◌+◌, ◌≤◌, ◌<◌, ◌≡◌, refl, true, false, List, leb, ltb, None, Option, Some, sym, ap, ◌∙◌, subst, arith, leb-true, leb-false, ltb-true, ltb-false}
+use Rattle.std.proofs.lemmas.Grind.{common_steps}
+use Rattle.block.specs.laws.Booleans.{by_bool}
 use Rattle.descriptors.specs.Descriptors.{size_at, field_at, look_up, end_within, field_end, good_fields_in}
-use Rattle.descriptors.specs.laws.Lookups.{at_injective}
 use Rattle.descriptors.specs.declared.descriptor.Field.{Field}
-
--- Where bytes end.
-
-module _ (from size offset extent : ℕ) where
-  -- they start too early
-  pub ends_early : offset < from → end_within from size offset extent ≡ None
-  ends_early l = rw (lt-leb from offset l)
-
-  -- they end too late
-  pub ends_past : size < offset + extent → end_within from size offset extent ≡ None
-  ends_past l = rw (lt-leb (offset + extent) size l, and-false)
-
-  pub ends-inside : from ≤ offset → offset + extent ≤ size → end_within from size offset extent ≡ Some (offset + extent)
-  ends-inside l m = rw (le-leb from offset l, le-leb (offset + extent) size m)
 
 -- Where a field ends, by its type's descriptor.
 
@@ -75,17 +58,12 @@ tried list p from d = go (look_up list p d.ty) refl
         let ends = named_ends list p from d q e in
         by_bool (leb from d.offset)
         (λ t.
-        let a = leb-true from d.offset t in
         by_bool (leb (d.offset + size_at list q) (size_at list p))
         (λ u.
-        let i = leb-true (d.offset + size_at list q) (size_at list p) u in
-        fits (record { of = q; named = e; after = a; inside = i }) (ends ∙ ends-inside from (size_at list p) d.offset (size_at list q) a i))
-        (λ u.
-        let i = leb-false (d.offset + size_at list q) (size_at list p) u in
-        late q e i (ends ∙ ends_past from (size_at list p) d.offset (size_at list q) i)))
-        (λ t.
-        let a = leb-false from d.offset t in
-        early q e a (ends ∙ ends_early from (size_at list p) d.offset (size_at list q) a))
+        let fit : Fits list p from d = record { of = q; named = e; after = leb-true _ _ t; inside = leb-true _ _ u } in
+        fits fit (grind (arith, common_steps)))
+        (λ u. late q e (leb-false _ _ u) (grind (arith, common_steps))))
+        (λ t. early q e (leb-false _ _ t) (grind (arith, common_steps)))
 
 -- Good fields.
 
@@ -98,7 +76,7 @@ fields_turn : (list : List ℕ) (p n from k : ℕ) → good_fields_in (suc n) li
 fields_turn list p n from k g = go (tried list p from (field_at list p k))
   where
     bad : field_end list p from (field_at list p k) ≡ None → Turn list p n from k
-    bad e = absurd (true_false g (fields_bad list p n from k e))
+    bad e = cc (g, fields_bad list p n from k e)
 
     go : Tried list p from (field_at list p k) → Turn list p n from k
     go (fits f e) = record { this = f; rest = sym (fields_on list p n from k _ e) ∙ g }
@@ -134,8 +112,6 @@ fields_apart (suc n) list p from k g i j a b c q e =
     (λ u. fields_apart n list p end (suc k) t.rest i j (ltb-true k i u) b (omega arith) q e)
     (λ u.
     let i-is : i ≡ k = omega (arith, ltb-false k i u) in
-    let of_is : q ≡ t.this.of =
-    at_injective q t.this.of (sym e ∙ ap (λ (x : ℕ). look_up list p (field_at list p x).ty) i-is ∙ t.this.named)
-    in
+    let of_is : q ≡ t.this.of = cc (e, ap (λ (x : ℕ). look_up list p (field_at list p x).ty) i-is, t.this.named) in
     let f = fields_fit n list p end (suc k) t.rest j (omega arith) (omega arith) in
     omega (arith, f.after, ap (λ (x : ℕ). (field_at list p x).offset) i-is, ap (λ (x : ℕ). size_at list x) of_is))

@@ -1,17 +1,12 @@
 -- Which type has which at an offset: what is computed, the relation, and that one field alone need be asked. Assumes nothing.
-use Prim.Native.Nat.{ℕ, zero, suc, ◌+◌, ◌-◌, ◌≤◌, ◌<◌}
-use Rattle.std.proofs.Math.Path.{◌≡◌, refl, sym, ap, subst}
-use Rattle.std.proofs.Common.{◌∙◌, le_trans, None, Option, Some}
-use Rattle.std.specs.Prelude.{Bool, false, ◌&&◌, ◌||◌, List, length, ltb, eqb}
-use Rattle.std.proofs.Math.Bool.{true}
-use native.Mathlib.Omega.{arith}
-use Rattle.std.proofs.Math.Dec.{leb}
-use borrow.Author.Tests.{le-leb, lt-leb, eq-eqb, leb-true, leb-false, ltb-true, ltb-false, eqb-true, eqb-false}
-use Rattle.block.specs.laws.Booleans.{by_bool, true_false, refuted, and_left, and_right}
+use Rattle.std.proofs.Common.{ℕ, zero, suc, ◌+◌, ◌-◌, ◌≤◌, ◌<◌, ◌≡◌, refl, sym, ap, subst, ◌∙◌, le_trans, None, Option, Some, Bool, false, ◌&&◌, ◌||◌, List, length, ltb, eqb, true, arith, leb, le-leb, eq-eqb, leb-true, leb-false, ltb-true, ltb-false, eqb-true}
+use Rattle.std.proofs.lemmas.Bool.{lt-leb, eqb-false}
+use Rattle.std.proofs.lemmas.Grind.{common_steps}
+use Rattle.block.specs.laws.Booleans.{by_bool, refuted}
 use Rattle.descriptors.specs.Descriptors.{type_at, size_at, field_count, field_at, WholeTo, look_up, good_list, Stands}
 use Rattle.descriptors.specs.Layouts.{any_below, field_has, type_has_in, type_has, last_starting}
 use Rattle.descriptors.specs.Claims.{Describes, Has, itself, by_field}
-use Rattle.descriptors.specs.laws.Lookups.{at_injective, at_somewhere, found_at, found_describes}
+use Rattle.descriptors.specs.laws.Lookups.{found_at, found_describes}
 use Rattle.descriptors.specs.laws.Fields.{fields_apart}
 use Rattle.descriptors.specs.laws.Lists.{good_here, field_fits, named_stands, stands_describes, describes_stands, described_once}
 use Rattle.descriptors.specs.declared.descriptor.Field.{Field}
@@ -24,7 +19,7 @@ or_true false b h = h
 
 any_some : (test : ℕ → Bool) (n : ℕ) → any_below test n ≡ true → (k : ℕ) × (k < n) × (test k ≡ true)
 unfolding any_below
-any_some test zero e = let z : ◌≡◌ {A = ℕ} 0 1 = cc in absurd (omega arith)
+any_some test zero e = cc
 any_some test (suc n) e =
     by_bool (any_below test n)
     (λ t. let (k, l, u) = any_some test n t in (k, omega arith, u))
@@ -36,7 +31,7 @@ some_any test zero k l e = absurd (omega arith)
 some_any test (suc n) k l e =
     by_bool (ltb k n)
     (λ t. rw (some_any test n k (ltb-true k n t) e) refl)
-    (λ t. or_true (any_below test n) (test n) (ap test (omega (arith, ltb-false k n t)) ∙ e))
+    (λ t. let last : n ≡ k = omega (arith, ltb-false k n t) in or_true (any_below test n) (test n) (rw last e))
 
 any_same : (f g : ℕ → Bool) (n : ℕ) → ((k : ℕ) → k < n → f k ≡ g k) → any_below f n ≡ any_below g n
 unfolding any_below
@@ -70,11 +65,11 @@ module _ (has : ℕ → ℕ → Bool) (list : List ℕ) (p o : ℕ) (d : Field) 
   field_has_parts h =
       by_bool (leb d.offset o)
       (λ t. go t (look_up list p d.ty) refl)
-      (λ t. absurd (true_false h (rw (field_has, t) refl)))
+      (λ t. grind (arith, common_steps))
     where
       go : leb d.offset o ≡ true → (r : Option ℕ) → look_up list p d.ty ≡ r → FieldHas
       go t (Some q) e = record { of = q; starts = leb-true _ _ t; named = e; has_it = rw (field_has, t, e) at h }
-      go t None e = absurd (true_false h (rw (field_has, t, e) refl))
+      go t None e = grind (arith, common_steps)
 
   -- its three ways out
   pub field_at_lem : (q : ℕ) → d.offset ≤ o → look_up list p d.ty ≡ Some q → field_has has list p o d ≡ has q (o - d.offset)
@@ -114,7 +109,8 @@ abbrev some_field_has : List ℕ → ℕ → ℕ → ℕ → Bool
 some_field_has list wanted p o = any_below (λ k. field_has (type_has list wanted) list p o (field_at list p k)) (field_count list p)
 
 -- the count of steps is never used up
-in_enough : (k n : ℕ) (list : List ℕ) (wanted p o : ℕ) → WholeTo list p → p < k → p < n → type_has_in k list wanted p o ≡ type_has_in n list wanted p o
+in_enough : (k n : ℕ) (list : List ℕ) (wanted p o : ℕ) → WholeTo list p → p < k → p < n
+    → type_has_in k list wanted p o ≡ type_has_in n list wanted p o
 unfolding type_has_in
 in_enough zero n list wanted p o w hk hn = absurd (omega arith)
 in_enough (suc k) zero list wanted p o w hk hn = absurd (omega arith)
@@ -141,12 +137,12 @@ type_has_is list wanted p o w =
 module _ (list : List ℕ) where
   has_in : (steps wanted p o : ℕ) → Stands list p → type_has_in steps list wanted p o ≡ true → Has list (type_at list p) wanted o
   unfolding type_has_in
-  has_in zero wanted p o s h = let z : ◌≡◌ {A = ℕ} 0 1 = cc in absurd (omega arith)
+  has_in zero wanted p o s h = cc
   has_in (suc steps) wanted p o s h =
       by_bool (is_wanted list wanted p o)
       (λ t.
-      let a : wanted ≡ type_at list p = sym (eqb-true (type_at list p) wanted (and_left (eqb (type_at list p) wanted) (eqb o 0) t)) in
-      let b : 0 ≡ o = sym (eqb-true o 0 (and_right (eqb (type_at list p) wanted) (eqb o 0) t)) in
+      let a : wanted ≡ type_at list p = grind (arith, common_steps) in
+      let b : 0 ≡ o = grind (arith, common_steps) in
       subst (λ (x : ℕ). Has list (type_at list p) wanted x) b (subst (λ (x : ℕ). Has list x wanted 0) a (itself wanted)))
       (λ t.
       let (k, m, u) = any_some _ (field_count list p) (rw t at h) in
@@ -189,16 +185,16 @@ module _ (list : List ℕ) where
   -- nothing is had at a type's end or past it
   ends_in : (steps wanted p o : ℕ) → Stands list p → type_has_in steps list wanted p o ≡ true → o < size_at list p
   unfolding type_has_in
-  ends_in zero wanted p o s h = let z : ◌≡◌ {A = ℕ} 0 1 = cc in absurd (omega arith)
+  ends_in zero wanted p o s h = cc
   ends_in (suc steps) wanted p o s h =
       by_bool (is_wanted list wanted p o)
-      (λ t. omega (arith, eqb-true o 0 (and_right (eqb (type_at list p) wanted) (eqb o 0) t), (good_here list p s).at_head.some_size))
+      (λ t. grind (arith, common_steps, (good_here list p s).at_head.some_size))
       (λ t.
       let (k, m, u) = any_some _ (field_count list p) (rw t at h) in
       let d = field_at list p k in
       let f = field_has_parts (λ q r. type_has_in steps list wanted q r) list p o d u in
       let i = field_fits list p s k m in
-      let same : f.of ≡ i.of = at_injective f.of i.of (sym f.named ∙ i.named) in
+      let same : f.of ≡ i.of = cc (f.named, i.named) in
       let inner = ends_in steps wanted f.of (o - d.offset) (named_stands list p s d.ty f.of f.named) f.has_it in
       omega (arith, inner, f.starts, i.inside, ap (λ (x : ℕ). size_at list x) same))
 
@@ -214,7 +210,7 @@ module _ (list : List ℕ) where
       (λ t.
       let d = field_at list p k in
       let f = field_has_parts (type_has list wanted) list p o d t in
-      let same : f.of ≡ q = at_injective f.of q (sym f.named ∙ n) in
+      let same : f.of ≡ q = cc (f.named, n) in
       let inner = had_inside wanted f.of (o - d.offset) (named_stands list p s d.ty f.of f.named) f.has_it in
       omega (arith, inner, f.starts, ap (λ (x : ℕ). size_at list x) same))
 
@@ -228,12 +224,12 @@ module _ (list : List ℕ) (p o : ℕ) where
 
   pub last_at : (n k : ℕ) → last_starting list p o n ≡ Some k → LastAt n k
   unfolding last_starting
-  last_at zero k e = absurd (at_somewhere k (sym e))
+  last_at zero k e = cc
   last_at (suc n) k e =
       by_bool (leb (field_at list p n).offset o)
       (λ t.
-      subst (λ (x : ℕ). LastAt (suc n) x) (at_injective n k (rw (last_starting, t) at e))
-      (record { below = omega arith; starts = leb-true _ _ t; last = λ j a b. absurd (omega arith) }))
+      let here : k ≡ n = cc (rw (last_starting, t) at e) in
+      rw here (record { below = omega arith; starts = leb-true _ _ t; last = λ j a b. absurd (omega arith) }))
       (λ t.
       let i = last_at n k (rw (last_starting, t) at e) in
       record {
@@ -250,7 +246,7 @@ module _ (list : List ℕ) (p o : ℕ) where
   last_none zero e j l = absurd (omega arith)
   last_none (suc n) e j l =
       by_bool (leb (field_at list p n).offset o)
-      (λ t. absurd (at_somewhere n (rw (last_starting, t) at e)))
+      (λ t. cc (rw (last_starting, t) at e))
       (λ t.
       by_bool (ltb j n)
       (λ u. last_none n (rw (last_starting, t) at e) j (ltb-true j n u))
@@ -265,16 +261,12 @@ module _ (list : List ℕ) (p o : ℕ) where
   pub last_found : (k : ℕ) → 0 < k → (field_at list p (k - 1)).offset ≤ o → last_starting list p o k ≡ Some (k - 1)
   unfolding last_starting
   last_found zero n l = absurd (omega arith)
-  last_found (suc k) n l =
-      let e : suc k - 1 ≡ k = omega arith in
-      rw (last_starting, le-leb _ _ (subst (λ (x : ℕ). (field_at list p x).offset ≤ o) e l)) (ap Some (sym e))
+  last_found (suc k) n l = let e : suc k - 1 ≡ k = omega arith in rw (e, last_starting, le-leb _ _ (rw e at l))
 
   pub last_on : (k : ℕ) → 0 < k → o < (field_at list p (k - 1)).offset → last_starting list p o k ≡ last_starting list p o (k - 1)
   unfolding last_starting
   last_on zero n l = absurd (omega arith)
-  last_on (suc k) n l =
-      let e : suc k - 1 ≡ k = omega arith in
-      rw (last_starting, lt-leb _ _ (subst (λ (x : ℕ). o < (field_at list p x).offset) e l)) (ap (last_starting list p o) (sym e))
+  last_on (suc k) n l = let e : suc k - 1 ≡ k = omega arith in rw (e, last_starting, lt-leb _ _ (rw e at l))
 
 -- The ways out of a search: only the last field that starts at or before o can have it.
 

@@ -1,10 +1,7 @@
 -- Positions in a list of descriptors, and looking a type up. Assumes nothing.
-use Prim.Native.Nat.{ℕ, zero, suc, ◌+◌, ◌≤◌, ◌<◌}
-use Rattle.std.specs.Prelude.{◌≡◌, Bool, true, false, List, length, leb, ltb, eqb, None, Some}
-use Rattle.std.proofs.Math.Path.{refl}
-use Rattle.std.proofs.Common.{sym, ap, ◌∙◌, subst, arith}
+use Rattle.std.proofs.Common.{ℕ, zero, suc, ◌+◌, ◌≤◌, ◌<◌, ◌≡◌, Bool, true, false, List, length, leb, ltb, eqb, None, Some, refl, sym, ap, ◌∙◌, arith, le-ltb, lt-ltb, eq-eqb, ne_eqb, leb-true, leb-false, ltb-true, ltb-false, eqb-true}
+use Rattle.std.proofs.lemmas.Bool.{eqb-false}
 use Rattle.std.proofs.Math.Decide.{ℕ_discrete}
-use borrow.Author.Tests.{le-ltb, lt-ltb, eq-eqb, ne_eqb, leb-true, leb-false, ltb-true, ltb-false, eqb-true, eqb-false}
 use Rattle.block.specs.laws.Booleans.{by_bool}
 use Rattle.descriptors.specs.Descriptors.{length_at, type_at, WholeTo, start, over, look_up_in, look_up}
 use Rattle.descriptors.specs.Claims.{Boundary, first, next, Describes}
@@ -24,7 +21,8 @@ module _ (list : List ℕ) where
     pub ends : p + length_at list p ≤ q
     pub reached : WholeTo list (p + length_at list p)
 
-  here : (p q : ℕ) → p ≡ q → q + 12 ≤ length list → 12 ≤ length_at list q → WholeTo list (q + length_at list q) → Step p (q + length_at list q)
+  here : (p q : ℕ) → p ≡ q → q + 12 ≤ length list → 12 ≤ length_at list q → WholeTo list (q + length_at list q)
+      → Step p (q + length_at list q)
   here p q e a b w = rw e (record { head = a; long = b; ends = omega arith; reached = w })
 
   further : (p q r : ℕ) → q ≤ r → Step p q → Step p r
@@ -81,12 +79,6 @@ module _ (list : List ℕ) (steps end type p : ℕ) where
 
 -- What it finds.
 
-pub at_injective : (p q : ℕ) → Some p ≡ Some q → p ≡ q
-at_injective p q e = cc
-
-pub at_somewhere : (q : ℕ) → Some q ≡ None → ⊥
-at_somewhere q e = let z : ◌≡◌ {A = ℕ} 0 1 = cc in omega arith
-
 -- a whole descriptor of the type stands at q, before `end`
 pub record FoundAt (list : List ℕ) (end type q : ℕ) : Type 0 where
   pub whole : WholeTo list q
@@ -96,19 +88,19 @@ pub record FoundAt (list : List ℕ) (end type q : ℕ) : Type 0 where
 found_in : (k : ℕ) (list : List ℕ) (end type p q : ℕ) → WholeTo list p → WholeTo list end → look_up_in k list end type p ≡ Some q
     → FoundAt list end type q
 unfolding look_up_in
-found_in zero list end type p q w we e = absurd (at_somewhere q (sym e))
+found_in zero list end type p q w we e = cc
 found_in (suc k) list end type p q w we e =
     by_bool (ltb p end)
     (λ t.
     let l = ltb-true p end t in
     by_bool (eqb (type_at list p) type)
     (λ u.
-    subst (λ (x : ℕ). FoundAt list end type x) (at_injective p q (sym (lookup-found list k end type p l (eqb-true _ _ u)) ∙ e))
-    (record { whole = w; before = l; type_is = eqb-true _ _ u }))
+    let here : q ≡ p = cc (e, lookup-found list k end type p l (eqb-true _ _ u)) in
+    rw here (record { whole = w; before = l; type_is = eqb-true _ _ u }))
     (λ u.
     found_in k list end type (p + length_at list p) q (step list p end w we l).reached we
     (sym (lookup_on list k end type p l (eqb-false _ _ u)) ∙ e)))
-    (λ t. absurd (at_somewhere q (sym e ∙ lookup-end list (suc k) end type p (ltb-false p end t))))
+    (λ t. cc (e, lookup-end list (suc k) end type p (ltb-false p end t)))
 
 pub found_at : (list : List ℕ) (end type q : ℕ) → WholeTo list end → look_up list end type ≡ Some q → FoundAt list end type q
 unfolding look_up
@@ -130,7 +122,7 @@ missed_in zero list end type p q wp we h e wq a b t = omega arith
 missed_in (suc k) list end type p q wp we h e wq a b t =
     let l : p < end = omega arith in
     by_bool (eqb (type_at list p) type)
-    (λ u. at_somewhere p (sym (lookup-found list k end type p l (eqb-true _ _ u)) ∙ e))
+    (λ u. cc (e, lookup-found list k end type p l (eqb-true _ _ u)))
     (λ u.
     let n : p ≡ q → ⊥ = λ i. eqb-false (type_at list p) type u (ap (λ (x : ℕ). type_at list x) i ∙ t) in
     let s = step list p q wp wq (omega (arith, n)) in

@@ -13,7 +13,7 @@ field_has-read_field-f-requires t c = grind (arith, common_steps, length_here, w
 -- its type is described before p
 pub field_has-type_has-requires : goal.field_has-type_has-requires
 field_has-type_has-requires t c =
-    let stands = c.requires.0 in
+    let stands = c.requires.stands in
     let named = sym c.find_type.ensures ∙ c.in-Some.is in
     let found = found_at _ _ _ _ stands.whole named in
     (omega arith, named_stands _ _ stands _ _ named)
@@ -43,7 +43,7 @@ type_has-last_field-requires t c = grind (arith, common_steps, length_here, whol
 pub type_has-field_has-requires : goal.type_has-field_has-requires
 type_has-field_has-requires t c =
     let last = last_at _ _ _ _ _ (sym c.last_field.ensures ∙ c.in-Some.is) in
-    (omega arith, (c.requires, grind (arith, common_steps, last.below), last.starts))
+    (omega arith, (c.requires, (grind (arith, common_steps, last.below), last.starts)))
 
 -- no field starts at or before o
 pub type_has-returns-in-None : goal.type_has-returns-in-None

@@ -1,5 +1,5 @@
 -- `descriptors::searching::last_field`. Invariant: the last of the first k fields is that of all n. Assumes nothing.
-use mathlib.Core.Path.{◌≡◌}
+use Rattle.std.proofs.Common.{◌≡◌}
 use Rattle.descriptors.specs.Layouts.{last_starting}
 use Rattle.descriptors.proofs.searching.last_field.Given as goal
 
