@@ -7,7 +7,7 @@ ghost use Rattle.store.specs.Calls.{opening, good_width, load_answer, store_chec
 use crate::answer::{Answer, Refusal};
 use crate::locate::{access, access_large, access_small};
 use crate::opening::opening;
-use block::bytes::{read_field, write_field, write1};
+use block::bytes::{read_field, write, write_field};
 use frame::Pointer;
 
 // The widths that a load or store may have.
@@ -115,7 +115,7 @@ pub fn store_byte(image: &mut [u8], table: &[u64], pointer: u64, byte: u8) -> An
         Answer::Accepted(s) => match access(image, table, s as u32, pointer, 1) {
             Answer::Refused(r) => Answer::Refused(r),
             Answer::Accepted(at) => {
-                write1(image, at as usize, byte as u64);
+                write::<1>(image, at as usize, byte as u64);
                 Answer::Accepted(0)
             }
         },

@@ -1,4 +1,4 @@
--- `store::store_byte` meets its contract: 4 and 5 (`opening`), then 10, 11 and 13 (`access`), or `write1` puts the byte. Assumes nothing.
+-- `store::store_byte` meets its contract: 4 and 5 (`opening`), then 10, 11 and 13 (`access`), or `write` puts the byte. Assumes nothing.
 use Prim.Native.Nat.{ℕ, ◌<◌}
 use mathlib.Core.List.{List}
 use mathlib.Core.Path.{◌≡◌, sym, ap, ◌∙◌}
@@ -30,7 +30,7 @@ returns-in-Accepted-access c =
     let small : c.args.byte < 256 = search rules in
     let checked : let a = c.args in c.access.result ≡ store_checks a.pointer 1 a.byte (state a.image.now a.table.now) = c.access.ensures ∙ store_byte (state _ _) _ is_open _ _ small in
     let passed : let a = c.args in store_checks a.pointer 1 a.byte (state a.image.now a.table.now) ≡ Accepted c.in-Accepted-access.at = sym checked ∙ c.in-Accepted-access.is in
-    ap (λ (l : List ℕ). outcome (Accepted 0) l c.args.table.now) c.write1.ensures
+    ap (λ (l : List ℕ). outcome (Accepted 0) l c.args.table.now) c.write.ensures
     ∙ store_done _ _ _ (state _ _) _ passed
 
 pub overflow_cast-s : goal.overflow_cast-s
@@ -43,10 +43,10 @@ access-requires c =
     let is_open : opening (state c.args.image.now c.args.table.now) ≡ Accepted c.in-Accepted.s = sym c.opening.ensures ∙ c.in-Accepted.is in
     (is_open, omega arith)
 
-pub write1-requires : goal.write1-requires
-write1-requires c =
+pub write-requires : goal.write-requires
+write-requires c =
     let is_open : opening (state c.args.image.now c.args.table.now) ≡ Accepted c.in-Accepted.s = sym c.opening.ensures ∙ c.in-Accepted.is in
     let small : c.args.byte < 256 = search rules in
     let checked : let a = c.args in c.access.result ≡ store_checks a.pointer 1 a.byte (state a.image.now a.table.now) = c.access.ensures ∙ store_byte (state _ _) _ is_open _ _ small in
     let passed : let a = c.args in store_checks a.pointer 1 a.byte (state a.image.now a.table.now) ≡ Accepted c.in-Accepted-access.at = sym checked ∙ c.in-Accepted-access.is in
-    (store_parts _ _ _ (state _ _) _ passed).bytes.inside
+    (omega arith, (store_parts _ _ _ (state _ _) _ passed).bytes.inside)
