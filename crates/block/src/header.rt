@@ -4,7 +4,7 @@ ghost use Rattle.block.specs.Bytes.{put};
 ghost use Rattle.block.specs.Layout.{within, header, free_header, live_header, header_at, extent_at, kind_at, type_at, size_at, cue_at, sound};
 ghost use Rattle.block.specs.laws.Soundness.{examined, object_at};
 
-use super::bytes::{read2, read4, write2, write4};
+use super::bytes::{read, write};
 use std::num::wrapping_sub_u64;
 
 // A block header's fields.
@@ -22,7 +22,7 @@ pub fn extent_at(image: &[u8], h: usize) -> u64
     requires { h + 16 ≤ length image.now }
     ensures { result ≡ extent_at image.now h }
 {
-    read4(image, h)
+    read::<4>(image, h)
 }
 
 // Its kind.
@@ -30,7 +30,7 @@ pub fn kind_at(image: &[u8], h: usize) -> u64
     requires { h + 16 ≤ length image.now }
     ensures { result ≡ kind_at image.now h }
 {
-    read2(image, h + 4)
+    read::<2>(image, h + 4)
 }
 
 // Its type number.
@@ -38,7 +38,7 @@ fn type_at(image: &[u8], h: usize) -> u64
     requires { h + 16 ≤ length image.now }
     ensures { result ≡ type_at image.now h }
 {
-    read2(image, h + 6)
+    read::<2>(image, h + 6)
 }
 
 // The raw size in it, in bytes.
@@ -46,7 +46,7 @@ pub fn size_at(image: &[u8], h: usize) -> u64
     requires { h + 16 ≤ length image.now }
     ensures { result ≡ size_at image.now h }
 {
-    read4(image, h + 8)
+    read::<4>(image, h + 8)
 }
 
 // The number of its cue.
@@ -54,7 +54,7 @@ fn cue_at(image: &[u8], h: usize) -> u64
     requires { h + 16 ≤ length image.now }
     ensures { result ≡ cue_at image.now h }
 {
-    read4(image, h + 12)
+    read::<4>(image, h + 12)
 }
 
 // The fields of the header at h.
@@ -174,11 +174,11 @@ fn write_header(image: &mut [u8], h: usize, extent: u64, kind: u64, ty: u64, siz
     requires { h + 16 ≤ length image.old }
     ensures { image.new ≡ put image.old h (header extent kind ty size cue) }
 {
-    write4(image, h, extent);
-    write2(image, h + 4, kind);
-    write2(image, h + 6, ty);
-    write4(image, h + 8, size);
-    write4(image, h + 12, cue);
+    write::<4>(image, h, extent);
+    write::<2>(image, h + 4, kind);
+    write::<2>(image, h + 6, ty);
+    write::<4>(image, h + 8, size);
+    write::<4>(image, h + 12, cue);
 }
 
 // Writes the header of a free block at h.

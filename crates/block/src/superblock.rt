@@ -4,14 +4,14 @@ ghost use Rattle.block.specs.Bytes.{put};
 ghost use Rattle.block.specs.Layout.{superblock, slot_exponent, stored_total, with_total};
 ghost use Rattle.block.specs.laws.Superblock.{opened};
 
-use super::bytes::{read2, read4, write2, write4};
+use super::bytes::{read, write};
 
 // The slot exponent in the superblock.
 pub fn slot_exponent(image: &[u8]) -> u64
     requires { 16 ≤ length image.now }
     ensures { result ≡ slot_exponent image.now }
 {
-    read2(image, 6)
+    read::<2>(image, 6)
 }
 
 // The slot exponent of any image whose superblock is as laid out.
@@ -25,13 +25,13 @@ pub fn open(image: &[u8]) -> Option<u32>
     if 1073741824 < len {
         return None;
     }
-    if read4(image, 0) != 16 {
+    if read::<4>(image, 0) != 16 {
         return None;
     }
-    if read2(image, 4) != 3 {
+    if read::<2>(image, 4) != 3 {
         return None;
     }
-    if read4(image, 8) != len {
+    if read::<4>(image, 8) != len {
         return None;
     }
     let s = slot_exponent(image);
@@ -50,11 +50,11 @@ pub fn write_superblock(image: &mut [u8], s: u32, total: u64)
     ensures { image.new ≡ put image.old 0 (superblock s (length image.old) total) }
 {
     let len = image.len() as u64;
-    write4(image, 0, 16);
-    write2(image, 4, 3);
-    write2(image, 6, s as u64);
-    write4(image, 8, len);
-    write4(image, 12, total);
+    write::<4>(image, 0, 16);
+    write::<2>(image, 4, 3);
+    write::<2>(image, 6, s as u64);
+    write::<4>(image, 8, len);
+    write::<4>(image, 12, total);
 }
 
 // The free total in the superblock, in bytes: any 32-bit number on a damaged image.
@@ -62,7 +62,7 @@ pub fn stored_total(image: &[u8]) -> u64
     requires { 16 ≤ length image.now }
     ensures { (result ≡ stored_total image.now) × (result < 2 ^ 32) }
 {
-    read4(image, 12)
+    read::<4>(image, 12)
 }
 
 // Writes the free total.
@@ -70,5 +70,5 @@ pub fn write_total(image: &mut [u8], total: u64)
     requires { 16 ≤ length image.old }
     ensures { image.new ≡ with_total image.old total }
 {
-    write4(image, 12, total);
+    write::<4>(image, 12, total);
 }

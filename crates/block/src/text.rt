@@ -3,7 +3,7 @@ ghost use Rattle.std.specs.Prelude.{◌≡◌, ◌+◌, ◌-◌, ◌≤◌, leng
 ghost use Rattle.block.specs.Text.{text_from, text_of};
 ghost use Rattle.block.specs.laws.Text.{any_zero};
 
-use super::bytes::read1;
+use super::bytes::read;
 
 // Whether one of the 2 bytes at `at` is zero; so for more, each from two of half their number. No byte is tested behind a branch: the compiler makes one
 // load and one comparison of all 8.
@@ -11,7 +11,7 @@ fn has_zero2(image: &[u8], at: usize) -> bool
     requires { at + 2 ≤ length image.now }
     ensures { result ≡ any_zero image.now at 2 }
 {
-    (read1(image, at) == 0) | (read1(image, at + 1) == 0)
+    (read::<1>(image, at) == 0) | (read::<1>(image, at + 1) == 0)
 }
 
 // Whether one of the 4 bytes at `at` is zero.
@@ -38,7 +38,7 @@ fn find_bytes(image: &[u8], at: usize, n: usize, passed: usize) -> Option<u64>
 {
     let mut i = passed;
     while i < n {
-        if read1(image, at + i) == 0 {
+        if read::<1>(image, at + i) == 0 {
             return Some(i as u64);
         }
         i += 1;

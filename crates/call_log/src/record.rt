@@ -3,7 +3,7 @@ ghost use Rattle.std.specs.Prelude.{◌+◌, ◌≤◌, true, ◌≡◌, length}
 ghost use Rattle.block.specs.Bytes.{field};
 ghost use Rattle.call_log.specs.Records.{field_bytes, record_length, signed, call_at, good_value, formed_at, next_at};
 
-use block::bytes::{read2, read4, read8};
+use block::bytes::read;
 
 // A call with its arguments. A fill's value has two bytes in the record and one here; a width is handed on untested.
 #[derive(Clone, Copy)]
@@ -64,7 +64,7 @@ fn u16_at(log: &[u8], at: usize) -> u16
     requires { at + 2 ≤ length log.now }
     ensures { result ≡ field log.now at 2 }
 {
-    read2(log, at) as u16
+    read::<2>(log, at) as u16
 }
 
 // The number in 4 bytes.
@@ -72,7 +72,7 @@ fn u32_at(log: &[u8], at: usize) -> u32
     requires { at + 4 ≤ length log.now }
     ensures { result ≡ field log.now at 4 }
 {
-    read4(log, at) as u32
+    read::<4>(log, at) as u32
 }
 
 // Whether a fill value, if the record has one, is a byte. The fields begin at f.
@@ -81,7 +81,7 @@ fn good_value(log: &[u8], kind: u64, f: usize) -> bool
     ensures { result ≡ good_value log.now kind f }
 {
     if kind == 21 {
-        return read2(log, f + 12) <= 255;
+        return read::<2>(log, f + 12) <= 255;
     }
     true
 }
@@ -93,12 +93,24 @@ fn call_at(log: &[u8], kind: u64, f: usize) -> Call
 {
     match kind {
         16 => Call::Allocate(u32_at(log, f), u16_at(log, f + 4)),
-        17 => Call::Free(read8(log, f)),
-        18 => Call::Move(read8(log, f), signed(read8(log, f + 8))),
-        19 => Call::Load(read8(log, f), read2(log, f + 8)),
-        20 => Call::Store(read8(log, f), read2(log, f + 8), read8(log, f + 10)),
-        21 => Call::Fill(read8(log, f), u32_at(log, f + 8), read2(log, f + 12) as u8),
-        _ => Call::Copy(read8(log, f), read8(log, f + 8), u32_at(log, f + 16)),
+        17 => Call::Free(read::<8>(log, f)),
+        18 => Call::Move(read::<8>(log, f), signed(read::<8>(log, f + 8))),
+        19 => Call::Load(read::<8>(log, f), read::<2>(log, f + 8)),
+        20 => Call::Store(
+            read::<8>(log, f),
+            read::<2>(log, f + 8),
+            read::<8>(log, f + 10),
+        ),
+        21 => Call::Fill(
+            read::<8>(log, f),
+            u32_at(log, f + 8),
+            read::<2>(log, f + 12) as u8,
+        ),
+        _ => Call::Copy(
+            read::<8>(log, f),
+            read::<8>(log, f + 8),
+            u32_at(log, f + 16),
+        ),
     }
 }
 
@@ -107,7 +119,7 @@ fn formed_at(log: &[u8], at: usize, len: usize) -> Next
     requires { (4 ≤ len) × (at + len ≤ length log.now) }
     ensures { result ≡ formed_at log.now at len }
 {
-    let kind = read2(log, at + 2);
+    let kind = read::<2>(log, at + 2);
     if kind < 16 {
         return Next::Malformed(Fault::UnknownKind);
     }
@@ -134,7 +146,7 @@ pub fn next_at(log: &[u8], at: usize) -> Next
     if left < 4 {
         return Next::Malformed(Fault::CutShort);
     }
-    let len = read2(log, at) as usize;
+    let len = read::<2>(log, at) as usize;
     if len < 4 {
         return Next::Malformed(Fault::CutShort);
     }

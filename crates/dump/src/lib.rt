@@ -4,7 +4,7 @@
 ghost use Rattle.std.specs.Prelude.{◌≡◌, ◌*◌, length};
 ghost use Rattle.dump.specs.Dump.{table_bytes};
 
-use block::bytes::write8;
+use block::bytes::write;
 
 // Puts the table's entries into `bytes`, 8 bytes each.
 pub fn put_entries(bytes: &mut [u8], table: &[u64])
@@ -14,7 +14,7 @@ pub fn put_entries(bytes: &mut [u8], table: &[u64])
     let mut i = 0;
     while i < table.len() {
         let entry = table[i];
-        write8(bytes, 8 * i, entry);
+        write::<8>(bytes, 8 * i, entry);
         i += 1;
     }
 }

@@ -6,7 +6,7 @@ ghost use Rattle.store.specs.Opened.{seen};
 
 use crate::answer::Refusal;
 use crate::opening::Opened;
-use block::bytes::{read_field, write_field, write1};
+use block::bytes::{read_field, write, write_field};
 
 // The widths that a load or store may have.
 fn good_width(width: u64) -> bool
@@ -80,7 +80,7 @@ pub fn store_byte(image: &mut [u8], table: &[u64], pointer: u64, byte: u8) -> Re
     ensures { outcome result image.new table.now ≡ store pointer 1 byte (state image.old table.now) }
 {
     let at = Opened::new(image, table)?.access(pointer, 1)?;
-    write1(image, at as usize, byte as u64);
+    write::<1>(image, at as usize, byte as u64);
     Ok(0)
 }
 

@@ -6,7 +6,7 @@ ghost use Rattle.call_log.specs.declared.record.Call.TheVariants as call;
 ghost use Rattle.workload.specs.Choice.{call_of};
 
 use crate::choosing::Choice;
-use block::bytes::{write2, write4, write8};
+use block::bytes::write;
 
 // How long the record is.
 pub fn record_length(c: Choice) -> usize
@@ -24,8 +24,8 @@ fn put_head(log: &mut [u8], at: usize, len: u64, kind: u64)
     requires { at + 4 ≤ length log.old }
     ensures { log.new ≡ put log.old at (encode 2 len ++ encode 2 kind) }
 {
-    write2(log, at, len);
-    write2(log, at + 2, kind);
+    write::<2>(log, at, len);
+    write::<2>(log, at + 2, kind);
 }
 
 // Puts the record of an allocation of type 0.
@@ -34,8 +34,8 @@ fn put_allocate(log: &mut [u8], at: usize, size: u32)
     ensures { log.new ≡ put log.old at (record_of (call.Allocate size 0)) }
 {
     put_head(log, at, 10, 16);
-    write4(log, at + 4, size as u64);
-    write2(log, at + 8, 0);
+    write::<4>(log, at + 4, size as u64);
+    write::<2>(log, at + 8, 0);
 }
 
 // Puts the record of a free.
@@ -44,7 +44,7 @@ fn put_free(log: &mut [u8], at: usize, p: u64)
     ensures { log.new ≡ put log.old at (record_of (call.Free p)) }
 {
     put_head(log, at, 12, 17);
-    write8(log, at + 4, p);
+    write::<8>(log, at + 4, p);
 }
 
 // Puts the record of a store of one byte.
@@ -53,9 +53,9 @@ fn put_store(log: &mut [u8], at: usize, p: u64, byte: u8)
     ensures { log.new ≡ put log.old at (record_of (call.Store p 1 byte)) }
 {
     put_head(log, at, 22, 20);
-    write8(log, at + 4, p);
-    write2(log, at + 12, 1);
-    write8(log, at + 14, byte as u64);
+    write::<8>(log, at + 4, p);
+    write::<2>(log, at + 12, 1);
+    write::<8>(log, at + 14, byte as u64);
 }
 
 // Puts the record.

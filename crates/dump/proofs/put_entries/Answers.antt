@@ -8,7 +8,7 @@ loop-i-init c = (omega arith, begun _ _ (omega arith))
 pub loop-i-preserved : goal.loop-i-preserved
 loop-i-preserved c =
     let l = c.loop-i in
-    (omega arith, rw c.write8.ensures (turn l.invariant.1 (omega arith)))
+    (omega arith, rw c.write.ensures (turn l.invariant.1 (omega arith)))
 
 -- all entries are put
 pub returns : goal.returns

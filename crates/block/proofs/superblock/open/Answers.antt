@@ -12,16 +12,16 @@ pub returns-then-len-gt1073741824 : goal.returns-then-len-gt1073741824
 returns-then-len-gt1073741824 c = sym (opened_bad _ (λ p. omega arith))
 
 -- another extent
-pub returns-then-read4-ne16 : goal.returns-then-read4-ne16
-returns-then-read4-ne16 c = sym (opened_bad _ (λ p. omega arith))
+pub returns-then-read-ne16 : goal.returns-then-read-ne16
+returns-then-read-ne16 c = sym (opened_bad _ (λ p. omega arith))
 
 -- another kind
-pub returns-then-read2-ne3 : goal.returns-then-read2-ne3
-returns-then-read2-ne3 c = sym (opened_bad _ (λ p. omega arith))
+pub returns-then-read-ne3 : goal.returns-then-read-ne3
+returns-then-read-ne3 c = sym (opened_bad _ (λ p. omega arith))
 
 -- another length than the image's
-pub returns-then-read4-len : goal.returns-then-read4-len
-returns-then-read4-len c = sym (opened_bad _ (λ p. omega arith))
+pub returns-then-read-len : goal.returns-then-read-len
+returns-then-read-len c = sym (opened_bad _ (λ p. omega arith))
 
 -- a slot exponent that is too low
 pub returns-then-s-lt6 : goal.returns-then-s-lt6

@@ -5,16 +5,16 @@ use borrow.Author.Tests.{eq-eqb, ne_eqb}
 use Rattle.call_log.specs.Records.{field_bytes, good_value}
 use Rattle.call_log.proofs.record.good_value.Goals as goal
 
-pub read2-requires : goal.read2-requires
+pub read-requires : goal.read-requires
 unfolding field_bytes
-read2-requires c =
+read-requires c =
     let e : field_bytes c.args.kind ≡ 14 = ap field_bytes c.if-kind-eq21.true in
     omega (arith, c.requires)
 
 -- a fill
 pub returns-then-kind-eq21 : goal.returns-then-kind-eq21
 unfolding good_value
-returns-then-kind-eq21 c = rw (c.read2.ensures, eq-eqb _ _ c.if-kind-eq21.true) refl
+returns-then-kind-eq21 c = rw (c.read.ensures, eq-eqb _ _ c.if-kind-eq21.true) refl
 
 -- another kind
 pub returns : goal.returns

@@ -14,14 +14,14 @@ returns-then-left-lt4 c = few_left _ _ c.if-log-at.false c.if-left-lt4.true
 
 -- 17: the length is under 4
 pub returns-then-len-lt4 : goal.returns-then-len-lt4
-returns-then-len-lt4 c = too_short _ _ c.if-log-at.false _ c.read2-len.ensures c.if-left-lt4.false c.if-len-lt4.true
+returns-then-len-lt4 c = too_short _ _ c.if-log-at.false _ c.read-len.ensures c.if-left-lt4.false c.if-len-lt4.true
 
 -- 17: it exceeds what remains
 pub returns-then-left-len : goal.returns-then-left-len
-returns-then-left-len c = too_long _ _ c.if-log-at.false _ c.read2-len.ensures c.if-left-lt4.false c.if-len-lt4.false c.if-left-len.true
+returns-then-left-len c = too_long _ _ c.if-log-at.false _ c.read-len.ensures c.if-left-lt4.false c.if-len-lt4.false c.if-left-len.true
 
 -- 18, 19 or a record
 pub returns : goal.returns
 returns c =
     c.formed_at.ensures
-    ∙ not_cut _ _ c.if-log-at.false _ c.read2-len.ensures c.if-left-lt4.false c.if-len-lt4.false c.if-left-len.false
+    ∙ not_cut _ _ c.if-log-at.false _ c.read-len.ensures c.if-left-lt4.false c.if-len-lt4.false c.if-left-len.false
