@@ -3,32 +3,23 @@
 use Prim.Native.Nat.{ℕ, zero, suc, ◌+◌, ◌-◌, ◌^◌, ◌≤◌, ◌<◌}
 use mathlib.Core.Path.{◌≡◌, refl, sym, ap, ◌∙◌, subst}
 use mathlib.Core.List.{List, [], ◌∷◌, ◌++◌, append_assoc}
-use mathlib.Core.Option.{Option, none, some}
 use native.Mathlib.Nat.{add-zero}
 use native.Mathlib.Omega.{arith}
 use lib.ListN.{length, drop, length-append, length-drop, drop_of_length-le}
 use lib.Dec.{eqb, ltb, leb}
 use borrow.Author.Tests.{ltb-true, ltb-false, leb-true, eqb-true, eqb-false}
+use Rattle.std.specs.Prelude.{Some, None, Ok, Err}
 use Rattle.block.specs.Bytes.{encode, field, Bytes}
 use Rattle.block.specs.laws.Booleans.{by_bool, and_left, and_right}
 use Rattle.block.specs.laws.Fields.{field_bound, field_stands}
-use Rattle.call_log.specs.Records.{kind_of, field_bytes, record_length, signed, call_at, next_at, Records, records_from}
+use Rattle.call_log.specs.Records.{kind_of, field_bytes, record_length, signed, call_at, Next, next_at, Records, records_from}
 use Rattle.call_log.specs.Written.{Field, encode_all, unsigned, fields_of, record_of, log_of}
 use Rattle.call_log.specs.Claims.{Exact}
 use Rattle.call_log.specs.laws.Records.{Formed, next_formed, next-behind, end_past, records-next}
 use Rattle.call_log.specs.laws.Written.{record_parts}
 use Rattle.call_log.specs.declared.record.Call.{Call}
 use Rattle.call_log.specs.declared.record.Fault.{Fault}
-use Rattle.call_log.specs.declared.record.Next.{Next}
-use Rattle.call_log.specs.declared.record.Next.TheVariants.{End, Record, Malformed}
 use Rattle.call_log.proofs.Reading.{signed_low, signed_high}
-
--- faults, or none
-some_none : (f : Fault) → ◌≡◌ {A = Option Fault} (some f) none → ⊥
-some_none f e = let z : ◌≡◌ {A = ℕ} 0 1 = cc in omega arith
-
-some_same : (f g : Fault) → ◌≡◌ {A = Option Fault} (some f) (some g) → f ≡ g
-some_same f g e = cc e
 
 -- two's complement back and there
 unsigned_back : (n : ℕ) → n < 2 ^ 64 → unsigned (signed n) ≡ n
@@ -130,31 +121,31 @@ module _ (log : List ℕ) (bytes : Bytes log) where
   record ExactFrom (at : ℕ) : Type 0 where
     behind : List ℕ
     is : drop at log ≡ log_of (records_from log at).calls ++ behind
-    whole : (records_from log at).fault ≡ none → behind ≡ []
-    malformed : (f : Fault) → (records_from log at).fault ≡ some f → next_at log (at + length (log_of (records_from log at).calls)) ≡ Malformed f
+    whole : (records_from log at).fault ≡ None → behind ≡ []
+    malformed : (f : Fault) → (records_from log at).fault ≡ Some f → next_at log (at + length (log_of (records_from log at).calls)) ≡ Some (Err f)
 
   exact_at : (at : ℕ) (next : Next) → next_at log at ≡ next → ((n : ℕ) → at < n → n ≤ length log → ExactFrom n) → ExactFrom at
   unfolding log_of
-  exact_at at End e rest = record {
+  exact_at at None e rest = record {
     behind = drop at log;
-    is = rw (records-next log at End e) refl;
+    is = rw (records-next log at None e) refl;
     whole = λ z. drop_of_length-le log (end_past log at e);
-    malformed = λ f z. absurd (some_none f (sym z ∙ ap (λ (r : Records). r.fault) (records-next log at End e)));
+    malformed = λ f z. let y = sym z ∙ ap (λ (r : Records). r.fault) (records-next log at None e) in cc;
   }
-  exact_at at (Malformed f) e rest =
-      let holds = records-next log at (Malformed f) e in
-      let fault : (records_from log at).fault ≡ some f = ap (λ (r : Records). r.fault) holds in record {
+  exact_at at (Some (Err f)) e rest =
+      let holds = records-next log at (Some (Err f)) e in
+      let fault : (records_from log at).fault ≡ Some f = ap (λ (r : Records). r.fault) holds in record {
         behind = drop at log;
         is = rw holds refl;
-        whole = λ z. absurd (some_none f (sym fault ∙ z));
+        whole = λ z. absurd (cc);
         malformed = λ g z.
-            let same : f ≡ g = some_same f g (sym fault ∙ z) in
-            rw holds (rw (add-zero at) (e ∙ ap Malformed same));
+            let same : f ≡ g = cc in
+            rw holds (rw (add-zero at) (e ∙ ap (λ (h : Fault). Some (Err h)) same));
       }
-  exact_at at (Record c n) e rest =
+  exact_at at (Some (Ok (c, n))) e rest =
       let (later, inside) = next-behind log at c n e in
       let r = rest n (omega arith) inside in
-      let holds = records-next log at (Record c n) e in
+      let holds = records-next log at (Some (Ok (c, n))) e in
       let fault : (records_from log at).fault ≡ (records_from log n).fault = ap (λ (s : Records). s.fault) holds in
       let calls : List Call = (records_from log n).calls in
       let stands : drop at log ≡ record_of c ++ drop n log = record_stands at c n (next_formed log at c n e) in
