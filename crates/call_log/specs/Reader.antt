@@ -1,11 +1,9 @@
 -- What the reader gives, call by call. Assumes nothing.
-use Rattle.std.specs.Prelude.{ℕ, ◌≡◌, false, length, Option, Some, None, Result, Ok, Err}
-use Rattle.call_log.specs.Records.{kind_number, known_kind, Next, next_at}
+use Rattle.std.specs.Prelude.{ℕ, ◌≡◌, length, Option, Some, None, Result, Ok, Err}
+use Rattle.call_log.specs.Records.{Next, next_at}
 use Rattle.call_log.specs.declared.reader.Reader.{Reader}
 use Rattle.call_log.specs.declared.record.Call.{Call}
 use Rattle.call_log.specs.declared.record.Fault.{Fault}
-use Rattle.call_log.specs.declared.record.Fault.TheVariants.{UnknownKind}
-use Rattle.call_log.specs.declared.record.Kind.{Kind}
 
 -- the item for what the log has at the position
 abbrev pub item : Next → Option (Result Call Fault)
@@ -24,8 +22,3 @@ pub record GivesNext (s : Reader) (r : Option (Result Call Fault)) (t : Reader) 
   pub gives : r ≡ item (next_at s.log.now s.at)
   pub position : t.at ≡ position_after (next_at s.log.now s.at) s.at (length s.log.now)
   pub same_log : t.log ≡ s.log
-
--- the kind with a number, or row 18
-abbrev pub KindWith : ℕ → Result Kind Fault → Type 0
-KindWith n (Ok k) = kind_number k ≡ n
-KindWith n (Err f) = (known_kind n ≡ false) × (f ≡ UnknownKind)

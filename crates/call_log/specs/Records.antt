@@ -1,6 +1,6 @@
 -- The records of a call log, as they are read: document 02, W2. A record is its length (2 bytes, the whole record), its kind (2 bytes) and its fields;
 -- all little-endian. Assumes nothing.
-use Rattle.std.specs.Prelude.{ℕ, zero, suc, ◌+◌, ◌-◌, ◌^◌, Bool, cond, not, ◌&&◌, ◌||◌, List, [], ◌∷◌, length, leb, ltb, eqb, ℤ, pos, negsuc, Option, Some, None, Result, Ok, Err}
+use Rattle.std.specs.Prelude.{ℕ, zero, suc, ◌+◌, ◌-◌, ◌^◌, ◌≡◌, Bool, false, cond, not, ◌&&◌, ◌||◌, List, [], ◌∷◌, length, leb, ltb, eqb, ℤ, pos, negsuc, Option, Some, None, Result, Ok, Err}
 use Rattle.block.specs.Bytes.{field}
 use Rattle.block.specs.Layout.{within}
 use Rattle.call_log.specs.declared.record.Call.{Call}
@@ -31,6 +31,11 @@ kind_number kind.Load = 19
 kind_number kind.Store = 20
 kind_number kind.Fill = 21
 kind_number kind.Copy = 22
+
+-- the kind with a number; any other number is row 18
+abbrev pub KindWith : ℕ → Result Kind Fault → Type 0
+KindWith n (Ok k) = kind_number k ≡ n
+KindWith n (Err f) = (known_kind n ≡ false) × (f ≡ UnknownKind)
 
 -- the kind of a call's record
 abbrev pub kind_of : Call → ℕ

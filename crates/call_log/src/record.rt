@@ -1,8 +1,7 @@
 // What a log has at a position.
 ghost use Rattle.std.specs.Prelude.{◌+◌, ◌<◌, ◌≤◌, ◌≡◌, length};
 ghost use Rattle.block.specs.Bytes.{field};
-ghost use Rattle.call_log.specs.Records.{kind_number, kind_of, field_bytes, record_length, call_at, good_value, insist, formed_at, next_at};
-ghost use Rattle.call_log.specs.Reader.{KindWith};
+ghost use Rattle.call_log.specs.Records.{kind_number, KindWith, kind_of, field_bytes, record_length, call_at, good_value, insist, formed_at, next_at};
 
 use block::bytes::{read2, read4, read8};
 

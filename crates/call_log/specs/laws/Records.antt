@@ -1,13 +1,16 @@
 -- Laws of reading a log: where the record that is read ends, and what a log holds from a position on. Assumes nothing.
 use Prim.Native.Nat.{ℕ, zero, suc, ◌+◌, ◌-◌, ◌≤◌, ◌<◌}
 use Rattle.std.specs.Prelude.{◌≡◌, Bool, true, false, cond, ◌&&◌, List, length, leb, eqb, Some, None, Result, Ok, Err}
-use Rattle.std.proofs.Math.Path.{refl, ap}
+use Rattle.std.proofs.Math.Path.{refl, sym, ap}
+use Rattle.std.proofs.lemmas.Bool.Decides.{nat_tests}
 use Rattle.std.proofs.Common.{◌∙◌, arith, leb-true, eqb-true, eq-eqb}
 use Rattle.block.specs.Bytes.{field}
 use Rattle.block.specs.laws.Booleans.{by_bool, and_left, and_right}
-use Rattle.call_log.specs.Records.{known_kind, field_bytes, record_length, call_at, good_value, insist, formed_at, Next, next_at, Records, followed, records_in, records_from}
+use Rattle.call_log.specs.Records.{kind_number, known_kind, field_bytes, record_length, call_at, good_value, insist, formed_at, Next, next_at, Records, followed, records_in, records_from}
 use Rattle.call_log.specs.declared.record.Call.{Call}
 use Rattle.call_log.specs.declared.record.Fault.{Fault}
+use Rattle.call_log.specs.declared.record.Kind.{Kind}
+use Rattle.call_log.specs.declared.record.Kind.TheVariants as kind
 use Rattle.call_log.specs.declared.record.Fault.TheVariants.{CutShort, UnknownKind, BadFields}
 
 -- a record is read only where the test holds
@@ -23,13 +26,19 @@ not_ended false r x e = cc
 -- no fields are shorter than an allocate's
 pub fields_least : (kind : ℕ) → 6 ≤ field_bytes kind
 unfolding field_bytes
-fields_least kind =
-    by_bool (eqb kind 16) (λ t. rw t (omega arith)) (λ a.
-    by_bool (eqb kind 17) (λ t. rw (a, t) (omega arith)) (λ b.
-    by_bool (eqb kind 18) (λ t. rw (a, b, t) (omega arith)) (λ c.
-    by_bool (eqb kind 19) (λ t. rw (a, b, c, t) (omega arith)) (λ d.
-    by_bool (eqb kind 20) (λ t. rw (a, b, c, d, t) (omega arith)) (λ e.
-    by_bool (eqb kind 21) (λ t. rw (a, b, c, d, e, t) (omega arith)) (λ f. rw (a, b, c, d, e, f) (omega arith)))))))
+fields_least kind = grind (arith, nat_tests)
+
+-- a known kind is one of the seven
+pub kind_with : (n : ℕ) → known_kind n ≡ true → (k : Kind) × (kind_number k ≡ n)
+kind_with n known =
+    let low : 16 ≤ n = leb-true _ _ (and_left _ (leb n 22) known) in
+    let high : n ≤ 22 = leb-true _ _ (and_right (leb 16 n) _ known) in
+    by_bool (eqb n 16) (λ t. (kind.Allocate, sym (eqb-true n 16 t))) (λ a.
+    by_bool (eqb n 17) (λ t. (kind.Free, sym (eqb-true n 17 t))) (λ b.
+    by_bool (eqb n 18) (λ t. (kind.Move, sym (eqb-true n 18 t))) (λ c.
+    by_bool (eqb n 19) (λ t. (kind.Load, sym (eqb-true n 19 t))) (λ d.
+    by_bool (eqb n 20) (λ t. (kind.Store, sym (eqb-true n 20 t))) (λ e.
+    by_bool (eqb n 21) (λ t. (kind.Fill, sym (eqb-true n 21 t))) (λ f. (kind.Copy, grind (arith, nat_tests))))))))
 
 -- What is known of a record that is read: its kind, its length, where it ends, and its call.
 pub record Formed (log : List ℕ) (at : ℕ) (c : Call) (n : ℕ) : Type 0 where
