@@ -1,16 +1,5 @@
 -- The claims of logs. A record is read back field by field, each behind the one before it; a log, record by record. Assumes nothing.
-use Prim.Native.Nat.{ℕ, ◌+◌, ◌-◌, ◌^◌, ◌<◌}
-use mathlib.Core.Path.{◌≡◌, refl, sym, ap, ◌∙◌}
-use mathlib.Core.Bool.{true}
-use mathlib.Core.List.{List, [], ◌∷◌, ◌++◌, append_assoc, append-nil}
-use native.Mathlib.Nat.{add-zero}
-use native.Mathlib.Omega.{arith}
-use lib.ListN.{length, take, drop, length-append, length-drop}
-use lib.Seq.{take_at, drop_at, drop-drop}
-use lib.Dec.{ltb}
-use lib.IntN.{pos, negsuc}
-use borrow.Author.Tests.{ltb-true, le-leb}
-use Rattle.std.specs.Prelude.{Option, Some, None, Ok, Err}
+use Rattle.std.proofs.Common.{ℕ, ◌+◌, ◌-◌, ◌^◌, ◌<◌, ◌≡◌, refl, sym, ap, ◌∙◌, true, List, [], ◌∷◌, ◌++◌, append_assoc, append-nil, add-zero, arith, length, take, drop, length-append, length-drop, take_at, drop_at, drop-drop, ltb, pos, negsuc, ltb-true, le-leb, Option, Some, None, Ok, Err}
 use Rattle.block.specs.Bytes.{encode, decode, field}
 use Rattle.block.specs.laws.Booleans.{and_left, and_right}
 use Rattle.block.specs.laws.Fields.{length-encode, decode-encode, field_bytes_lem}
@@ -111,7 +100,8 @@ records-read_back log at c behind ok e =
     let left : length log - at ≡ len + length behind =
     sym (length-drop at log) ∙ ap length e ∙ length-append (record_of c) behind ∙ ap (λ (n : ℕ). n + length behind) (length_record c) in
     not_cut log at len (sym (field-read log at 2 len _ at_length (omega arith))) (omega arith) (omega arith)
-    ∙ ap Some (well_formed_lem log at len kind (field-read log (at + 2) 2 kind _ at-kind (omega (arith, m.high))) m.known refl (value_read log (at + 4) c range r))
+    ∙ ap Some
+    (well_formed_lem log at len kind (field-read log (at + 2) 2 kind _ at-kind (omega (arith, m.high))) m.known refl (value_read log (at + 4) c range r))
     ∙ ap (λ (k : Call). Some (Ok (k, at + len))) (call_read log (at + 4) c range r)
     ∙ ap (λ (n : ℕ). Some (Ok (c, at + n))) (sym (length_record c))
 

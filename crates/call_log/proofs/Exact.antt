@@ -1,14 +1,6 @@
 -- Every log of bytes is the log of its calls, with nothing behind it or a malformed record: a record that is read is that of its call, byte for byte.
 -- Assumes nothing.
-use Prim.Native.Nat.{ℕ, zero, suc, ◌+◌, ◌-◌, ◌^◌, ◌≤◌, ◌<◌}
-use mathlib.Core.Path.{◌≡◌, refl, sym, ap, ◌∙◌, subst}
-use mathlib.Core.List.{List, [], ◌∷◌, ◌++◌, append_assoc}
-use native.Mathlib.Nat.{add-zero}
-use native.Mathlib.Omega.{arith}
-use lib.ListN.{length, drop, length-append, length-drop, drop_of_length-le}
-use lib.Dec.{ltb}
-use borrow.Author.Tests.{ltb-true, ltb-false}
-use Rattle.std.specs.Prelude.{Some, None, Ok, Err}
+use Rattle.std.proofs.Common.{ℕ, zero, suc, ◌+◌, ◌-◌, ◌^◌, ◌≤◌, ◌<◌, ◌≡◌, refl, sym, ap, ◌∙◌, subst, List, [], ◌∷◌, ◌++◌, append_assoc, add-zero, arith, length, drop, length-append, length-drop, drop_of_length-le, ltb, ltb-true, ltb-false, Some, None, Ok, Err}
 use Rattle.block.specs.Bytes.{encode, field, Bytes}
 use Rattle.block.specs.laws.Booleans.{by_bool}
 use Rattle.block.specs.laws.Fields.{field_bound, field_stands}

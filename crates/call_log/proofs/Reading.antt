@@ -1,16 +1,5 @@
 -- A signed number, and a record that is read, over plain values. Assumes nothing.
-use Prim.Native.Nat.{ℕ, ◌+◌, ◌-◌, ◌^◌, ◌≤◌, ◌<◌}
-use mathlib.Core.Path.{◌≡◌, refl, sym, ap}
-use mathlib.Core.Bool.{true}
-use mathlib.Core.List.{List}
-use native.Mathlib.Omega.{arith}
-use lib.Dec.{ltb}
-use lib.ListN.{length}
-use lib.IntN.{pos, negsuc}
-use mir.Syntax.{w64}
-use mir.Val.{to_z}
-use borrow.Author.Tests.{eq-eqb, ne_eqb, le-leb, lt-ltb, le-ltb}
-use Rattle.std.specs.Prelude.{Some, Ok}
+use Rattle.std.proofs.Common.{ℕ, ◌+◌, ◌-◌, ◌^◌, ◌≤◌, ◌<◌, ◌≡◌, refl, sym, ap, true, List, arith, ltb, length, pos, negsuc, w64, to_z, eq-eqb, ne_eqb, le-leb, lt-ltb, le-ltb, Some, Ok}
 use Rattle.block.specs.Bytes.{field}
 use Rattle.block.specs.laws.Booleans.{by_bool}
 use Rattle.call_log.specs.Records.{known_kind, record_length, signed, call_at, good_value, formed_at, next_at}

@@ -1,17 +1,9 @@
 -- Text put into a buffer, piece by piece. In order: pieces; hexadecimal digits; decimal digits; the numbers of kinds, refusals and malformed records.
 -- Assumes nothing.
-use Prim.Native.Nat.{ℕ, zero, suc, ◌+◌, ◌*◌, ◌/◌, ◌%◌, ◌^◌, ◌≤◌, ◌<◌}
-use mathlib.Core.Path.{◌≡◌, refl, sym, ap, ◌∙◌, subst}
-use mathlib.Core.List.{List, [], ◌∷◌, ◌++◌, append_assoc, append-nil}
-use native.Mathlib.Nat.{mod-eq_of_lt, pow-suc}
-use native.Mathlib.Omega.{arith}
-use lib.Dec.{ltb}
-use lib.ListN.{length, length-append}
-use borrow.Author.Tests.{lt-ltb, le-ltb, ltb-true, ltb-false}
+use Rattle.std.proofs.Common.{ℕ, zero, suc, ◌+◌, ◌*◌, ◌/◌, ◌%◌, ◌^◌, ◌≤◌, ◌<◌, ◌≡◌, refl, sym, ap, ◌∙◌, subst, List, [], ◌∷◌, ◌++◌, append_assoc, append-nil, mod-eq_of_lt, pow-suc, arith, length, length-append, lt-ltb, le-ltb}
 use denote.Enum.Declared.{tag_of}
 use Rattle.std.proofs.lemmas.Nat.{pow-add}
 use Rattle.block.specs.Bytes.{put}
-use Rattle.block.specs.laws.Booleans.{by_bool}
 use Rattle.block.specs.laws.Writes.{put_nil, put-append}
 use Rattle.store.specs.State.{returned}
 use Rattle.store.specs.laws.Refusals.{refusal_range}
@@ -35,7 +27,9 @@ puts_none s = record { text = sym (put_nil _ _); position = omega arith; same_le
 -- two pieces, one behind the other, are one
 pub puts_next : {s t u : Text} {a b : List ℕ} → Puts s a t → Puts t b u → u.at ≤ length u.buffer.now → Puts s (a ++ b) u
 puts_next {s} {t} {u} {a} {b} p q room = record {
-  text = q.text ∙ ap (λ (x : List ℕ). put x t.at b) p.text ∙ put-append s.buffer.now s.at a b t.at (sym p.position) (omega (arith, p.same_length, q.same_length, q.position));
+  text =
+      q.text ∙ ap (λ (x : List ℕ). put x t.at b) p.text
+      ∙ put-append s.buffer.now s.at a b t.at (sym p.position) (omega (arith, p.same_length, q.same_length, q.position));
   position = q.position ∙ simp length-append (omega (arith, p.position));
   same_length = q.same_length ∙ p.same_length;
   same_buffer = q.same_buffer ∙ p.same_buffer;
@@ -80,7 +74,10 @@ all_put {s} {t} {v} p =
     subst (λ (x : List ℕ). Puts s x t) all p.puts
 
 -- the next one is put
-pub digit_put : {s t u : Text} {v k d : ℕ} → Putting s v (suc k) t → d ≡ digit (v / 2 ^ (4 * k) % 16) → Puts t (d ∷ []) u → u.at ≤ length u.buffer.now → Putting s v k u
+pub digit_put :
+    {s t u : Text} {v k d : ℕ}
+    → Putting s v (suc k) t → d ≡ digit (v / 2 ^ (4 * k) % 16) → Puts t (d ∷ []) u → u.at ≤ length u.buffer.now
+    → Putting s v k u
 digit_put {v = v} {k} {d} p e q room = record {
   piece = p.piece ++ (d ∷ []);
   puts = puts_next p.puts q room;
@@ -103,12 +100,6 @@ pub decimal_two : (n : ℕ) → 10 ≤ n → n < 100 → decimal n ≡ digit (n 
 unfolding decimal decimal_in
 decimal_two zero h l = absurd (omega arith)
 decimal_two (suc k) h l = rw (le-ltb (suc k) 10 h, decimal_in, one_digit k (suc k / 10) (omega arith)) refl
-
-pub length-decimal : (n : ℕ) → n < 100 → (1 ≤ length (decimal n)) × (length (decimal n) ≤ 2)
-length-decimal n l =
-    by_bool (ltb n 10)
-    (λ t. let e : length (decimal n) ≡ 1 = ap length (decimal_one n (ltb-true _ _ t)) in (omega arith, omega arith))
-    (λ t. let e : length (decimal n) ≡ 2 = ap length (decimal_two n (ltb-false _ _ t) l) in (omega arith, omega arith))
 
 -- the numbers of kinds, refusals and malformed records are below 100
 

@@ -1,13 +1,6 @@
 -- The turns of the loop that runs a log: what the rest of the run prints and leaves, by what the reader gives next. Assumes nothing.
-use Prim.Native.Nat.{ℕ, ◌+◌, ◌*◌, ◌≤◌, ◌<◌}
-use mathlib.Core.Path.{◌≡◌, refl, sym, ap, ◌∙◌}
-use mathlib.Core.List.{List, [], ◌++◌, append_assoc, append-nil}
-use native.Mathlib.Omega.{arith}
-use lib.ListN.{length, take}
-use denote.Ref.{Bor}
-use Rattle.std.proofs.Common.{⊎_elim}
+use Rattle.std.proofs.Common.{ℕ, ◌+◌, ◌*◌, ◌≤◌, ◌<◌, ◌≡◌, refl, sym, ap, ◌∙◌, List, [], ◌++◌, append_assoc, append-nil, arith, length, take, Bor, ⊎_elim, Some, None, Result, Ok, Err}
 use Rattle.std.proofs.str.Laws.{order}
-use Rattle.std.specs.Prelude.{Some, None, Result, Ok, Err}
 use Rattle.block.specs.Bytes.{put}
 use Rattle.block.specs.laws.Writes.{take-put-end}
 use Rattle.store.specs.State.{State, state, Outcome, outcome, returned, value}
@@ -79,89 +72,80 @@ pub record Running (log : List ℕ) (start : State) (begun : Text) (r : Reader) 
   pub prints : take t.at t.buffer.now ++ printed (run_of (records_from log r.at) x) ≡ printed (run_over log start)
   pub leaves : (run_of (records_from log r.at) x).after ≡ (run_over log start).after
 
--- at first nothing is read, and nothing put
-pub not-begun : (log : List ℕ) (start : State) (t : Text) (r : Reader) → r.log.now ≡ log → r.at ≡ 0 → t.at ≡ 0 → Running log start t r t start
-not-begun log start t r l a z = record {
-  same_log = l;
-  same_length = refl;
-  same_buffer = refl;
-  short = λ i. omega arith;
-  room = omega arith;
-  prints = rw (a, z) refl;
-  leaves = rw a refl;
-}
+module _
+    {log : List ℕ} {start x : State} {begun t : Text} {r r' : Reader}
+    (run : Running log start begun r t x) (fits : text_room (length log) ≤ length begun.buffer.now)
+  where
+    -- the log is used up
+    pub ended : GivesNext r None r' → (take t.at t.buffer.now ≡ printed (run_over log start)) × (x ≡ (run_over log start).after)
+    ended g =
+        let none : next_at log r.at ≡ None = given_end _ (rw run.same_log at g.gives) in
+        let (p, a) = run_ended log r.at x none in
+        (sym (append-nil (take t.at t.buffer.now)) ∙ ap (λ (u : List ℕ). take t.at t.buffer.now ++ u) (sym p) ∙ run.prints, sym a ∙ run.leaves)
 
-module _ {log : List ℕ} {start x : State} {begun t : Text} {r r' : Reader} (run : Running log start begun r t x) (fits : text_room (length log) ≤ length begun.buffer.now) where
-  -- the log is used up
-  pub ended : GivesNext r None r' → (take t.at t.buffer.now ≡ printed (run_over log start)) × (x ≡ (run_over log start).after)
-  ended g =
-      let none : next_at log r.at ≡ None = given_end _ (rw run.same_log at g.gives) in
-      let (p, a) = run_ended log r.at x none in
-      (sym (append-nil (take t.at t.buffer.now)) ∙ ap (λ (u : List ℕ). take t.at t.buffer.now ++ u) (sym p) ∙ run.prints, sym a ∙ run.leaves)
+    -- the line of a malformed record fits, and nothing is left behind it
+    module _ (f : Fault) (g : GivesNext r (Some (Err f)) r') where
+      faulty : next_at log r.at ≡ Some (Err f)
+      faulty = given_fault _ f (rw run.same_log at g.gives)
 
-  -- the line of a malformed record fits, and nothing is left behind it
-  module _ (f : Fault) (g : GivesNext r (Some (Err f)) r') where
-    faulty : next_at log r.at ≡ Some (Err f)
-    faulty = given_fault _ f (rw run.same_log at g.gives)
+      pub fault_fits : t.at + 7 ≤ length t.buffer.now
+      fault_fits =
+          let inside : r.at < length log = not_past log r.at _ faulty in
+          omega (arith, run.short inside, run.same_length)
 
-    pub fault_fits : t.at + 7 ≤ length t.buffer.now
-    fault_fits =
-        let inside : r.at < length log = not_past log r.at _ faulty in
-        omega (arith, run.short inside, run.same_length)
+      pub broken : (u : Text) → Puts t (fault_line f) u → u.at ≤ t.at + 7 → Running log start begun r' u x
+      broken u p few =
+          let inside : r.at < length log = not_past log r.at _ faulty in
+          let short = run.short inside in
+          let at-end : r'.at ≡ length log = rw (run.same_log, faulty) at g.position in
+          let front : List ℕ = take t.at t.buffer.now in
+          let rest : List ℕ = printed (run_of (records_from log r'.at) x) in
+          let (line, left) = run_broken log r.at x f faulty in
+          let (none, left') = run_ended log r'.at x (next-end log r'.at (omega arith)) in
+          record {
+            same_log = ap (λ (l : Bor (List ℕ)). l.now) g.same_log ∙ run.same_log;
+            same_length = p.same_length ∙ run.same_length;
+            same_buffer = p.same_buffer ∙ run.same_buffer;
+            short = λ i. absurd (omega arith);
+            room = omega arith;
+            prints =
+                ap (λ (v : List ℕ). v ++ rest) (put-behind p (omega (arith, fault_fits, p.same_length)))
+                ∙ ap (λ (v : List ℕ). front ++ fault_line f ++ v) none ∙ append-nil (front ++ fault_line f)
+                ∙ ap (λ (v : List ℕ). front ++ v) (sym line) ∙ run.prints;
+            leaves = left' ∙ sym left ∙ run.leaves;
+          }
 
-    pub broken : (u : Text) → Puts t (fault_line f) u → u.at ≤ t.at + 7 → Running log start begun r' u x
-    broken u p few =
-        let inside : r.at < length log = not_past log r.at _ faulty in
-        let short = run.short inside in
-        let at-end : r'.at ≡ length log = rw (run.same_log, faulty) at g.position in
-        let front : List ℕ = take t.at t.buffer.now in
-        let rest : List ℕ = printed (run_of (records_from log r'.at) x) in
-        let (line, left) = run_broken log r.at x f faulty in
-        let (none, left') = run_ended log r'.at x (next-end log r'.at (omega arith)) in
-        record {
-          same_log = ap (λ (l : Bor (List ℕ)). l.now) g.same_log ∙ run.same_log;
-          same_length = p.same_length ∙ run.same_length;
-          same_buffer = p.same_buffer ∙ run.same_buffer;
-          short = λ i. absurd (omega arith);
-          room = omega arith;
-          prints =
-              ap (λ (v : List ℕ). v ++ rest) (put-behind p (omega (arith, fault_fits, p.same_length)))
-              ∙ ap (λ (v : List ℕ). front ++ fault_line f ++ v) none ∙ append-nil (front ++ fault_line f)
-              ∙ ap (λ (v : List ℕ). front ++ v) (sym line) ∙ run.prints;
-          leaves = left' ∙ sym left ∙ run.leaves;
-        }
+    -- the line of a call fits, and the rest is left
+    module _ (c : Call) (g : GivesNext r (Some (Ok c)) r') where
+      found : next_at log r.at ≡ Some (Ok (c, r'.at))
+      found =
+          let position : r'.at ≡ position_after (next_at log r.at) r.at (length log) = rw run.same_log at g.position in
+          given_record _ r.at (length log) c (rw run.same_log at g.gives) ∙ ap (λ (n : ℕ). Some (Ok (c, n))) (sym position)
 
-  -- the line of a call fits, and the rest is left
-  module _ (c : Call) (g : GivesNext r (Some (Ok c)) r') where
-    found : next_at log r.at ≡ Some (Ok (c, r'.at))
-    found =
-        let position : r'.at ≡ position_after (next_at log r.at) r.at (length log) = rw run.same_log at g.position in
-        given_record _ r.at (length log) c (rw run.same_log at g.gives) ∙ ap (λ (n : ℕ). Some (Ok (c, n))) (sym position)
+      pub line_fits : t.at + 23 ≤ length t.buffer.now
+      line_fits =
+          let (later, inside) = next-behind log r.at c r'.at found in
+          omega (arith, run.short (omega (arith, later, inside)), run.same_length, later, inside)
 
-    pub line_fits : t.at + 23 ≤ length t.buffer.now
-    line_fits =
-        let (later, inside) = next-behind log r.at c r'.at found in
-        omega (arith, run.short (omega (arith, later, inside)), run.same_length, later, inside)
-
-    pub went_on :
-        (a : Answer) (image table : List ℕ) (kind : ℕ) (u : Text) → outcome a image table ≡ made c x → kind ≡ kind_of c
-        → Puts t (line_of kind (returned a) (value a)) u → u.at ≤ t.at + 23 → Running log start begun r' u (state image table)
-    went_on a image table kind u o k put few =
-        let line : List ℕ = answer_line (answered_by c x) in
-        let p : Puts t line u = rw (k, ap (λ (v : Outcome). v.answer) o) at put in
-        let (later, inside) = next-behind log r.at c r'.at found in
-        let short = run.short (omega (arith, later, inside)) in
-        let front : List ℕ = take t.at t.buffer.now in
-        let rest : List ℕ = printed (run_of (records_from log r'.at) (made c x).after) in
-        let (printed_next, left) = run_next log r.at x c r'.at found in
-        rw (ap (λ (v : Outcome). v.after) o) (record {
-          same_log = ap (λ (l : Bor (List ℕ)). l.now) g.same_log ∙ run.same_log;
-          same_length = p.same_length ∙ run.same_length;
-          same_buffer = p.same_buffer ∙ run.same_buffer;
-          short = λ i. omega arith;
-          room = omega arith;
-          prints =
-              ap (λ (v : List ℕ). v ++ rest) (put-behind p (omega (arith, line_fits, p.same_length)))
-              ∙ append_assoc front line rest ∙ ap (λ (v : List ℕ). front ++ v) (sym printed_next) ∙ run.prints;
-          leaves = sym left ∙ run.leaves;
-        })
+      pub went_on :
+          (a : Answer) (image table : List ℕ) (kind : ℕ) (u : Text) → outcome a image table ≡ made c x → kind ≡ kind_of c
+          → Puts t (line_of kind (returned a) (value a)) u → u.at ≤ t.at + 23 → Running log start begun r' u (state image table)
+      went_on a image table kind u o k put few =
+          let line : List ℕ = answer_line (answered_by c x) in
+          let p : Puts t line u = rw (k, ap (λ (v : Outcome). v.answer) o) at put in
+          let (later, inside) = next-behind log r.at c r'.at found in
+          let short = run.short (omega (arith, later, inside)) in
+          let front : List ℕ = take t.at t.buffer.now in
+          let rest : List ℕ = printed (run_of (records_from log r'.at) (made c x).after) in
+          let (printed_next, left) = run_next log r.at x c r'.at found in
+          rw (ap (λ (v : Outcome). v.after) o) (record {
+            same_log = ap (λ (l : Bor (List ℕ)). l.now) g.same_log ∙ run.same_log;
+            same_length = p.same_length ∙ run.same_length;
+            same_buffer = p.same_buffer ∙ run.same_buffer;
+            short = λ i. omega arith;
+            room = omega arith;
+            prints =
+                ap (λ (v : List ℕ). v ++ rest) (put-behind p (omega (arith, line_fits, p.same_length)))
+                ∙ append_assoc front line rest ∙ ap (λ (v : List ℕ). front ++ v) (sym printed_next) ∙ run.prints;
+            leaves = sym left ∙ run.leaves;
+          })

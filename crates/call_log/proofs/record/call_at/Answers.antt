@@ -1,9 +1,5 @@
 -- `call_log::record::call_at`: a number in 2 or 4 bytes fits as many bits, and a distance is its 64 bits. Assumes nothing.
-use mathlib.Core.Path.{◌≡◌, refl, ◌∙◌}
-use mir.Syntax.{w64}
-use mir.Val.{SFits, to_z, of_z}
-use mir.Facts.{to_z-of_z}
-use borrow.Author.Rules.{rules}
+use Rattle.std.proofs.Common.{◌≡◌, refl, ◌∙◌, w64, SFits, to_z, of_z, to_z-of_z, rules}
 use Rattle.block.specs.laws.Fields.{field_bound}
 use Rattle.call_log.specs.Records.{call_at, good_value, signed}
 use Rattle.call_log.proofs.Reading.{signed_cast}

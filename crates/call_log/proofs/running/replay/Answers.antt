@@ -1,5 +1,5 @@
 -- Each turn is one of `Turns`. Assumes nothing.
-use borrow.Author.Rules.{rules}
+use Rattle.std.proofs.Common.{rules}
 use Rattle.call_log.proofs.Turns.{ended, broken, line_fits, went_on}
 use Rattle.call_log.proofs.running.replay.Goals as goal
 
@@ -16,6 +16,7 @@ loop-record-preserved-in-Ok c = record {
       c.make-answer.ensures c.kind.ensures c.put_answer.ensures.line c.put_answer.ensures.few;
 }
 
+-- a malformed record
 pub loop-record-preserved : goal.loop-record-preserved
 loop-record-preserved c = record {
   can = tt;

@@ -1,8 +1,5 @@
 -- `call_log::reader::Reader::next`: at the end there is no item, and behind a record less is left. Assumes nothing.
-use Prim.Native.Nat.{◌+◌, ◌≤◌}
-use mathlib.Core.Path.{refl}
-use borrow.Author.Rules.{rules}
-use lib.ListN.{length}
+use Rattle.std.proofs.Common.{◌+◌, ◌≤◌, refl, rules, length}
 use Rattle.call_log.specs.laws.Records.{next-end, next-behind}
 use Rattle.call_log.proofs.reader.ReaderIterator.next.Goals as goal
 

@@ -1,7 +1,5 @@
 -- `call_log::text::Text::put_answer`: kind, refusal, digits and line end, one behind the other. Assumes nothing.
-use Prim.Native.Nat.{◌≤◌}
-use native.Mathlib.Omega.{arith}
-use lib.ListN.{length}
+use Rattle.std.proofs.Common.{◌≤◌, arith, length}
 use Rattle.call_log.specs.Text.{line_of}
 use Rattle.call_log.proofs.Texts.{length-hexadecimal, puts_next, kind_tag}
 use Rattle.call_log.proofs.text.Text.put_answer.Goals as goal

@@ -1,7 +1,5 @@
 -- `call_log::text::Text::put_fault`: the word, the number and the line end. Assumes nothing.
-use Prim.Native.Nat.{◌≤◌}
-use native.Mathlib.Omega.{arith}
-use lib.ListN.{length}
+use Rattle.std.proofs.Common.{◌≤◌, arith, length}
 use Rattle.call_log.specs.Text.{fault_line}
 use Rattle.call_log.proofs.Texts.{puts_next, fault_tag}
 use Rattle.call_log.proofs.text.Text.put_fault.Goals as goal
