@@ -1,16 +1,5 @@
 -- The claims of logs. A record is read back field by field, each behind the one before it; a log, record by record. Assumes nothing.
-use Prim.Native.Nat.{ℕ, ◌+◌, ◌-◌, ◌^◌, ◌<◌}
-use mathlib.Core.Path.{◌≡◌, refl, sym, ap, ◌∙◌}
-use mathlib.Core.Bool.{true}
-use mathlib.Core.List.{List, [], ◌∷◌, ◌++◌, append_assoc, append-nil}
-use mathlib.Core.Option.{Option, none, some}
-use native.Mathlib.Nat.{add-zero}
-use native.Mathlib.Omega.{arith}
-use lib.ListN.{length, take, drop, length-append, length-drop}
-use lib.Seq.{take_at, drop_at, drop-drop}
-use lib.Dec.{ltb}
-use lib.IntN.{pos, negsuc}
-use borrow.Author.Tests.{ltb-true, le-leb}
+use Rattle.std.proofs.Common.{ℕ, ◌+◌, ◌-◌, ◌^◌, ◌<◌, ◌≡◌, refl, sym, ap, ◌∙◌, true, List, [], ◌∷◌, ◌++◌, append_assoc, append-nil, add-zero, arith, length, take, drop, length-append, length-drop, take_at, drop_at, drop-drop, ltb, pos, negsuc, ltb-true, le-leb, Option, Some, None, Ok, Err}
 use Rattle.block.specs.Bytes.{encode, decode, field}
 use Rattle.block.specs.laws.Booleans.{and_left, and_right}
 use Rattle.block.specs.laws.Fields.{length-encode, decode-encode, field_bytes_lem}
@@ -24,7 +13,6 @@ use Rattle.call_log.specs.laws.Written.{measured, length_record, record_parts}
 use Rattle.call_log.specs.declared.record.Call.{Call}
 use Rattle.call_log.specs.declared.record.Call.TheVariants.{Allocate, Free, Move, Load, Store, Fill, Copy}
 use Rattle.call_log.specs.declared.record.Fault.{Fault}
-use Rattle.call_log.specs.declared.record.Next.TheVariants.{End, Record, Malformed}
 use Rattle.call_log.proofs.Exact.{log_exact}
 use Rattle.call_log.proofs.Reading.{signed_low, signed_high, not_cut, well_formed_lem}
 
@@ -111,10 +99,11 @@ records-read_back log at c behind ok e =
     let r = fields_read log (at + 4) (fields_of c) behind (and_left _ (in_range c) ok) at_fields in
     let left : length log - at ≡ len + length behind =
     sym (length-drop at log) ∙ ap length e ∙ length-append (record_of c) behind ∙ ap (λ (n : ℕ). n + length behind) (length_record c) in
-    sym (well_formed_lem log at len kind (sym (field-read log (at + 2) 2 kind _ at-kind (omega (arith, m.high)))) m.low m.high refl (value_read log (at + 4) c range r)
-    ∙ not_cut log at (omega arith) len (sym (field-read log at 2 len _ at_length (omega arith))) (omega arith) (omega arith) (omega arith))
-    ∙ ap (λ (k : Call). Record k (at + len)) (call_read log (at + 4) c range r)
-    ∙ ap (λ (n : ℕ). Record c (at + n)) (sym (length_record c))
+    not_cut log at len (sym (field-read log at 2 len _ at_length (omega arith))) (omega arith) (omega arith)
+    ∙ ap Some
+    (well_formed_lem log at len kind (field-read log (at + 2) 2 kind _ at-kind (omega (arith, m.high))) m.known refl (value_read log (at + 4) c range r))
+    ∙ ap (λ (k : Call). Some (Ok (k, at + len))) (call_read log (at + 4) c range r)
+    ∙ ap (λ (n : ℕ). Some (Ok (c, at + n))) (sym (length_record c))
 
 -- All of a log.
 
@@ -130,11 +119,11 @@ log_read log at [] behind ok e = ap (records_from log) (sym (add-zero at))
 log_read log at (c ∷ cs) behind ok e =
     let n : ℕ = at + length (record_of c) in
     let stands : drop at log ≡ record_of c ++ (log_of cs ++ behind) = e ∙ append_assoc (record_of c) (log_of cs) behind in
-    let here : next_at log at ≡ Record c n = records-read_back log at c _ (and_left _ (all_recordable cs) ok) stands in
+    let here : next_at log at ≡ Some (Ok (c, n)) = records-read_back log at c _ (and_left _ (all_recordable cs) ok) stands in
     let next : drop n log ≡ log_of cs ++ behind =
     sym (drop-drop (length (record_of c)) at log) ∙ ap (drop (length (record_of c))) stands ∙ drop_at (record_of c) _ (length (record_of c)) refl in
     let ends : n + length (log_of cs) ≡ at + length (record_of c ++ log_of cs) = simp length-append (omega arith) in
-    records-next log at (Record c n) here
+    records-next log at (Some (Ok (c, n))) here
     ∙ ap (before (c ∷ [])) (log_read log n cs behind (and_right (recordable c) _ ok) next)
     ∙ ap (λ (m : ℕ). before (c ∷ cs) (records_from log m)) ends
 
@@ -149,19 +138,19 @@ followed_log cs behind ok =
 abbrev holding : List Call → Option Fault → Records
 holding cs f = record { calls = cs; fault = f }
 
-whole_log : (cs : List Call) → all_recordable cs ≡ true → records (log_of cs) ≡ holding cs none
+whole_log : (cs : List Call) → all_recordable cs ≡ true → records (log_of cs) ≡ holding cs None
 whole_log cs ok =
     let log : List ℕ = log_of cs ++ [] in
     ap records (sym (append-nil (log_of cs))) ∙ followed_log cs [] ok
-    ∙ ap (before cs) (records-next log (length (log_of cs)) End (next-end log _ (rw (append-nil (log_of cs)) (omega arith))))
-    ∙ ap (λ (l : List Call). holding l none) (append-nil cs)
+    ∙ ap (before cs) (records-next log (length (log_of cs)) None (next-end log _ (rw (append-nil (log_of cs)) (omega arith))))
+    ∙ ap (λ (l : List Call). holding l None) (append-nil cs)
 
-broken_log : (cs : List Call) (behind : List ℕ) (f : Fault) → all_recordable cs ≡ true → next_at (log_of cs ++ behind) (length (log_of cs)) ≡ Malformed f
-    → records (log_of cs ++ behind) ≡ holding cs (some f)
+broken_log : (cs : List Call) (behind : List ℕ) (f : Fault) → all_recordable cs ≡ true → next_at (log_of cs ++ behind) (length (log_of cs)) ≡ Some (Err f)
+    → records (log_of cs ++ behind) ≡ holding cs (Some f)
 broken_log cs behind f ok e =
     followed_log cs behind ok
-    ∙ ap (before cs) (records-next (log_of cs ++ behind) (length (log_of cs)) (Malformed f) e)
-    ∙ ap (λ (l : List Call). holding l (some f)) (append-nil cs)
+    ∙ ap (before cs) (records-next (log_of cs ++ behind) (length (log_of cs)) (Some (Err f)) e)
+    ∙ ap (λ (l : List Call). holding l (Some f)) (append-nil cs)
 
 pub logs_read_back : LogsReadBack
 logs_read_back = record { whole = whole_log; followed = followed_log; exact = log_exact }

@@ -1,34 +1,19 @@
 -- Every log of bytes is the log of its calls, with nothing behind it or a malformed record: a record that is read is that of its call, byte for byte.
 -- Assumes nothing.
-use Prim.Native.Nat.{ℕ, zero, suc, ◌+◌, ◌-◌, ◌^◌, ◌≤◌, ◌<◌}
-use mathlib.Core.Path.{◌≡◌, refl, sym, ap, ◌∙◌, subst}
-use mathlib.Core.List.{List, [], ◌∷◌, ◌++◌, append_assoc}
-use mathlib.Core.Option.{Option, none, some}
-use native.Mathlib.Nat.{add-zero}
-use native.Mathlib.Omega.{arith}
-use lib.ListN.{length, drop, length-append, length-drop, drop_of_length-le}
-use lib.Dec.{eqb, ltb, leb}
-use borrow.Author.Tests.{ltb-true, ltb-false, leb-true, eqb-true, eqb-false}
+use Rattle.std.proofs.Common.{ℕ, zero, suc, ◌+◌, ◌-◌, ◌^◌, ◌≤◌, ◌<◌, ◌≡◌, refl, sym, ap, ◌∙◌, subst, List, [], ◌∷◌, ◌++◌, append_assoc, add-zero, arith, length, drop, length-append, length-drop, drop_of_length-le, ltb, ltb-true, ltb-false, Some, None, Ok, Err}
 use Rattle.block.specs.Bytes.{encode, field, Bytes}
-use Rattle.block.specs.laws.Booleans.{by_bool, and_left, and_right}
+use Rattle.block.specs.laws.Booleans.{by_bool}
 use Rattle.block.specs.laws.Fields.{field_bound, field_stands}
-use Rattle.call_log.specs.Records.{kind_of, field_bytes, record_length, signed, call_at, next_at, Records, records_from}
+use Rattle.call_log.specs.Records.{kind_number, kind_of, field_bytes, record_length, signed, call_at, Next, next_at, Records, records_from}
 use Rattle.call_log.specs.Written.{Field, encode_all, unsigned, fields_of, record_of, log_of}
 use Rattle.call_log.specs.Claims.{Exact}
-use Rattle.call_log.specs.laws.Records.{Formed, next_formed, next-behind, end_past, records-next}
+use Rattle.call_log.specs.laws.Records.{kind_with, Formed, next_formed, next-behind, end_past, records-next}
 use Rattle.call_log.specs.laws.Written.{record_parts}
 use Rattle.call_log.specs.declared.record.Call.{Call}
 use Rattle.call_log.specs.declared.record.Fault.{Fault}
-use Rattle.call_log.specs.declared.record.Next.{Next}
-use Rattle.call_log.specs.declared.record.Next.TheVariants.{End, Record, Malformed}
+use Rattle.call_log.specs.declared.record.Kind.{Kind}
+use Rattle.call_log.specs.declared.record.Kind.TheVariants as kind
 use Rattle.call_log.proofs.Reading.{signed_low, signed_high}
-
--- faults, or none
-some_none : (f : Fault) → ◌≡◌ {A = Option Fault} (some f) none → ⊥
-some_none f e = let z : ◌≡◌ {A = ℕ} 0 1 = cc in omega arith
-
-some_same : (f g : Fault) → ◌≡◌ {A = Option Fault} (some f) (some g) → f ≡ g
-some_same f g e = cc e
 
 -- two's complement back and there
 unsigned_back : (n : ℕ) → n < 2 ^ 64 → unsigned (signed n) ≡ n
@@ -90,22 +75,17 @@ module _ (log : List ℕ) (bytes : Bytes log) where
     long : total widths ≡ field_bytes kind
     fields : fields_of (call_at log kind f) ≡ fields_at log f widths
 
-  -- by cases of the kind
-  laid : (f kind : ℕ) → 16 ≤ kind → kind ≤ 22 → Laid f kind
+  laid : (f : ℕ) (k : Kind) → Laid f (kind_number k)
   unfolding call_at fields_of field_bytes total fields_at behind_at
-  laid f kind low high =
-      let is : (k : ℕ) → kind ≡ k → Laid f k → Laid f kind = λ k e l. subst (Laid f) (sym e) l in
+  laid f kind.Allocate = record { is_kind = refl; widths = 4 ∷ 2 ∷ []; long = refl; fields = refl }
+  laid f kind.Free = record { is_kind = refl; widths = 8 ∷ []; long = refl; fields = refl }
+  laid f kind.Move =
       let distance = unsigned_back (field log (f + 8) 8) (field_bound log bytes 8 (f + 8)) in
-      by_bool (eqb kind 16) (λ t. is 16 (eqb-true _ _ t) (record { is_kind = refl; widths = 4 ∷ 2 ∷ []; long = refl; fields = refl })) (λ a.
-      by_bool (eqb kind 17) (λ t. is 17 (eqb-true _ _ t) (record { is_kind = refl; widths = 8 ∷ []; long = refl; fields = refl })) (λ b.
-      by_bool (eqb kind 18)
-      (λ t. is 18 (eqb-true _ _ t) (record { is_kind = refl; widths = 8 ∷ 8 ∷ []; long = refl; fields = rw distance refl })) (λ c.
-      by_bool (eqb kind 19) (λ t. is 19 (eqb-true _ _ t) (record { is_kind = refl; widths = 8 ∷ 2 ∷ []; long = refl; fields = refl })) (λ d.
-      by_bool (eqb kind 20) (λ t. is 20 (eqb-true _ _ t) (record { is_kind = refl; widths = 8 ∷ 2 ∷ 8 ∷ []; long = refl; fields = refl })) (λ e.
-      by_bool (eqb kind 21) (λ t. is 21 (eqb-true _ _ t) (record { is_kind = refl; widths = 8 ∷ 4 ∷ 2 ∷ []; long = refl; fields = refl })) (λ g.
-      let last : kind ≡ 22 =
-      omega (arith, eqb-false kind 16 a, eqb-false kind 17 b, eqb-false kind 18 c, eqb-false kind 19 d, eqb-false kind 20 e, eqb-false kind 21 g) in
-      is 22 last (record { is_kind = refl; widths = 8 ∷ 8 ∷ 4 ∷ []; long = refl; fields = refl })))))))
+      record { is_kind = refl; widths = 8 ∷ 8 ∷ []; long = refl; fields = rw distance refl }
+  laid f kind.Load = record { is_kind = refl; widths = 8 ∷ 2 ∷ []; long = refl; fields = refl }
+  laid f kind.Store = record { is_kind = refl; widths = 8 ∷ 2 ∷ 8 ∷ []; long = refl; fields = refl }
+  laid f kind.Fill = record { is_kind = refl; widths = 8 ∷ 4 ∷ 2 ∷ []; long = refl; fields = refl }
+  laid f kind.Copy = record { is_kind = refl; widths = 8 ∷ 8 ∷ 4 ∷ []; long = refl; fields = refl }
 
   -- a record that is read is that of its call
   record_stands : (at : ℕ) (c : Call) (n : ℕ) → Formed log at c n → drop at log ≡ record_of c ++ drop n log
@@ -113,8 +93,8 @@ module _ (log : List ℕ) (bytes : Bytes log) where
       let kind : ℕ = r.kind in
       let ends = r.ends in
       let inside = r.inside in
-      let l =
-      laid (at + 4) kind (leb-true _ _ (and_left _ (leb kind 22) r.known)) (leb-true _ _ (and_right (leb 16 kind) _ r.known)) in
+      let (k, is) = kind_with kind r.known in
+      let l : Laid (at + 4) kind = subst (Laid (at + 4)) is (laid (at + 4) k) in
       let behind : List ℕ = encode_all (fields_of c) ++ drop n log in
       let at_fields : drop (at + 4) log ≡ behind =
       fields_stand (at + 4) l.widths n (omega (arith, l.long)) inside
@@ -130,31 +110,31 @@ module _ (log : List ℕ) (bytes : Bytes log) where
   record ExactFrom (at : ℕ) : Type 0 where
     behind : List ℕ
     is : drop at log ≡ log_of (records_from log at).calls ++ behind
-    whole : (records_from log at).fault ≡ none → behind ≡ []
-    malformed : (f : Fault) → (records_from log at).fault ≡ some f → next_at log (at + length (log_of (records_from log at).calls)) ≡ Malformed f
+    whole : (records_from log at).fault ≡ None → behind ≡ []
+    malformed : (f : Fault) → (records_from log at).fault ≡ Some f → next_at log (at + length (log_of (records_from log at).calls)) ≡ Some (Err f)
 
   exact_at : (at : ℕ) (next : Next) → next_at log at ≡ next → ((n : ℕ) → at < n → n ≤ length log → ExactFrom n) → ExactFrom at
   unfolding log_of
-  exact_at at End e rest = record {
+  exact_at at None e rest = record {
     behind = drop at log;
-    is = rw (records-next log at End e) refl;
+    is = rw (records-next log at None e) refl;
     whole = λ z. drop_of_length-le log (end_past log at e);
-    malformed = λ f z. absurd (some_none f (sym z ∙ ap (λ (r : Records). r.fault) (records-next log at End e)));
+    malformed = λ f z. let y = sym z ∙ ap (λ (r : Records). r.fault) (records-next log at None e) in cc;
   }
-  exact_at at (Malformed f) e rest =
-      let holds = records-next log at (Malformed f) e in
-      let fault : (records_from log at).fault ≡ some f = ap (λ (r : Records). r.fault) holds in record {
+  exact_at at (Some (Err f)) e rest =
+      let holds = records-next log at (Some (Err f)) e in
+      let fault : (records_from log at).fault ≡ Some f = ap (λ (r : Records). r.fault) holds in record {
         behind = drop at log;
         is = rw holds refl;
-        whole = λ z. absurd (some_none f (sym fault ∙ z));
+        whole = λ z. absurd (cc);
         malformed = λ g z.
-            let same : f ≡ g = some_same f g (sym fault ∙ z) in
-            rw holds (rw (add-zero at) (e ∙ ap Malformed same));
+            let same : f ≡ g = cc in
+            rw holds (rw (add-zero at) (e ∙ ap (λ (h : Fault). Some (Err h)) same));
       }
-  exact_at at (Record c n) e rest =
+  exact_at at (Some (Ok (c, n))) e rest =
       let (later, inside) = next-behind log at c n e in
       let r = rest n (omega arith) inside in
-      let holds = records-next log at (Record c n) e in
+      let holds = records-next log at (Some (Ok (c, n))) e in
       let fault : (records_from log at).fault ≡ (records_from log n).fault = ap (λ (s : Records). s.fault) holds in
       let calls : List Call = (records_from log n).calls in
       let stands : drop at log ≡ record_of c ++ drop n log = record_stands at c n (next_formed log at c n e) in

@@ -1,62 +1,89 @@
--- Text put into a buffer, piece by piece. In order: pieces; digits; the lengths of numbers; the two kinds of line. Assumes nothing.
-use Rattle.std.specs.Prelude.{Err, Ok}
-use Prim.Native.Nat.{ℕ, zero, suc, ◌+◌, ◌-◌, ◌/◌, ◌%◌, ◌^◌, ◌≤◌, ◌<◌}
-use mathlib.Core.Path.{◌≡◌, refl, sym, ap, ◌∙◌}
-use mathlib.Core.List.{List, [], ◌∷◌, ◌++◌, append_assoc}
-use native.Mathlib.Nat.{mod-eq_of_lt, div-div-eq-div-mul, pow-suc}
-use native.Mathlib.Omega.{arith}
-use lib.Dec.{ltb}
-use lib.ListN.{length, set, length-append}
-use borrow.Author.Tests.{lt-ltb, le-ltb, ltb-true, ltb-false}
+-- Text put into a buffer, piece by piece. In order: pieces; hexadecimal digits; decimal digits; the numbers of kinds, refusals and malformed records.
+-- Assumes nothing.
+use Rattle.std.proofs.Common.{ℕ, zero, suc, ◌+◌, ◌*◌, ◌/◌, ◌%◌, ◌^◌, ◌≤◌, ◌<◌, ◌≡◌, refl, sym, ap, ◌∙◌, subst, List, [], ◌∷◌, ◌++◌, append_assoc, append-nil, mod-eq_of_lt, pow-suc, arith, length, length-append, lt-ltb, le-ltb}
+use denote.Enum.Declared.{tag_of}
+use Rattle.std.proofs.lemmas.Nat.{pow-add}
 use Rattle.block.specs.Bytes.{put}
-use Rattle.block.specs.laws.Booleans.{by_bool}
-use Rattle.block.specs.laws.Writes.{put_nil, put_cons, put-append, set-put_front}
+use Rattle.block.specs.laws.Writes.{put_nil, put-append}
 use Rattle.store.specs.State.{returned}
 use Rattle.store.specs.laws.Refusals.{refusal_range}
-use Rattle.store.specs.State.{Answer}
-use Rattle.call_log.specs.Records.{fault_number}
-use Rattle.call_log.specs.Text.{ascii, digit, hexadecimal, decimal_in, decimal, closed_by, line_of, fault_line}
+use Rattle.store.specs.declared.answer.Answer.{Answer}
+use Rattle.store.specs.declared.answer.Answer.TheVariants.{Accepted, Refused}
+use Rattle.call_log.specs.Buffer.{Puts}
+use Rattle.call_log.specs.Records.{kind_number, fault_number}
+use Rattle.call_log.specs.Text.{digit, hexadecimal, decimal_in, decimal}
+use Rattle.call_log.specs.contracts.record.Fault as fault
+use Rattle.call_log.specs.contracts.record.Kind as kind
 use Rattle.call_log.specs.declared.record.Fault.{Fault}
 use Rattle.call_log.specs.declared.record.Fault.TheVariants.{CutShort, UnknownKind, BadFields}
+use Rattle.call_log.specs.declared.record.Kind.{Kind}
+use Rattle.call_log.specs.declared.record.Kind.TheVariants.{Allocate, Free, Move, Load, Store, Fill, Copy}
+use Rattle.call_log.specs.declared.text.Text.{Text}
 
--- one byte is a piece
-pub set_byte : (text : List ℕ) (at b : ℕ) → at < length text → set text at b ≡ put text at (b ∷ [])
-set_byte text at b l = sym (put_nil (set text at b) (suc at)) ∙ put_cons text at b [] (omega arith)
+-- nothing put is a piece
+pub puts_none : (s : Text) → Puts s [] s
+puts_none s = record { text = sym (put_nil _ _); position = omega arith; same_length = refl; same_buffer = refl }
 
 -- two pieces, one behind the other, are one
-pub put_next :
-    (text : List ℕ) (at : ℕ) (a b : List ℕ) (n : ℕ) (t u : List ℕ) → t ≡ put text at a → u ≡ put t n b → at + length a ≡ n → n + length b ≤ length text
-    → u ≡ put text at (a ++ b)
-put_next text at a b n t u p q e l = q ∙ ap (λ (x : List ℕ). put x n b) p ∙ put-append text at a b n e l
+pub puts_next : {s t u : Text} {a b : List ℕ} → Puts s a t → Puts t b u → u.at ≤ length u.buffer.now → Puts s (a ++ b) u
+puts_next {s} {t} {u} {a} {b} p q room = record {
+  text =
+      q.text ∙ ap (λ (x : List ℕ). put x t.at b) p.text
+      ∙ put-append s.buffer.now s.at a b t.at (sym p.position) (omega (arith, p.same_length, q.same_length, q.position));
+  position = q.position ∙ simp length-append (omega (arith, p.position));
+  same_length = q.same_length ∙ p.same_length;
+  same_buffer = q.same_buffer ∙ p.same_buffer;
+}
 
--- hexadecimal digits are put from the last to the first: `rest` is what is left of v when i are still to be put
+-- Hexadecimal digits are put from the first to the last.
+
+-- the digits of v are put, but for the last k
+pub record Putting (s : Text) (v k : ℕ) (t : Text) : Type 0 where
+  pub piece : List ℕ
+  pub puts : Puts s piece t
+  pub is : piece ++ hexadecimal k v ≡ hexadecimal 16 v
+  pub count : length piece + k ≡ 16
 
 pub length-hexadecimal : (k n : ℕ) → length (hexadecimal k n) ≡ k
 unfolding hexadecimal
 length-hexadecimal zero n = refl
 length-hexadecimal (suc k) n = ap suc (length-hexadecimal k n)
 
-module _ (v i rest : ℕ) (low : 1 ≤ i) (high : i ≤ 16) (is : rest ≡ v / 16 ^ (16 - i)) where
-  more : 16 - (i - 1) ≡ suc (16 - i)
-  more = omega arith
+-- none, and one more in front of the last k
+none_left : (v : ℕ) → hexadecimal 0 v ≡ []
+unfolding hexadecimal
+none_left v = refl
 
-  pub rest_turn : rest / 16 ≡ v / 16 ^ (16 - (i - 1))
-  rest_turn =
-      ap (λ (r : ℕ). r / 16) is ∙ div-div-eq-div-mul v (16 ^ (16 - i)) 16 ∙ ap (λ (d : ℕ). v / d) (sym (pow-suc 16 (16 - i)))
-      ∙ ap (λ (k : ℕ). v / 16 ^ k) (sym more)
+power : (k : ℕ) → 2 ^ (4 * k) ≡ 16 ^ k
+power zero = refl
+power (suc k) =
+    let four : 4 * suc k ≡ 4 + 4 * k = omega arith in
+    ap (λ (n : ℕ). 2 ^ n) four ∙ pow-add 2 4 (4 * k) ∙ ap (λ (n : ℕ). 16 * n) (power k) ∙ omega (arith, pow-suc 16 k)
 
-  digit_turn : digit (rest % 16) ∷ hexadecimal (16 - i) v ≡ hexadecimal (16 - (i - 1)) v
-  unfolding hexadecimal
-  digit_turn = ap (λ (r : ℕ). digit (r % 16) ∷ hexadecimal (16 - i) v) is ∙ ap (λ (k : ℕ). hexadecimal k v) (sym more)
+one_more : (v k d : ℕ) → d ≡ digit (v / 2 ^ (4 * k) % 16) → d ∷ hexadecimal k v ≡ hexadecimal (suc k) v
+unfolding hexadecimal
+one_more v k d e = ap (λ (x : ℕ). x ∷ hexadecimal k v) (e ∙ ap (λ (n : ℕ). digit (v / n % 16)) (power k))
 
-  pub hex_turn :
-      (start text : List ℕ) (at : ℕ) → at + 16 ≤ length start → text ≡ put start (at + i) (hexadecimal (16 - i) v)
-      → set text (at + (i - 1)) (digit (rest % 16)) ≡ put start (at + (i - 1)) (hexadecimal (16 - (i - 1)) v)
-  hex_turn start text at room e =
-      let next : at + i ≡ suc (at + (i - 1)) = omega arith in
-      ap (λ (x : List ℕ). set x (at + (i - 1)) (digit (rest % 16))) (e ∙ ap (λ (n : ℕ). put start n (hexadecimal (16 - i) v)) next)
-      ∙ set-put_front start (at + (i - 1)) (digit (rest % 16)) (hexadecimal (16 - i) v) (omega (arith, length-hexadecimal (16 - i) v))
-      ∙ ap (put start (at + (i - 1))) digit_turn
+-- at first none is put, and at last all are
+pub none_put : (s : Text) (v : ℕ) → Putting s v 16 s
+none_put s v = record { piece = []; puts = puts_none s; is = refl; count = refl }
+
+pub all_put : {s t : Text} {v : ℕ} → Putting s v 0 t → Puts s (hexadecimal 16 v) t
+all_put {s} {t} {v} p =
+    let all : p.piece ≡ hexadecimal 16 v = sym (append-nil p.piece) ∙ ap (λ (x : List ℕ). p.piece ++ x) (sym (none_left v)) ∙ p.is in
+    subst (λ (x : List ℕ). Puts s x t) all p.puts
+
+-- the next one is put
+pub digit_put :
+    {s t u : Text} {v k d : ℕ}
+    → Putting s v (suc k) t → d ≡ digit (v / 2 ^ (4 * k) % 16) → Puts t (d ∷ []) u → u.at ≤ length u.buffer.now
+    → Putting s v k u
+digit_put {v = v} {k} {d} p e q room = record {
+  piece = p.piece ++ (d ∷ []);
+  puts = puts_next p.puts q room;
+  is = append_assoc p.piece (d ∷ []) (hexadecimal k v) ∙ ap (λ (x : List ℕ). p.piece ++ x) (one_more v k d e) ∙ p.is;
+  count = simp length-append (omega (arith, p.count));
+}
 
 -- a number below 100 has one or two decimal digits
 
@@ -74,77 +101,40 @@ unfolding decimal decimal_in
 decimal_two zero h l = absurd (omega arith)
 decimal_two (suc k) h l = rw (le-ltb (suc k) 10 h, decimal_in, one_digit k (suc k / 10) (omega arith)) refl
 
--- they are put one behind the other
-pub decimal-put :
-    (text : List ℕ) (at n d e : ℕ) (t u : List ℕ) → 10 ≤ n → n < 100 → d ≡ digit (n / 10) → e ≡ digit (n % 10)
-    → t ≡ put text at (d ∷ []) → u ≡ put t (at + 1) (e ∷ []) → at + 2 ≤ length text → u ≡ put text at (decimal n)
-decimal-put text at n d e t u h l i j p q room =
-    put_next text at (d ∷ []) (e ∷ []) (at + 1) t u p q refl (omega arith) ∙ ap (put text at) (rw (i, j, decimal_two n h l) refl)
-
-pub length-decimal : (n : ℕ) → n < 100 → (1 ≤ length (decimal n)) × (length (decimal n) ≤ 2)
-length-decimal n l =
-    by_bool (ltb n 10)
-    (λ t. let e : length (decimal n) ≡ 1 = ap length (decimal_one n (ltb-true _ _ t)) in (omega arith, omega arith))
-    (λ t. let e : length (decimal n) ≡ 2 = ap length (decimal_two n (ltb-false _ _ t) l) in (omega arith, omega arith))
-
-pub length_closed : (b : ℕ) (xs : List ℕ) → length (closed_by b xs) ≡ length xs + 1
-length_closed b xs = simp length-append
-
--- the numbers of refusals and of malformed records are below 100
+-- the numbers of kinds, refusals and malformed records are below 100
 
 pub returned_small : (a : Answer) → returned a < 100
-returned_small (Ok v) = omega arith
-returned_small (Err r) = (refusal_range r).1
+returned_small (Accepted v) = omega arith
+returned_small (Refused r) = (refusal_range r).1
+
+pub kind_small : (k : Kind) → kind_number k < 100
+kind_small Allocate = omega arith
+kind_small Free = omega arith
+kind_small Move = omega arith
+kind_small Load = omega arith
+kind_small Store = omega arith
+kind_small Fill = omega arith
+kind_small Copy = omega arith
 
 pub fault_small : (f : Fault) → fault_number f < 100
 fault_small CutShort = omega arith
 fault_small UnknownKind = omega arith
 fault_small BadFields = omega arith
 
--- the line of a call, put as kind, refusal, digits and line end
-pub line_put :
-    (text : List ℕ) (at kind n x refusal v p q : ℕ) (t u w z : List ℕ) → n ≡ refusal → x ≡ v
-    → p ≡ at + length (closed_by 32 (decimal kind)) → t ≡ put text at (closed_by 32 (decimal kind))
-    → q ≡ p + length (closed_by 32 (decimal n)) → u ≡ put t p (closed_by 32 (decimal n))
-    → w ≡ put u q (hexadecimal 16 x) → z ≡ put w (q + 16) (10 ∷ [])
-    → q + 17 ≤ length text
-    → (q + 17 ≡ at + length (line_of kind refusal v)) × (z ≡ put text at (line_of kind refusal v))
-unfolding line_of
-line_put text at kind n x refusal v p q t u w z is is' a b c d e f room =
-    let k : List ℕ = closed_by 32 (decimal kind) in
-    let r : List ℕ = closed_by 32 (decimal n) in
-    let h : List ℕ = hexadecimal 16 x in
-    let line : k ++ (r ++ closed_by 10 h) ≡ line_of kind refusal v =
-    ap (λ (m : ℕ). line_of kind m x) is ∙ ap (line_of kind refusal) is' in
-    let grouped : ((k ++ r) ++ h) ++ (10 ∷ []) ≡ k ++ (r ++ closed_by 10 h) = simp append_assoc in
-    let long-h : length h ≡ 16 = length-hexadecimal 16 x in
-    let long-kr : length (k ++ r) ≡ length k + length r = length-append k r in
-    let long-krh : length ((k ++ r) ++ h) ≡ length (k ++ r) + length h = length-append (k ++ r) h in
-    let long : length (k ++ (r ++ closed_by 10 h)) ≡ length k + length r + 17 = simp length-append (omega arith) in
-    let two : u ≡ put text at (k ++ r) = put_next text at k r p t u b d (sym a) (omega (arith, c)) in
-    let three : w ≡ put text at ((k ++ r) ++ h) = put_next text at (k ++ r) h q u w two e (omega arith) (omega arith) in
-    let four : z ≡ put text at (((k ++ r) ++ h) ++ (10 ∷ [])) = put_next text at ((k ++ r) ++ h) (10 ∷ []) (q + 16) w z three f (omega arith) (omega arith) in
-    (omega (arith, ap length line), four ∙ ap (put text at) (grouped ∙ line))
+-- they are the numbers that the variants have
+pub fault_tag : (f : Fault) → tag_of fault.the_type f + 17 ≡ fault_number f
+fault_tag CutShort = refl
+fault_tag UnknownKind = refl
+fault_tag BadFields = refl
 
--- the word of the other line
-pub word-put :
-    (text : List ℕ) (at : ℕ) (t u w z : List ℕ)
-    → t ≡ put text at (ascii "l") → u ≡ put t (at + 1) (ascii "o") → w ≡ put u (at + 2) (ascii "g") → z ≡ put w (at + 3) (ascii " ")
-    → at + 4 ≤ length text → z ≡ put text at (ascii "log ")
-word-put text at t u w z a b c d room =
-    let two = put_next text at (ascii "l") (ascii "o") (at + 1) t u a b refl (omega arith) in
-    let three = put_next text at (ascii "lo") (ascii "g") (at + 2) u w two c refl (omega arith) in
-    put_next text at (ascii "log") (ascii " ") (at + 3) w z three d refl (omega arith)
+pub kind_tag : (k : Kind) → tag_of kind.the_type k + 16 ≡ kind_number k
+kind_tag Allocate = refl
+kind_tag Free = refl
+kind_tag Move = refl
+kind_tag Load = refl
+kind_tag Store = refl
+kind_tag Fill = refl
+kind_tag Copy = refl
 
--- the line of a malformed record: the word, its number and the line end
-pub fault_put :
-    (text : List ℕ) (at : ℕ) (f : Fault) (n r : ℕ) (t u : List ℕ) → n ≡ fault_number f → t ≡ put text at (ascii "log ")
-    → r ≡ at + 4 + length (closed_by 10 (decimal n)) → u ≡ put t (at + 4) (closed_by 10 (decimal n)) → r ≤ length text
-    → (r ≡ at + length (fault_line f)) × (u ≡ put text at (fault_line f))
-unfolding fault_line
-fault_put text at f n r t u e a p b room =
-    let line : List ℕ = ascii "log " ++ closed_by 10 (decimal n) in
-    let is : line ≡ ascii "log " ++ closed_by 10 (decimal (fault_number f)) = ap (λ (m : ℕ). ascii "log " ++ closed_by 10 (decimal m)) e in
-    let long : length (ascii "log " ++ closed_by 10 (decimal (fault_number f))) ≡ 4 + length (closed_by 10 (decimal n)) =
-    ap length (sym is) ∙ length-append (ascii "log ") (closed_by 10 (decimal n)) in
-    (omega arith, put_next text at (ascii "log ") (closed_by 10 (decimal n)) (at + 4) t u a b refl (omega arith) ∙ ap (put text at) is)
+-- what keeps the numbers of a line below 100, and the line in its room
+pub ruleset small = (fault_tag, fault_small, kind_tag, kind_small, returned_small, length-hexadecimal)

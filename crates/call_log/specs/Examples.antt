@@ -1,7 +1,6 @@
 -- By computation: document 02's sample log; a log with every kind of record, that of `examples/log`; one for each way in which a record is malformed.
 -- Assumes nothing.
-use Rattle.std.specs.Prelude.{ℕ, ◌≡◌, refl, Bool, true, ◌&&◌, List, [], ◌∷◌, ◌++◌, eqb, replicate, pos, negsuc}
-use Rattle.std.proofs.Math.Option.{Option, none, some}
+use Rattle.std.specs.Prelude.{ℕ, ◌≡◌, refl, Bool, true, ◌&&◌, List, [], ◌∷◌, ◌++◌, eqb, replicate, pos, negsuc, Option, Some, None}
 use Rattle.frame.specs.Frame.{frame_number, frame_number_in}
 use Rattle.frame.specs.Pointers.{unpack, pack, good_tag, reach, landed, moved}
 use Rattle.frame.specs.Tags.{wrapper, tag_number, pointer_to, tag_matches, used_entries, entry_at}
@@ -69,8 +68,8 @@ abbrev case : List ℕ → ℕ → Case
 case log n = record { log = log; number = n }
 
 abbrev ends : Option Fault → ℕ
-ends none = 0
-ends (some f) = fault_number f
+ends None = 0
+ends (Some f) = fault_number f
 
 -- a free's record
 abbrev free_record : List ℕ → List ℕ

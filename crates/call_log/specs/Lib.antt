@@ -1,7 +1,9 @@
 -- definitions
 pub mod Records
+pub mod Reader
 pub mod Run
 pub mod Text
+pub mod Buffer
 pub mod Written
 -- claims
 pub mod Claims

@@ -1,15 +1,14 @@
 -- The records of a call log, as they are read: document 02, W2. A record is its length (2 bytes, the whole record), its kind (2 bytes) and its fields;
 -- all little-endian. Assumes nothing.
-use Rattle.std.specs.Prelude.{ℕ, zero, suc, ◌+◌, ◌-◌, ◌^◌, Bool, cond, not, ◌&&◌, ◌||◌, List, [], ◌∷◌, length, leb, ltb, eqb, ℤ, pos, negsuc}
-use Rattle.std.proofs.Math.Option.{Option, none, some}
+use Rattle.std.specs.Prelude.{ℕ, zero, suc, ◌+◌, ◌-◌, ◌^◌, ◌≡◌, Bool, false, cond, not, ◌&&◌, ◌||◌, List, [], ◌∷◌, length, leb, ltb, eqb, ℤ, pos, negsuc, Option, Some, None, Result, Ok, Err}
 use Rattle.block.specs.Bytes.{field}
 use Rattle.block.specs.Layout.{within}
 use Rattle.call_log.specs.declared.record.Call.{Call}
 use Rattle.call_log.specs.declared.record.Call.TheVariants.{Allocate, Free, Move, Load, Store, Fill, Copy}
 use Rattle.call_log.specs.declared.record.Fault.{Fault}
 use Rattle.call_log.specs.declared.record.Fault.TheVariants.{CutShort, UnknownKind, BadFields}
-use Rattle.call_log.specs.declared.record.Next.{Next}
-use Rattle.call_log.specs.declared.record.Next.TheVariants.{End, Record, Malformed}
+use Rattle.call_log.specs.declared.record.Kind.{Kind}
+use Rattle.call_log.specs.declared.record.Kind.TheVariants as kind
 
 -- document 02's number of a malformed record
 abbrev pub fault_number : Fault → ℕ
@@ -22,6 +21,21 @@ fault_number BadFields = 19
 -- the kinds that there are
 abbrev pub known_kind : ℕ → Bool
 known_kind kind = within 16 22 kind
+
+-- the number of a kind
+abbrev pub kind_number : Kind → ℕ
+kind_number kind.Allocate = 16
+kind_number kind.Free = 17
+kind_number kind.Move = 18
+kind_number kind.Load = 19
+kind_number kind.Store = 20
+kind_number kind.Fill = 21
+kind_number kind.Copy = 22
+
+-- the kind with a number; any other number is row 18
+abbrev pub KindWith : ℕ → Result Kind Fault → Type 0
+KindWith n (Ok k) = kind_number k ≡ n
+KindWith n (Err f) = (known_kind n ≡ false) × (f ≡ UnknownKind)
 
 -- the kind of a call's record
 abbrev pub kind_of : Call → ℕ
@@ -68,25 +82,29 @@ unfoldable pub good_value : List ℕ → ℕ → ℕ → Bool
 good_value log kind f = not (eqb kind 21) || leb (field log (f + 12) 2) 255
 
 -- malformed with f where the test fails
-abbrev pub insist : Bool → Fault → Next → Next
-insist ok f next = cond ok next (Malformed f)
+abbrev pub insist : {A : Type 0} → Bool → Fault → Result A Fault → Result A Fault
+insist ok f r = cond ok r (Err f)
 
 -- 18 and 19, for a record of `len` bytes at `at`; its call, and the position behind it
-unfoldable pub formed_at : List ℕ → ℕ → ℕ → Next
+unfoldable pub formed_at : List ℕ → ℕ → ℕ → Result (Call × ℕ) Fault
 formed_at log at len =
     let kind : ℕ = field log (at + 2) 2 in
     insist (known_kind kind) UnknownKind
     (insist (eqb len (record_length kind) && good_value log kind (at + 4)) BadFields
-    (Record (call_at log kind (at + 4)) (at + len)))
+    (Ok (call_at log kind (at + 4), at + len)))
 
--- What a log has at a position: its end, or 17, 18, 19 in this order, or a record.
+-- What a log has at a position: nothing at its end; otherwise a call and the position behind its record, or why that record is malformed.
+abbrev pub Next : Type 0
+Next = Option (Result (Call × ℕ) Fault)
+
+-- its end, or 17, 18, 19 in this order, or a record
 unfoldable pub next_at : List ℕ → ℕ → Next
 next_at log at =
     let left : ℕ = length log - at in
     let len : ℕ = field log at 2 in
-    cond (eqb left 0) End
-    (insist (leb 4 left && (leb 4 len && leb len left)) CutShort
-    (formed_at log at len))
+    cond (eqb left 0) None
+    (Some (insist (leb 4 left && (leb 4 len && leb len left)) CutShort
+    (formed_at log at len)))
 
 -- All of a log.
 
@@ -97,13 +115,13 @@ pub record Records : Type 0 where
 
 -- what it holds from a position on, by what it has there and what it holds from further positions on
 abbrev pub followed : Next → (ℕ → Records) → Records
-followed End rest = record { calls = []; fault = none }
-followed (Malformed f) rest = record { calls = []; fault = some f }
-followed (Record c next) rest = record { calls = c ∷ (rest next).calls; fault = (rest next).fault }
+followed None rest = record { calls = []; fault = None }
+followed (Some (Err f)) rest = record { calls = []; fault = Some f }
+followed (Some (Ok (c, next))) rest = record { calls = c ∷ (rest next).calls; fault = (rest next).fault }
 
 -- at most `steps` records from `at` on
 unfoldable pub records_in : ℕ → List ℕ → ℕ → Records
-records_in zero log at = record { calls = []; fault = none }
+records_in zero log at = record { calls = []; fault = None }
 records_in (suc steps) log at = followed (next_at log at) (records_in steps log)
 
 -- what the log holds from `at` on; each record takes bytes, so that these steps are never used up (the law `records-next`)

@@ -1,10 +1,9 @@
 -- The run over a log: document 02, W2. Its calls are made in the log's order, each on the image and table that the one before it left. A refused call
 -- does not end the run, a malformed record does. Assumes nothing.
-use Rattle.std.specs.Prelude.{ℕ, List, [], ◌∷◌}
-use Rattle.std.proofs.Math.Option.{Option}
+use Rattle.std.specs.Prelude.{ℕ, List, [], ◌∷◌, Option}
 use Rattle.store.specs.State.{State, Outcome}
 use Rattle.store.specs.Step as store
-use Rattle.store.specs.State.{Answer}
+use Rattle.store.specs.declared.answer.Answer.{Answer}
 use Rattle.call_log.specs.Records.{Records, records}
 use Rattle.call_log.specs.declared.record.Call.{Call}
 use Rattle.call_log.specs.declared.record.Call.TheVariants.{Allocate, Free, Move, Load, Store, Fill, Copy}

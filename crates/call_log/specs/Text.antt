@@ -1,8 +1,7 @@
 -- What is printed of a run, as bytes in ASCII: document 02, W2. Assumes nothing.
-use Rattle.std.specs.Prelude.{ℕ, zero, suc, ◌+◌, ◌*◌, ◌/◌, ◌%◌, ◌^◌, true, false, cond, List, [], ◌∷◌, ◌++◌, ltb}
+use Rattle.std.specs.Prelude.{ℕ, zero, suc, ◌+◌, ◌*◌, ◌/◌, ◌%◌, ◌^◌, true, false, cond, List, [], ◌∷◌, ◌++◌, ltb, Option, Some, None}
 use Prim.Native.Char.{code}
 use Prim.Native.String.{String, [] as []ˢ, ◌∷◌ as ◌∷ˢ◌}
-use Rattle.std.proofs.Math.Option.{Option, none, some}
 use Rattle.store.specs.State.{returned, value}
 use Rattle.call_log.specs.Records.{fault_number, kind_of}
 use Rattle.call_log.specs.Run.{Answered, Run}
@@ -58,8 +57,8 @@ fault_line f = ascii "log " ++ closed_by 10 (decimal (fault_number f))
 
 -- what is printed of how a run ends
 abbrev pub end_text : Option Fault → List ℕ
-end_text none = []
-end_text (some f) = fault_line f
+end_text None = []
+end_text (Some f) = fault_line f
 
 -- what is printed of a run: a line for each call in the log's order, and one for a malformed record
 unfoldable pub printed : Run → List ℕ

@@ -8,6 +8,6 @@ mod running;
 mod text;
 
 pub use calls::make;
-pub use reader::{Reader, read};
-pub use record::{Call, Fault, Next};
+pub use reader::Reader;
+pub use record::{Call, Fault};
 pub use running::replay;

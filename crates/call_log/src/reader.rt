@@ -1,10 +1,10 @@
 // The log reader.
-ghost use Rattle.std.specs.Prelude.{◌≡◌};
-ghost use Rattle.call_log.specs.Records.{next_at};
+ghost use Rattle.std.specs.Prelude.{◌≡◌, ◌-◌, length};
+ghost use Rattle.std.specs.Iterator.{at_most};
 
-use crate::record::{Next, next_at};
+use crate::record::{Call, Fault, record_at};
 
-// The lent log and the position in it, together.
+// The lent log and the position in it, together. Its items are the calls of the log from there on; a malformed record is the last item.
 #[derive(Clone, Copy)]
 pub struct Reader<'a> {
     pub log: &'a [u8],
@@ -18,18 +18,30 @@ impl<'a> Reader<'a> {
     {
         Reader { log, at }
     }
-
-    // What the log has there.
-    pub fn next(self) -> Next
-        ensures { result ≡ next_at self.entry.log.now self.entry.at }
-    {
-        next_at(self.log, self.at)
-    }
 }
 
-// What a log has at a position, by way of a reader: for callers without a reader in a local, whose proofs are not by hand.
-pub fn read(log: &[u8], at: usize) -> Next
-    ensures { result ≡ next_at log.now at }
-{
-    Reader::new(log, at).next()
+impl Iterator for Reader<'_> {
+    ghost use Rattle.call_log.specs.Reader.{GivesNext};
+
+    type Item = Result<Call, Fault>;
+
+    ghost next_gives = { GivesNext };
+
+    ghost remaining = { λ r. at_most (length r.log.now - r.at) };
+
+    fn next(&mut self) -> Option<Result<Call, Fault>> {
+        if self.log.len() <= self.at {
+            return None;
+        }
+        match record_at(self.log, self.at) {
+            Ok((call, behind)) => {
+                self.at = behind;
+                Some(Ok(call))
+            }
+            Err(fault) => {
+                self.at = self.log.len();
+                Some(Err(fault))
+            }
+        }
+    }
 }

@@ -1,9 +1,9 @@
 // What a log has at a position.
-ghost use Rattle.std.specs.Prelude.{◌+◌, ◌≤◌, true, ◌≡◌, length};
+ghost use Rattle.std.specs.Prelude.{◌+◌, ◌<◌, ◌≤◌, ◌≡◌, length};
 ghost use Rattle.block.specs.Bytes.{field};
-ghost use Rattle.call_log.specs.Records.{field_bytes, record_length, signed, call_at, good_value, formed_at, next_at};
+ghost use Rattle.call_log.specs.Records.{kind_number, KindWith, kind_of, field_bytes, record_length, call_at, good_value, insist, formed_at, next_at};
 
-use block::bytes::read;
+use block::bytes::{read2, read4, read8};
 
 // A call with its arguments. A fill's value has two bytes in the record and one here; a width is handed on untested.
 #[derive(Clone, Copy)]
@@ -17,141 +17,126 @@ pub enum Call {
     Copy(u64, u64, u32),
 }
 
-// Why a record is malformed: document 02's 17, 18 and 19.
-#[derive(Clone, Copy)]
+// Why a record is malformed, by document 02's number.
+#[derive(Clone, Copy, Debug, PartialEq, Eq)]
 pub enum Fault {
-    CutShort,
-    UnknownKind,
-    BadFields,
+    CutShort = 17,
+    UnknownKind = 18,
+    BadFields = 19,
 }
 
-// The end of the log; a call, and the position behind its record; or a malformed record.
+// The kind of a record, by its number.
 #[derive(Clone, Copy)]
-pub enum Next {
-    End,
-    Record(Call, usize),
-    Malformed(Fault),
+pub enum Kind {
+    Allocate = 16,
+    Free = 17,
+    Move = 18,
+    Load = 19,
+    Store = 20,
+    Fill = 21,
+    Copy = 22,
 }
 
-// How long a record of a known kind is.
-fn record_length(kind: u64) -> usize
-    ensures { result ≡ record_length kind }
-{
-    match kind {
-        16 => 10,
-        17 => 12,
-        18 => 20,
-        19 => 14,
-        20 => 22,
-        21 => 18,
-        _ => 24,
+impl Call {
+    // The kind of its record.
+    pub(crate) fn kind(self) -> Kind
+        ensures { kind_number result ≡ kind_of self }
+    {
+        match self {
+            Call::Allocate(..) => Kind::Allocate,
+            Call::Free(..) => Kind::Free,
+            Call::Move(..) => Kind::Move,
+            Call::Load(..) => Kind::Load,
+            Call::Store(..) => Kind::Store,
+            Call::Fill(..) => Kind::Fill,
+            Call::Copy(..) => Kind::Copy,
+        }
     }
 }
 
-// The signed number that 64 bits are, in two's complement.
-fn signed(n: u64) -> i64
-    ensures { result ≡ signed n }
-{
-    if n < 0x8000_0000_0000_0000 {
-        n as i64
-    } else {
-        -1 - (0xffff_ffff_ffff_ffff - n) as i64
+impl Kind {
+    // How long a record of this kind is.
+    #[tactic(auto, unfolding(crate::specs::Records::field_bytes))]
+    fn record_length(self) -> usize
+        ensures { result ≡ record_length (kind_number self) }
+    {
+        match self {
+            Kind::Allocate => 10,
+            Kind::Free => 12,
+            Kind::Move => 20,
+            Kind::Load => 14,
+            Kind::Store => 22,
+            Kind::Fill => 18,
+            Kind::Copy => 24,
+        }
     }
 }
 
-// The number in 2 bytes.
-fn u16_at(log: &[u8], at: usize) -> u16
-    requires { at + 2 ≤ length log.now }
-    ensures { result ≡ field log.now at 2 }
-{
-    read::<2>(log, at) as u16
-}
+impl TryFrom<u64> for Kind {
+    type Error = Fault;
 
-// The number in 4 bytes.
-fn u32_at(log: &[u8], at: usize) -> u32
-    requires { at + 4 ≤ length log.now }
-    ensures { result ≡ field log.now at 4 }
-{
-    read::<4>(log, at) as u32
-}
+    ghost try_from_gives = { KindWith };
 
-// Whether a fill value, if the record has one, is a byte. The fields begin at f.
-fn good_value(log: &[u8], kind: u64, f: usize) -> bool
-    requires { f + field_bytes kind ≤ length log.now }
-    ensures { result ≡ good_value log.now kind f }
-{
-    if kind == 21 {
-        return read::<2>(log, f + 12) <= 255;
-    }
-    true
-}
-
-// The call of a known kind whose fields begin at f.
-fn call_at(log: &[u8], kind: u64, f: usize) -> Call
-    requires { (f + field_bytes kind ≤ length log.now) × (good_value log.now kind f ≡ true) }
-    ensures { result ≡ call_at log.now kind f }
-{
-    match kind {
-        16 => Call::Allocate(u32_at(log, f), u16_at(log, f + 4)),
-        17 => Call::Free(read::<8>(log, f)),
-        18 => Call::Move(read::<8>(log, f), signed(read::<8>(log, f + 8))),
-        19 => Call::Load(read::<8>(log, f), read::<2>(log, f + 8)),
-        20 => Call::Store(
-            read::<8>(log, f),
-            read::<2>(log, f + 8),
-            read::<8>(log, f + 10),
-        ),
-        21 => Call::Fill(
-            read::<8>(log, f),
-            u32_at(log, f + 8),
-            read::<2>(log, f + 12) as u8,
-        ),
-        _ => Call::Copy(
-            read::<8>(log, f),
-            read::<8>(log, f + 8),
-            u32_at(log, f + 16),
-        ),
+    fn try_from(number: u64) -> Result<Kind, Fault> {
+        match number {
+            16 => Ok(Kind::Allocate),
+            17 => Ok(Kind::Free),
+            18 => Ok(Kind::Move),
+            19 => Ok(Kind::Load),
+            20 => Ok(Kind::Store),
+            21 => Ok(Kind::Fill),
+            22 => Ok(Kind::Copy),
+            _ => Err(Fault::UnknownKind),
+        }
     }
 }
 
-// Rows 18 and 19, for a record of `len` bytes.
-fn formed_at(log: &[u8], at: usize, len: usize) -> Next
+// The call of a kind whose fields begin at f. A fill value has to be a byte.
+#[tactic(auto, unfolding(crate::specs::Records::field_bytes, crate::specs::Records::call_at, crate::specs::Records::good_value))]
+fn call_at(log: &[u8], kind: Kind, f: usize) -> Result<Call, Fault>
+    requires { f + field_bytes (kind_number kind) ≤ length log.now }
+    ensures { result ≡ insist (good_value log.now (kind_number kind) f) Fault.BadFields (Ok (call_at log.now (kind_number kind) f)) }
+{
+    Ok(match kind {
+        Kind::Allocate => Call::Allocate(read4(log, f) as u32, read2(log, f + 4) as u16),
+        Kind::Free => Call::Free(read8(log, f)),
+        Kind::Move => Call::Move(read8(log, f), read8(log, f + 8).cast_signed()),
+        Kind::Load => Call::Load(read8(log, f), read2(log, f + 8)),
+        Kind::Store => Call::Store(read8(log, f), read2(log, f + 8), read8(log, f + 10)),
+        Kind::Fill => {
+            let value = u8::try_from(read2(log, f + 12)).map_err(|_| Fault::BadFields)?;
+            Call::Fill(read8(log, f), read4(log, f + 8) as u32, value)
+        }
+        Kind::Copy => Call::Copy(read8(log, f), read8(log, f + 8), read4(log, f + 16) as u32),
+    })
+}
+
+// Rows 18 and 19, for a record of `len` bytes; or its call, and the position behind it.
+#[tactic(auto, unfolding(crate::specs::Records::formed_at))]
+fn formed_at(log: &[u8], at: usize, len: usize) -> Result<(Call, usize), Fault>
     requires { (4 ≤ len) × (at + len ≤ length log.now) }
     ensures { result ≡ formed_at log.now at len }
 {
-    let kind = read::<2>(log, at + 2);
-    if kind < 16 {
-        return Next::Malformed(Fault::UnknownKind);
+    let kind = Kind::try_from(read2(log, at + 2))?;
+    if len != kind.record_length() {
+        return Err(Fault::BadFields);
     }
-    if 22 < kind {
-        return Next::Malformed(Fault::UnknownKind);
-    }
-    if len != record_length(kind) {
-        return Next::Malformed(Fault::BadFields);
-    }
-    if !good_value(log, kind, at + 4) {
-        return Next::Malformed(Fault::BadFields);
-    }
-    Next::Record(call_at(log, kind, at + 4), at + len)
+    Ok((call_at(log, kind, at + 4)?, at + len))
 }
 
-// What the log has at a position: its end, row 17, or what the rows behind it say.
-pub fn next_at(log: &[u8], at: usize) -> Next
-    ensures { result ≡ next_at log.now at }
+// The record at a position inside the log: row 17, or what the rows behind it say.
+#[tactic(auto, unfolding(crate::specs::Records::next_at))]
+pub fn record_at(log: &[u8], at: usize) -> Result<(Call, usize), Fault>
+    requires { at < length log.now }
+    ensures { next_at log.now at ≡ Some result }
 {
-    if log.len() <= at {
-        return Next::End;
-    }
     let left = log.len() - at;
     if left < 4 {
-        return Next::Malformed(Fault::CutShort);
+        return Err(Fault::CutShort);
     }
-    let len = read::<2>(log, at) as usize;
-    if len < 4 {
-        return Next::Malformed(Fault::CutShort);
-    }
-    if left < len {
-        return Next::Malformed(Fault::CutShort);
+    let len = read2(log, at) as usize;
+    if len < 4 || left < len {
+        return Err(Fault::CutShort);
     }
     formed_at(log, at, len)
 }

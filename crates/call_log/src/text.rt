@@ -1,99 +1,93 @@
 // The text of answers, in ASCII, put into a buffer.
 ghost use Rattle.std.specs.Prelude.{◌+◌, ◌≤◌, ◌<◌, ◌≡◌, [], ◌∷◌, length};
-ghost use Rattle.block.specs.Bytes.{put};
 ghost use Rattle.store.specs.State.{returned, value};
-ghost use Rattle.call_log.specs.Text.{ascii, digit, hexadecimal, decimal, closed_by, line_of, fault_line};
+ghost use Rattle.call_log.specs.Records.{kind_number};
+ghost use Rattle.call_log.specs.Text.{digit, hexadecimal, decimal, line_of, fault_line};
+ghost use Rattle.call_log.specs.Buffer.{Puts};
 
-use crate::calls::fault_number;
-use crate::record::Fault;
+use crate::record::{Fault, Kind};
 use store::Answer;
 
+// A buffer, of which the first `at` bytes are put.
+#[derive(Drop)]
+pub struct Text<'a> {
+    pub buffer: &'a mut [u8],
+    pub at: usize,
+}
+
 // A digit below 16.
+#[tactic(auto, unfolding(crate::specs::Text::digit))]
 fn digit(d: u64) -> u8
     requires { d < 16 }
     ensures { result ≡ digit d }
 {
-    if d < 10 { 48 + d as u8 } else { 55 + d as u8 }
-}
-
-// Puts a byte at `at`.
-fn put_byte(text: &mut [u8], at: usize, b: u8)
-    requires { at < length text.old }
-    ensures { text.new ≡ put text.old at (b ∷ []) }
-{
-    text[at] = b;
-}
-
-// Puts the 16 hexadecimal digits of v at `at`.
-fn put_hexadecimal(text: &mut [u8], at: usize, v: u64)
-    requires { at + 16 ≤ length text.old }
-    ensures { text.new ≡ put text.old at (hexadecimal 16 v) }
-{
-    let mut i = 16;
-    let mut rest = v;
-    while 0 < i {
-        i = i - 1;
-        text[at + i] = digit(rest % 16);
-        rest = rest / 16;
+    if d < 10 {
+        b'0' + d as u8
+    } else {
+        b'A' + (d - 10) as u8
     }
 }
 
-// Puts a number below 100 in decimal at `at`; the position behind it.
-fn put_decimal(text: &mut [u8], at: usize, n: u64) -> usize
-    requires { (n < 100) × (at + 2 ≤ length text.old) }
-    ensures value { result ≡ at + length (decimal n) }
-    ensures text_after { text.new ≡ put text.old at (decimal n) }
-{
-    if n < 10 {
-        put_byte(text, at, digit(n));
-        return at + 1;
+impl Text<'_> {
+    // Puts a piece.
+    #[tactic(auto, unfolding(block::specs::Bytes::put))]
+    fn put(&mut self, piece: &[u8])
+        requires { self.old.at + length piece.now ≤ length self.old.buffer.now }
+        ensures { Puts self.old piece.now self.new }
+    {
+        let end = self.at + piece.len();
+        self.buffer[self.at..end].copy_from_slice(piece);
+        self.at = end;
     }
-    put_byte(text, at, digit(n / 10));
-    put_byte(text, at + 1, digit(n % 10));
-    at + 2
-}
 
-// Puts a number below 100 in decimal at `at`, and a byte behind it; the position behind both.
-fn put_number(text: &mut [u8], at: usize, n: u64, b: u8) -> usize
-    requires { (n < 100) × (at + 3 ≤ length text.old) }
-    ensures value { (result ≡ at + length (closed_by b (decimal n))) × (result ≤ at + 3) }
-    ensures text_after { text.new ≡ put text.old at (closed_by b (decimal n)) }
-{
-    let p = put_decimal(text, at, n);
-    put_byte(text, p, b);
-    p + 1
-}
+    // Puts the 16 hexadecimal digits of v.
+    fn put_hexadecimal(&mut self, v: u64)
+        requires { self.old.at + 16 ≤ length self.old.buffer.now }
+        ensures { Puts self.old (hexadecimal 16 v) self.new }
+    {
+        for k in (0..16u32).rev() {
+            self.put(&[digit((v >> (4 * k)) % 16)]);
+        }
+    }
 
-// Puts the line of a call at `at`; the position behind it.
-pub fn put_answer(text: &mut [u8], at: usize, kind: u64, a: Answer) -> usize
-    requires { (kind < 100) × (at + 23 ≤ length text.old) }
-    ensures value { (result ≡ at + length (line_of kind (returned a) (value a))) × (result ≤ at + 23) }
-    ensures text_after { text.new ≡ put text.old at (line_of kind (returned a) (value a)) }
-{
-    let p = put_number(text, at, kind, b' ');
-    let q = put_number(text, p, a.returned() as u64, b' ');
-    put_hexadecimal(text, q, a.value());
-    put_byte(text, q + 16, b'\n');
-    q + 17
-}
+    // Puts a number below 100 in decimal.
+    #[tactic(auto, using(crate::proofs::Texts::decimal_one, crate::proofs::Texts::decimal_two))]
+    fn put_decimal(&mut self, n: u64)
+        requires { (n < 100) × (self.old.at + 2 ≤ length self.old.buffer.now) }
+        ensures digits { Puts self.old (decimal n) self.new }
+        ensures few { self.new.at ≤ self.old.at + 2 }
+    {
+        if n < 10 {
+            self.put(&[digit(n)]);
+        } else {
+            self.put(&[digit(n / 10), digit(n % 10)]);
+        }
+    }
 
-// Puts the word `log` and a space at `at`.
-fn put_log(text: &mut [u8], at: usize)
-    requires { at + 4 ≤ length text.old }
-    ensures { text.new ≡ put text.old at (ascii "log ") }
-{
-    put_byte(text, at, b'l');
-    put_byte(text, at + 1, b'o');
-    put_byte(text, at + 2, b'g');
-    put_byte(text, at + 3, b' ');
-}
+    // Puts the line of a call.
+    #[tactic(auto, using(crate::proofs::Texts::small))]
+    pub fn put_answer(&mut self, kind: Kind, a: Answer)
+        requires { self.old.at + 23 ≤ length self.old.buffer.now }
+        ensures line { Puts self.old (line_of (kind_number kind) (returned a) (value a)) self.new }
+        ensures few { self.new.at ≤ self.old.at + 23 }
+    {
+        self.put_decimal(kind as u64);
+        self.put(b" ");
+        self.put_decimal(a.returned() as u64);
+        self.put(b" ");
+        self.put_hexadecimal(a.value());
+        self.put(b"\n");
+    }
 
-// Puts the line of a malformed record at `at`; the position behind it.
-pub fn put_fault(text: &mut [u8], at: usize, f: Fault) -> usize
-    requires { at + 7 ≤ length text.old }
-    ensures value { (result ≡ at + length (fault_line f)) × (result ≤ at + 7) }
-    ensures text_after { text.new ≡ put text.old at (fault_line f) }
-{
-    put_log(text, at);
-    put_number(text, at + 4, fault_number(f), b'\n')
+    // Puts the line of a malformed record.
+    #[tactic(auto, using(crate::proofs::Texts::small))]
+    pub fn put_fault(&mut self, f: Fault)
+        requires { self.old.at + 7 ≤ length self.old.buffer.now }
+        ensures line { Puts self.old (fault_line f) self.new }
+        ensures few { self.new.at ≤ self.old.at + 7 }
+    {
+        self.put(b"log ");
+        self.put_decimal(f as u64);
+        self.put(b"\n");
+    }
 }

@@ -1,6 +1,6 @@
 -- The claims. In order: what follows an accepted set-up, field by field; a refused one; shapes. Assumes nothing.
 use Rattle.std.proofs.Common.{◌≡◌, ℕ, ◌<◌, ◌≤◌, Bool, true, false, eqb, ◌⊎◌, List, [], length, take, drop, sym, refl, ap, ◌∙◌, subst, inl, inr, arith, eqb-true, Err, Ok}
-use mathlib.Core.Option.{none}
+use Rattle.std.specs.Prelude.{None}
 use borrow.Author.Tests.{eqb-false}
 use Rattle.block.specs.laws.Booleans.{by_bool, true_false}
 use Rattle.store.specs.State.{State, IsAccepted, returned}
@@ -105,7 +105,7 @@ module _ (s g draws : ℕ) (x : State) (log : List ℕ) where
               ∙ (load-made s x e g draws log).are_admitted;
           same =
               ap (λ (r : Records). run_of r (set_up s y).after) back
-              ∙ (λ i. record { answered = answers cs (f i); fault = none; after = left_is i });
+              ∙ (λ i. record { answered = answers cs (f i); fault = None; after = left_is i });
         }
 
 -- every workload is repeatable

@@ -1,6 +1,5 @@
 -- What holds of every workload: document 02, W10. Assumes nothing.
-use Rattle.std.specs.Prelude.{◌≡◌, ℕ, zero, suc, ◌*◌, ◌<◌, ◌≤◌, true, ◌⊎◌, List, [], ◌∷◌, length, take, drop}
-use Rattle.std.proofs.Math.Option.{none}
+use Rattle.std.specs.Prelude.{◌≡◌, ℕ, zero, suc, ◌*◌, ◌<◌, ◌≤◌, true, ◌⊎◌, List, [], ◌∷◌, length, take, drop, None}
 use Rattle.store.specs.State.{State, IsAccepted, returned}
 use Rattle.store.specs.Calls.{set_up}
 use Rattle.store.specs.Claims.{KeepsShape}
@@ -41,7 +40,7 @@ stepped (suc n) g = stepped n (advanced g)
 pub record Recorded (calls : List Call) (log : List ℕ) (t : LoggedOutcome) : Type 0 where
   pub written : log_written t ≡ log_of calls
   pub later : drop (bytes_written t.answer) t.log ≡ drop (bytes_written t.answer) log
-  pub read_back : records (log_written t) ≡ record { calls = calls; fault = none }
+  pub read_back : records (log_written t) ≡ record { calls = calls; fault = None }
 
 -- The answer: 0 with a call for each draw, or 23 with fewer; 0 where the log has 22 bytes for each; the state is as many steps on as there are calls.
 pub record Counted (g draws : ℕ) (log : List ℕ) (calls : List Call) (t : LoggedOutcome) : Type 0 where
@@ -59,7 +58,7 @@ EqualFresh s x y = (set_up s y).after ≡ (set_up s x).after
 pub record RunsAgain (s : ℕ) (x y : State) (calls : List Call) (t : LoggedOutcome) : Type 0 where
   pub sets_up : IsAccepted (set_up s y)
   pub admitted : all_admitted (all_asked (records (log_written t)).calls) (begun s y) ≡ true
-  pub same : run_over (log_written t) (set_up s y).after ≡ record { answered = answers calls (set_up s x).after; fault = none; after = t.after }
+  pub same : run_over (log_written t) (set_up s y).after ≡ record { answered = answers calls (set_up s x).after; fault = None; after = t.after }
 
 -- what a call of a workload may answer: allocate 0 or 8, free and store 0; there is no other
 abbrev pub AnswersWell : Call → ℕ → Type 0

@@ -1,37 +1,44 @@
 -- Laws of reading a log: where the record that is read ends, and what a log holds from a position on. Assumes nothing.
 use Prim.Native.Nat.{ℕ, zero, suc, ◌+◌, ◌-◌, ◌≤◌, ◌<◌}
-use Rattle.std.specs.Prelude.{◌≡◌, Bool, true, false, cond, ◌&&◌, List, length, leb, eqb}
-use Rattle.std.proofs.Math.Path.{refl, ap}
+use Rattle.std.specs.Prelude.{◌≡◌, Bool, true, false, cond, ◌&&◌, List, length, leb, eqb, Some, None, Result, Ok, Err}
+use Rattle.std.proofs.Math.Path.{refl, sym, ap}
+use Rattle.std.proofs.lemmas.Bool.Decides.{nat_tests}
 use Rattle.std.proofs.Common.{◌∙◌, arith, leb-true, eqb-true, eq-eqb}
 use Rattle.block.specs.Bytes.{field}
 use Rattle.block.specs.laws.Booleans.{by_bool, and_left, and_right}
-use Rattle.call_log.specs.Records.{known_kind, field_bytes, record_length, call_at, good_value, insist, formed_at, next_at, Records, followed, records_in, records_from}
+use Rattle.call_log.specs.Records.{kind_number, known_kind, field_bytes, record_length, call_at, good_value, insist, formed_at, Next, next_at, Records, followed, records_in, records_from}
 use Rattle.call_log.specs.declared.record.Call.{Call}
 use Rattle.call_log.specs.declared.record.Fault.{Fault}
+use Rattle.call_log.specs.declared.record.Kind.{Kind}
+use Rattle.call_log.specs.declared.record.Kind.TheVariants as kind
 use Rattle.call_log.specs.declared.record.Fault.TheVariants.{CutShort, UnknownKind, BadFields}
-use Rattle.call_log.specs.declared.record.Next.{Next}
-use Rattle.call_log.specs.declared.record.Next.TheVariants.{End, Record, Malformed}
 
 -- a record is read only where the test holds
-insisted : (ok : Bool) (f : Fault) (next : Next) (c : Call) (n : ℕ) → insist ok f next ≡ Record c n → (ok ≡ true) × (next ≡ Record c n)
-insisted true f next c n e = (refl, e)
-insisted false f next c n e = let z : ◌≡◌ {A = ℕ} 0 1 = cc in absurd (omega arith)
+insisted : {A : Type 0} (ok : Bool) (f : Fault) (r : Result A Fault) (x : A) → insist ok f r ≡ Ok x → (ok ≡ true) × (r ≡ Ok x)
+insisted true f r x e = (refl, e)
+insisted false f r x e = cc
 
 -- and not at the end
-not_ended : (ended : Bool) (next : Next) (c : Call) (n : ℕ) → cond ended End next ≡ Record c n → next ≡ Record c n
-not_ended true next c n e = let z : ◌≡◌ {A = ℕ} 0 1 = cc in absurd (omega arith)
-not_ended false next c n e = e
+not_ended : (ended : Bool) (r : Result (Call × ℕ) Fault) (x : Call × ℕ) → cond ended None (Some r) ≡ Some (Ok x) → r ≡ Ok x
+not_ended true r x e = cc
+not_ended false r x e = cc
 
 -- no fields are shorter than an allocate's
 pub fields_least : (kind : ℕ) → 6 ≤ field_bytes kind
 unfolding field_bytes
-fields_least kind =
-    by_bool (eqb kind 16) (λ t. rw t (omega arith)) (λ a.
-    by_bool (eqb kind 17) (λ t. rw (a, t) (omega arith)) (λ b.
-    by_bool (eqb kind 18) (λ t. rw (a, b, t) (omega arith)) (λ c.
-    by_bool (eqb kind 19) (λ t. rw (a, b, c, t) (omega arith)) (λ d.
-    by_bool (eqb kind 20) (λ t. rw (a, b, c, d, t) (omega arith)) (λ e.
-    by_bool (eqb kind 21) (λ t. rw (a, b, c, d, e, t) (omega arith)) (λ f. rw (a, b, c, d, e, f) (omega arith)))))))
+fields_least kind = grind (arith, nat_tests)
+
+-- a known kind is one of the seven
+pub kind_with : (n : ℕ) → known_kind n ≡ true → (k : Kind) × (kind_number k ≡ n)
+kind_with n known =
+    let low : 16 ≤ n = leb-true _ _ (and_left _ (leb n 22) known) in
+    let high : n ≤ 22 = leb-true _ _ (and_right (leb 16 n) _ known) in
+    by_bool (eqb n 16) (λ t. (kind.Allocate, sym (eqb-true n 16 t))) (λ a.
+    by_bool (eqb n 17) (λ t. (kind.Free, sym (eqb-true n 17 t))) (λ b.
+    by_bool (eqb n 18) (λ t. (kind.Move, sym (eqb-true n 18 t))) (λ c.
+    by_bool (eqb n 19) (λ t. (kind.Load, sym (eqb-true n 19 t))) (λ d.
+    by_bool (eqb n 20) (λ t. (kind.Store, sym (eqb-true n 20 t))) (λ e.
+    by_bool (eqb n 21) (λ t. (kind.Fill, sym (eqb-true n 21 t))) (λ f. (kind.Copy, grind (arith, nat_tests))))))))
 
 -- What is known of a record that is read: its kind, its length, where it ends, and its call.
 pub record Formed (log : List ℕ) (at : ℕ) (c : Call) (n : ℕ) : Type 0 where
@@ -44,56 +51,45 @@ pub record Formed (log : List ℕ) (at : ℕ) (c : Call) (n : ℕ) : Type 0 wher
   pub is_call : call_at log kind (at + 4) ≡ c
 
 -- every record that is read is so
-pub next_formed : (log : List ℕ) (at : ℕ) (c : Call) (n : ℕ) → next_at log at ≡ Record c n → Formed log at c n
+pub next_formed : (log : List ℕ) (at : ℕ) (c : Call) (n : ℕ) → next_at log at ≡ Some (Ok (c, n)) → Formed log at c n
 unfolding next_at formed_at
 next_formed log at c n e =
     let left : ℕ = length log - at in
     let len : ℕ = field log at 2 in
     let kind : ℕ = field log (at + 2) 2 in
-    let (whole, e1) = insisted (leb 4 left && (leb 4 len && leb len left)) CutShort _ c n (not_ended (eqb left 0) _ c n e) in
-    let (known, e2) = insisted (known_kind kind) UnknownKind _ c n e1 in
-    let (suits, e3) = insisted (eqb len (record_length kind) && good_value log kind (at + 4)) BadFields _ c n e2 in
-    let ends : at + len ≡ n = cc e3 in
+    let (whole, e1) = insisted (leb 4 left && (leb 4 len && leb len left)) CutShort _ (c, n) (not_ended (eqb left 0) _ (c, n) e) in
+    let (known, e2) = insisted (known_kind kind) UnknownKind _ (c, n) e1 in
+    let (suits, e3) = insisted (eqb len (record_length kind) && good_value log kind (at + 4)) BadFields _ (c, n) e2 in
+    let is : ◌≡◌ {A = Call × ℕ} (call_at log kind (at + 4), at + len) (c, n) = cc e3 in
+    let ends : at + len ≡ n = ap (λ (r : Call × ℕ). r.1) is in
     let long : len ≡ record_length kind = eqb-true _ _ (and_left _ (good_value log kind (at + 4)) suits) in
     let four : 4 ≤ left = leb-true _ _ (and_left _ (leb 4 len && leb len left) whole) in
     let fits : len ≤ left = leb-true _ _ (and_right (leb 4 len) _ (and_right (leb 4 left) _ whole)) in
-    record { kind = kind; is_kind = refl; known = known; is_length = long; ends = omega arith; inside = omega arith; is_call = cc e3 }
+    record { kind = kind; is_kind = refl; known = known; is_length = long; ends = omega arith; inside = omega arith; is_call = ap (λ (r : Call × ℕ). r.0) is }
 
 -- it ends 10 bytes or more behind its start
-pub next-behind : (log : List ℕ) (at : ℕ) (c : Call) (n : ℕ) → next_at log at ≡ Record c n → (at + 10 ≤ n) × (n ≤ length log)
+pub next-behind : (log : List ℕ) (at : ℕ) (c : Call) (n : ℕ) → next_at log at ≡ Some (Ok (c, n)) → (at + 10 ≤ n) × (n ≤ length log)
 next-behind log at c n e =
     let f = next_formed log at c n e in
     (omega (arith, f.ends, fields_least f.kind), f.inside)
 
 -- past the end there is none
-pub next-end : (log : List ℕ) (at : ℕ) → length log ≤ at → next_at log at ≡ End
+pub next-end : (log : List ℕ) (at : ℕ) → length log ≤ at → next_at log at ≡ None
 unfolding next_at
 next-end log at l = rw (eq-eqb (length log - at) 0 (omega arith)) refl
 
--- what is tested is not the end
-never_end : (whole known suits : Bool) (c : Call) (n : ℕ) → insist whole CutShort (insist known UnknownKind (insist suits BadFields (Record c n))) ≡ End → ⊥
-never_end false known suits c n e = let z : ◌≡◌ {A = ℕ} 0 1 = cc in omega arith
-never_end true false suits c n e = let z : ◌≡◌ {A = ℕ} 0 1 = cc in omega arith
-never_end true true false c n e = let z : ◌≡◌ {A = ℕ} 0 1 = cc in omega arith
-never_end true true true c n e = let z : ◌≡◌ {A = ℕ} 0 1 = cc in omega arith
-
 -- there is none only past the end
-pub end_past : (log : List ℕ) (at : ℕ) → next_at log at ≡ End → length log ≤ at
-unfolding next_at formed_at
+pub end_past : (log : List ℕ) (at : ℕ) → next_at log at ≡ None → length log ≤ at
+unfolding next_at
 end_past log at e =
     let left : ℕ = length log - at in
-    let len : ℕ = field log at 2 in
-    let kind : ℕ = field log (at + 2) 2 in
-    by_bool (eqb left 0) (λ t. omega (arith, eqb-true left 0 t)) (λ t.
-    absurd
-    (never_end (leb 4 left && (leb 4 len && leb len left)) (known_kind kind) (eqb len (record_length kind) && good_value log kind (at + 4))
-    (call_at log kind (at + 4)) (at + len) (rw t at e)))
+    by_bool (eqb left 0) (λ t. omega (arith, eqb-true left 0 t)) (λ t. let x = rw t at e in absurd cc)
 
 -- what follows is looked at only behind a record
-followed_same : (r : Next) (f g : ℕ → Records) → ((c : Call) (n : ℕ) → r ≡ Record c n → f n ≡ g n) → followed r f ≡ followed r g
-followed_same End f g s = refl
-followed_same (Malformed x) f g s = refl
-followed_same (Record c n) f g s = ap (λ (r : Records). followed (Record c n) (λ m. r)) (s c n refl)
+followed_same : (r : Next) (f g : ℕ → Records) → ((c : Call) (n : ℕ) → r ≡ Some (Ok (c, n)) → f n ≡ g n) → followed r f ≡ followed r g
+followed_same None f g s = refl
+followed_same (Some (Err x)) f g s = refl
+followed_same (Some (Ok (c, n))) f g s = ap (λ (r : Records). followed (Some (Ok (c, n))) (λ m. r)) (s c n refl)
 
 module _ (log : List ℕ) where
   -- the steps do not matter, where there are enough

@@ -5,7 +5,7 @@ use Rattle.std.proofs.Common.{ap, ◌∙◌, append_assoc, append-nil, arith, le
 use Rattle.block.specs.Bytes.{encode}
 use Rattle.block.specs.laws.Booleans.{and_both}
 use Rattle.block.specs.laws.Fields.{length-encode}
-use Rattle.call_log.specs.Records.{kind_of, field_bytes, record_length}
+use Rattle.call_log.specs.Records.{kind_of, known_kind, field_bytes, record_length}
 use Rattle.call_log.specs.Written.{Field, encode_all, all_fit, fields_of, record_of, log_of, recordable, all_recordable}
 use Rattle.call_log.specs.declared.record.Call.{Call}
 use Rattle.call_log.specs.declared.record.Call.TheVariants.{Allocate, Free, Move, Load, Store, Fill, Copy}
@@ -14,18 +14,19 @@ use Rattle.call_log.specs.declared.record.Call.TheVariants.{Allocate, Free, Move
 pub record Measured (c : Call) : Type 0 where
   pub low : 16 ≤ kind_of c
   pub high : kind_of c ≤ 22
+  pub known : known_kind (kind_of c) ≡ true
   pub few : field_bytes (kind_of c) ≤ 20
   pub long : length (encode_all (fields_of c)) ≡ field_bytes (kind_of c)
 
 pub measured : (c : Call) → Measured c
 unfolding fields_of encode_all field_bytes
-measured (Allocate size type) = record { low = omega arith; high = omega arith; few = omega arith; long = simp (length-append, length-encode) }
-measured (Free p) = record { low = omega arith; high = omega arith; few = omega arith; long = simp (length-append, length-encode) }
-measured (Move p d) = record { low = omega arith; high = omega arith; few = omega arith; long = simp (length-append, length-encode) }
-measured (Load p width) = record { low = omega arith; high = omega arith; few = omega arith; long = simp (length-append, length-encode) }
-measured (Store p width v) = record { low = omega arith; high = omega arith; few = omega arith; long = simp (length-append, length-encode) }
-measured (Fill p n byte) = record { low = omega arith; high = omega arith; few = omega arith; long = simp (length-append, length-encode) }
-measured (Copy target source n) = record { low = omega arith; high = omega arith; few = omega arith; long = simp (length-append, length-encode) }
+measured (Allocate size type) = record { low = omega arith; high = omega arith; known = refl; few = omega arith; long = simp (length-append, length-encode) }
+measured (Free p) = record { low = omega arith; high = omega arith; known = refl; few = omega arith; long = simp (length-append, length-encode) }
+measured (Move p d) = record { low = omega arith; high = omega arith; known = refl; few = omega arith; long = simp (length-append, length-encode) }
+measured (Load p width) = record { low = omega arith; high = omega arith; known = refl; few = omega arith; long = simp (length-append, length-encode) }
+measured (Store p width v) = record { low = omega arith; high = omega arith; known = refl; few = omega arith; long = simp (length-append, length-encode) }
+measured (Fill p n byte) = record { low = omega arith; high = omega arith; known = refl; few = omega arith; long = simp (length-append, length-encode) }
+measured (Copy target source n) = record { low = omega arith; high = omega arith; known = refl; few = omega arith; long = simp (length-append, length-encode) }
 
 -- it has the length of its kind
 pub length_record : (c : Call) → length (record_of c) ≡ record_length (kind_of c)
