@@ -5,7 +5,6 @@ mod answer;
 mod choosing;
 mod drawing;
 mod generator;
-mod held;
 mod making;
 mod recording;
 
