@@ -1,6 +1,8 @@
--- The live pointers after a call, by the number and value that it answers, and without the one that is freed. Assumes nothing.
-use Rattle.std.proofs.Common.{◌≡◌, ℕ, List, [], ◌∷◌, ◌++◌, take, refl, sym, ◌∙◌, add-one}
-use Rattle.std.specs.Prelude.{remove}
+-- The live pointers: one more, by what an allocation answers; one less. Assumes nothing.
+use Rattle.std.proofs.Common.{◌≡◌, ℕ, ◌+◌, ◌-◌, ◌<◌, ◌≤◌, List, [], ◌∷◌, ◌++◌, length, take, drop, refl, sym, ap, ap₂, ◌∙◌, arith, length-drop, take-take}
+use Rattle.std.specs.List.{copy_within}
+use Rattle.std.proofs.lemmas.List.{drop-take}
+use Rattle.std.proofs.lemmas.List.Edits.{take-paste}
 use Rattle.store.specs.State.{returned, value}
 use Rattle.store.specs.laws.Refusals.{refused_some}
 use Rattle.store.specs.declared.answer.Answer.{Answer}
@@ -17,7 +19,15 @@ pub joined_one : (a : Answer) (n p : ℕ) (ps : List ℕ) → n ≡ returned a �
 joined_one (Accepted v) n p ps e z q = rw q refl
 joined_one (Refused r) n p ps e z q = absurd (refused_some r (sym e ∙ z))
 
--- the library's removal
-pub removed : (ps : List ℕ) (i : ℕ) → remove ps i ≡ remove_at i ps
+-- the first `count` of an array, when those behind position i have moved down by one
+pub removed : (held : List ℕ) (i count : ℕ) → i < count → count ≤ length held
+    → take (count - 1) (copy_within held (i + 1) count i) ≡ remove_at i (take count held)
 unfolding remove_at
-removed ps i = rw (add-one i) refl
+removed held i count l m =
+    let n : ℕ = count - (i + 1) in
+    let d : length (drop (i + 1) held) ≡ length held - (i + 1) = length-drop (i + 1) held in
+    let less : i + n ≡ count - 1 = omega arith in
+    let sum : i + 1 + n ≡ count = omega arith in
+    ap (λ (k : ℕ). take k (copy_within held (i + 1) count i)) (sym less)
+    ∙ take-paste held i (drop (i + 1) held) n (omega arith) (omega arith)
+    ∙ ap₂ ◌++◌ (sym (take-take i count held (omega arith))) (sym (drop-take (i + 1) n held) ∙ ap (λ (k : ℕ). drop (i + 1) (take k held)) sum)

@@ -6,26 +6,26 @@ ghost use Rattle.workload.specs.Traffic.{draws_from, started, logged, logged_by,
 use crate::answer::Traffic;
 use crate::choosing::choose;
 use crate::generator::Generator;
+use crate::held::Held;
 use crate::making::make;
 use crate::recording::{put_record, record_length};
-use arrayvec::ArrayVec;
 use store::Answer;
 
 // Draws on an image and table that were set up: each call is made and recorded, until all draws are, or the log has no space for the next.
 fn run(image: &mut [u8], table: &mut [u64], mut generator: Generator, draws: u64, log: &mut [u8]) -> Traffic
     ensures { logged result (state image.new table.new) log.new ≡ logged_by (draws_from draws (started generator.state (state image.old table.old) log.old)) }
 {
-    let mut held = ArrayVec::<u64, 64>::new();
+    let mut held = Held::new();
     let mut written = 0;
     for _ in 0..draws {
         let mut next = generator;
-        let c = choose(next.next(), &held);
+        let c = choose(next.next(), held.live());
         let len = record_length(c);
         if log.len() - written < len {
             return Traffic::LogFull(generator.state, written as u64);
         }
-        make(image, table, &mut held, c);
         put_record(log, written, c);
+        make(image, table, &mut held, c);
         written += len;
         generator = next;
     }

@@ -5,6 +5,7 @@ mod answer;
 mod choosing;
 mod drawing;
 mod generator;
+mod held;
 mod making;
 mod recording;
 

@@ -6,13 +6,13 @@ ghost use Rattle.call_log.specs.Run.{made};
 ghost use Rattle.workload.specs.Choice.{call_of, joined, HasRoom, pointers_after};
 
 use crate::choosing::Choice;
-use arrayvec::ArrayVec;
+use crate::held::Held;
 
 // Allocates; an accepted pointer goes behind the others.
 #[tactic(auto, using(crate::proofs::Pointers::joined_none, crate::proofs::Pointers::joined_one))]
-fn join(image: &mut [u8], table: &mut [u64], held: &mut ArrayVec<u64, 64>, size: u32)
-    requires { length held.old.items < 64 }
-    ensures pointers_after { held.new.items ≡ joined (allocate size 0 (state image.old table.old)).answer held.old.items }
+fn join(image: &mut [u8], table: &mut [u64], held: &mut Held, size: u32)
+    requires { length held.old < 64 }
+    ensures pointers_after { held.new ≡ joined (allocate size 0 (state image.old table.old)).answer held.old }
     ensures table_after { state image.new table.new ≡ (allocate size 0 (state image.old table.old)).after }
 {
     let mut p = 0;
@@ -22,10 +22,10 @@ fn join(image: &mut [u8], table: &mut [u64], held: &mut ArrayVec<u64, 64>, size:
 }
 
 // Makes the call of a choice.
-#[tactic(auto, using(crate::proofs::Pointers::removed), unfolding(crate::specs::Choice::HasRoom, crate::specs::Choice::pointers_after))]
-pub fn make(image: &mut [u8], table: &mut [u64], held: &mut ArrayVec<u64, 64>, c: Choice)
-    requires { HasRoom 64 (length held.old.items) c }
-    ensures pointers_after { held.new.items ≡ pointers_after c (made (call_of c) (state image.old table.old)).answer held.old.items }
+#[tactic(auto, unfolding(crate::specs::Choice::HasRoom, crate::specs::Choice::pointers_after))]
+pub fn make(image: &mut [u8], table: &mut [u64], held: &mut Held, c: Choice)
+    requires { HasRoom 64 (length held.old) c }
+    ensures pointers_after { held.new ≡ pointers_after c (made (call_of c) (state image.old table.old)).answer held.old }
     ensures table_after { state image.new table.new ≡ (made (call_of c) (state image.old table.old)).after }
 {
     match c {

@@ -11,22 +11,22 @@ use Rattle.workload.proofs.drawing.run.Goals as goal
 pub returns-then-log-written : goal.returns-then-log-written
 returns-then-log-written c =
     let l = c.loop in
-    let r : Progress = progress l.generator.state l.held.items (state l.image l.table) l.log l.written in
+    let r : Progress = progress l.generator.state l.held (state l.image l.table) l.log l.written in
     let left : suc (c.args.draws - (l.counter + 1)) ≡ c.args.draws - l.counter = omega arith in
-    let next : c.choose-c.result ≡ next_choice r = cc (c.choose-c.ensures.choice, c.next.ensures.draw, c.deref.ensures.0) in
+    let next : c.choose-c.result ≡ next_choice r = cc (c.choose-c.ensures.choice, c.next.ensures.draw, c.live.ensures) in
     cc (ap logged_by (no_space (c.args.draws - (l.counter + 1)) r _ next (omega arith)), left, l.invariant.1)
 
 -- the next draw is made
 pub loop-preserved : goal.loop-preserved
 loop-preserved c =
     let l = c.loop in
-    let r : Progress = progress l.generator.state l.held.items (state l.image l.table) l.log l.written in
+    let r : Progress = progress l.generator.state l.held (state l.image l.table) l.log l.written in
     let m = c.make in
     let p = c.put_record in
     let len = c.record_length-len in
-    let after : Progress = progress c.next.new.self.state m.new.held.items (state m.new.image m.new.table) p.new.log (l.written + len.result) in
+    let after : Progress = progress c.next.new.self.state m.new.held (state m.new.image m.new.table) p.new.log (l.written + len.result) in
     let left : suc (c.args.draws - (l.counter + 1)) ≡ c.args.draws - l.counter = omega arith in
-    let next : c.choose-c.result ≡ next_choice r = cc (c.choose-c.ensures.choice, c.next.ensures.draw, c.deref.ensures.0) in
+    let next : c.choose-c.result ≡ next_choice r = cc (c.choose-c.ensures.choice, c.next.ensures.draw, c.live.ensures) in
     let turn = one_made (c.args.draws - (l.counter + 1)) r _ next after (omega arith) c.next.ensures.state m.ensures.pointers_after m.ensures.table_after p.ensures (ap (λ n. l.written + n) len.ensures) in
     (omega arith, cc (turn, left, l.invariant.1))
 
@@ -35,4 +35,4 @@ pub returns : goal.returns
 returns c =
     let l = c.loop in
     let left : c.args.draws - l.counter ≡ 0 = omega arith in
-    cc (ap logged_by (draws_none (progress l.generator.state l.held.items (state l.image l.table) l.log l.written)), left, l.invariant.1)
+    cc (ap logged_by (draws_none (progress l.generator.state l.held (state l.image l.table) l.log l.written)), left, l.invariant.1)

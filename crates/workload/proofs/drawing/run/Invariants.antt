@@ -8,5 +8,5 @@ use Rattle.workload.proofs.drawing.run.Given as goal
 abbrev pub invariant-loop : goal.invariant-loop
 invariant-loop l =
     (l.written ≤ length l.log)
-    × (draws_from (l.draws - l.counter) (progress l.generator.state l.held.items (state l.image l.table) l.log l.written)
+    × (draws_from (l.draws - l.counter) (progress l.generator.state l.held (state l.image l.table) l.log l.written)
     ≡ draws_from l.draws (started l.fn.generator.state (state l.initial.image l.initial.table) l.initial.log))
