@@ -20,13 +20,13 @@ fn run(image: &mut [u8], table: &mut [u64], mut generator: Generator, draws: u64
     for _ in 0..draws {
         let mut next = generator;
         let c = choose(next.next(), held.live());
-        let len = record_length(c);
-        if log.len() - written < len {
+        let end = written + record_length(c);
+        if log.len() < end {
             return Traffic::LogFull(generator.state, written as u64);
         }
-        put_record(log, written, c);
+        put_record(&mut log[written..end], c);
         make(image, table, &mut held, c);
-        written += len;
+        written = end;
         generator = next;
     }
     Traffic::Done(generator.state, written as u64)

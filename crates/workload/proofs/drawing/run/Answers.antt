@@ -1,15 +1,16 @@
 -- `workload::drawing::run`. Assumes nothing.
-use Rattle.std.proofs.Common.{◌≡◌, suc, ◌+◌, ◌-◌, sym, ap, ◌∙◌, arith}
+use Rattle.std.proofs.Common.{◌≡◌, suc, ◌+◌, ◌-◌, sym, ap, ◌∙◌, arith, rules}
 use Rattle.store.specs.State.{state}
 use Rattle.workload.specs.Choice.{choice_of}
 use Rattle.workload.specs.Generator.{drawn}
 use Rattle.workload.specs.Traffic.{Progress, next_choice, draws_from, logged_by}
+use Rattle.workload.proofs.Writers.{put_part}
 use Rattle.workload.proofs.Draws.{draws_none, progress, no_space, one_made}
 use Rattle.workload.proofs.drawing.run.Goals as goal
 
 -- the log has no space for the next record
-pub returns-then-log-written : goal.returns-then-log-written
-returns-then-log-written c =
+pub returns-then-log-end : goal.returns-then-log-end
+returns-then-log-end c =
     let l = c.loop in
     let r : Progress = progress l.generator.state l.held (state l.image l.table) l.log l.written in
     let left : suc (c.args.draws - (l.counter + 1)) ≡ c.args.draws - l.counter = omega arith in
@@ -22,13 +23,15 @@ loop-preserved c =
     let l = c.loop in
     let r : Progress = progress l.generator.state l.held (state l.image l.table) l.log l.written in
     let m = c.make in
-    let p = c.put_record in
-    let len = c.record_length-len in
-    let after : Progress = progress c.next.new.self.state m.new.held (state m.new.image m.new.table) p.new.log (l.written + len.result) in
+    let len = c.record_length in
     let left : suc (c.args.draws - (l.counter + 1)) ≡ c.args.draws - l.counter = omega arith in
     let next : c.choose-c.result ≡ next_choice r = cc (c.choose-c.ensures.choice, c.next.ensures.draw, c.live.ensures) in
-    let turn = one_made (c.args.draws - (l.counter + 1)) r _ next after (omega arith) c.next.ensures.state m.ensures.pointers_after m.ensures.table_after p.ensures (ap (λ n. l.written + n) len.ensures) in
-    (omega arith, cc (turn, left, l.invariant.1))
+    let log_is = put_part l.log l.written len.result c.put_record.new.space _ c.put_record.ensures len.ensures.value in
+    let turn = one_made (c.args.draws - (l.counter + 1)) r c.choose-c.result next
+    (progress c.next.new.self.state m.new.held (state m.new.image m.new.table) _ (l.written + len.result)) (omega arith)
+    c.next.ensures.state m.ensures.pointers_after m.ensures.table_after log_is (ap (λ n. l.written + n) len.ensures.value)
+    in
+    (search rules, cc (turn, left, l.invariant.1))
 
 -- all draws are made
 pub returns : goal.returns
