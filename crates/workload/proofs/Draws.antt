@@ -1,6 +1,6 @@
 -- The draws, one by one.
 -- In order: the three ways on; the same by the choice of a draw; what follows set-up. Assumes nothing.
-use Rattle.std.proofs.Common.{◌≡◌, ℕ, suc, ◌+◌, ◌-◌, ◌<◌, ◌≤◌, true, false, List, length, sym, refl, ap, ◌∙◌, arith, le-leb}
+use Rattle.std.proofs.Common.{◌≡◌, ℕ, suc, ◌+◌, ◌<◌, ◌≤◌, true, false, List, length, sym, refl, ap, ◌∙◌, le-leb}
 use borrow.Author.Tests.{lt-leb}
 use Rattle.block.specs.Bytes.{put}
 use Rattle.store.specs.State.{State, state, Outcome, outcome}
@@ -10,9 +10,9 @@ use Rattle.store.specs.declared.answer.Answer.TheVariants.{Accepted, Refused}
 use Rattle.store.specs.declared.answer.Refusal.{Refusal}
 use Rattle.call_log.specs.Run.{made}
 use Rattle.call_log.specs.Written.{record_of}
-use Rattle.workload.specs.Generator.{advanced, drawn}
-use Rattle.workload.specs.Choice.{choice_of, call_of, pointers_after}
-use Rattle.workload.specs.Traffic.{Progress, next_choice, next_call, has_space, recorded, Ended, draws_from, started, logged, logged_by, after_set_up, traffic}
+use Rattle.workload.specs.Generator.{advanced}
+use Rattle.workload.specs.Choice.{call_of, pointers_after}
+use Rattle.workload.specs.Traffic.{Progress, next_choice, has_space, recorded, draws_from, started, logged, logged_by, after_set_up, traffic}
 use Rattle.workload.specs.declared.answer.Traffic.{Traffic}
 use Rattle.workload.specs.declared.answer.Traffic.TheVariants as answer
 use Rattle.workload.specs.declared.choosing.Choice.{Choice}

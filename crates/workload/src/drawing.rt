@@ -12,7 +12,13 @@ use crate::recording::{put_record, record_length};
 use store::Answer;
 
 // Draws on an image and table that were set up: each call is made and recorded, until all draws are, or the log has no space for the next.
-fn run(image: &mut [u8], table: &mut [u64], mut generator: Generator, draws: u64, log: &mut [u8]) -> Traffic
+fn run(
+    image: &mut [u8],
+    table: &mut [u64],
+    mut generator: Generator,
+    draws: u64,
+    log: &mut [u8],
+) -> Traffic
     ensures { logged result (state image.new table.new) log.new ≡ logged_by (draws_from draws (started generator.state (state image.old table.old) log.old)) }
 {
     let mut held = Held::new();

@@ -1,9 +1,7 @@
 -- `workload::drawing::run`. Assumes nothing.
-use Rattle.std.proofs.Common.{◌≡◌, suc, ◌+◌, ◌-◌, sym, ap, ◌∙◌, arith, rules}
+use Rattle.std.proofs.Common.{◌≡◌, suc, ◌+◌, ◌-◌, ap, arith, rules}
 use Rattle.store.specs.State.{state}
-use Rattle.workload.specs.Choice.{choice_of}
-use Rattle.workload.specs.Generator.{drawn}
-use Rattle.workload.specs.Traffic.{Progress, next_choice, draws_from, logged_by}
+use Rattle.workload.specs.Traffic.{Progress, next_choice, logged_by}
 use Rattle.workload.proofs.Writers.{put_part}
 use Rattle.workload.proofs.Draws.{draws_none, progress, no_space, one_made}
 use Rattle.workload.proofs.drawing.run.Goals as goal
