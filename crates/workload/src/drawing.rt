@@ -9,7 +9,6 @@ use crate::generator::Generator;
 use crate::held::Held;
 use crate::making::make;
 use crate::recording::{put_record, record_length};
-use store::Answer;
 
 // Draws on an image and table that were set up: each call is made and recorded, until all draws are, or the log has no space for the next.
 fn run(
@@ -50,7 +49,7 @@ pub fn traffic(
     ensures { logged result (state image.new table.new) log.new ≡ traffic s generator draws (state image.old table.old) log.old }
 {
     match store::set_up(image, table, s) {
-        Answer::Refused(r) => Traffic::Refused(r),
-        Answer::Accepted(_) => run(image, table, Generator { state: generator }, draws, log),
+        Err(r) => Traffic::Refused(r),
+        Ok(_) => run(image, table, Generator { state: generator }, draws, log),
     }
 }

@@ -35,7 +35,7 @@ pub fn make(image: &mut [u8], table: &mut [u64], held: &mut Held, c: Choice)
             held.remove(i);
         }
         Choice::Store(p, byte) => {
-            store::store_byte(image, table, p, byte);
+            let _ = store::store_byte(image, table, p, byte);
         }
     }
 }

@@ -4,7 +4,7 @@ ghost use Rattle.call_log.specs.Written.{record_of};
 ghost use Rattle.workload.specs.Choice.{call_of};
 
 use crate::choosing::Choice;
-use block::bytes::{write2, write4, write8};
+use block::bytes::write;
 
 // How long it is: 22 bytes at most.
 #[tactic(auto, using(crate::proofs::Writers::length_allocate, crate::proofs::Writers::length_free, crate::proofs::Writers::length_store))]
