@@ -1,55 +1,51 @@
 // The workload that the program records.
-ghost use Rattle.std.specs.Prelude.{◌≡◌, length};
-ghost use Rattle.std.specs.Counts.{IsPrefixLen};
+ghost use Rattle.std.specs.Prelude.{◌≡◌, take};
 ghost use Rattle.dump.specs.Dump.{table_bytes};
 ghost use Rattle.workload.specs.Traffic.{bytes_written};
 ghost use Rattle.traffic.specs.Program.{program_run, is_full};
 
+use dump::Dump;
 use workload::Traffic;
 
-// The bytes of log that a workload has written, and whether the log has no space for its next record. The image and the
-// table's entries that it leaves, 8 bytes for each entry.
-#[derive(Clone, Copy)]
-pub struct Written {
-    pub bytes: usize,
-    pub full: bool,
-    pub image: [u8; 8192],
-    pub entries: [u8; 6144],
+// A workload's answer, the log that it has written, and what it leaves.
+#[derive(Drop)]
+pub struct Recording<'a> {
+    pub answer: Traffic,
+    pub log: &'a [u8],
+    pub left: Dump,
 }
 
-// Records a workload on an image of its own.
-pub fn recorded(generator: u64, draws: u64, log: &mut [u8]) -> Written
-    ensures prefix_len { IsPrefixLen result.bytes log.new }
-    ensures bytes_value { result.bytes ≡ bytes_written (program_run generator draws log.old).answer }
-    ensures full_value { result.full ≡ is_full (program_run generator draws log.old).answer }
-    ensures log_after { log.new ≡ (program_run generator draws log.old).log }
-    ensures image_value { result.image ≡ (program_run generator draws log.old).after.image }
-    ensures entries_value { result.entries ≡ table_bytes (program_run generator draws log.old).after.table }
-    ensures value { (8192 ≡ length result.image) × (6144 ≡ length result.entries) }
+// Records a workload on an image of its own, at the start of `log`.
+pub fn recorded(generator: u64, draws: u64, log: &mut [u8]) -> Recording<'_>
+    ensures answer_value { result.answer ≡ (program_run generator draws log.old).answer }
+    ensures log_value { result.log.now ≡ take (bytes_written (program_run generator draws log.old).answer) (program_run generator draws log.old).log }
+    ensures image_value { result.left.image ≡ (program_run generator draws log.old).after.image }
+    ensures entries_value { result.left.entries ≡ table_bytes (program_run generator draws log.old).after.table }
 {
     let mut image = [0u8; 8192];
     let mut table = [0u64; 768];
     let answer = workload::traffic(&mut image, &mut table, 8, generator, draws, log);
-    let mut entries = [0u8; 6144];
-    dump::put_entries(&mut entries, &table);
+    let n = written(answer);
+    Recording {
+        answer,
+        log: &log[..n],
+        left: Dump::new(image, &table),
+    }
+}
+
+// Whether the log has no space for the next record.
+pub fn is_full(answer: Traffic) -> bool
+    ensures { result ≡ is_full answer }
+{
+    matches!(answer, Traffic::LogFull(..))
+}
+
+// The bytes of log that a workload has written.
+fn written(answer: Traffic) -> usize
+    ensures { result ≡ bytes_written answer }
+{
     match answer {
-        Traffic::Done(_, n) => Written {
-            bytes: n as usize,
-            full: false,
-            image,
-            entries,
-        },
-        Traffic::LogFull(_, n) => Written {
-            bytes: n as usize,
-            full: true,
-            image,
-            entries,
-        },
-        Traffic::Refused(_) => Written {
-            bytes: 0,
-            full: false,
-            image,
-            entries,
-        },
+        Traffic::Done(_, n) | Traffic::LogFull(_, n) => n as usize,
+        Traffic::Refused(_) => 0,
     }
 }
