@@ -1,18 +1,21 @@
 // A dump of a program's store: image and frame table as bytes, and the files that arguments name for them.
 #![tactic(auto)]
 
-pub mod file;
+mod file;
 
 ghost use Rattle.std.specs.Prelude.{◌≡◌, ◌*◌, length};
 ghost use Rattle.dump.specs.Dump.{table_bytes};
 
 use block::bytes::write8;
+pub use file::names_dump;
 
 // The image and the table's entries, 8 bytes for each.
 #[derive(Drop)]
 pub struct Dump {
     pub image: [u8; 8192],
     pub entries: [u8; 6144],
+    ghost image_long: { length image ≡ 8192 },
+    ghost entries_long: { length entries ≡ 6144 },
 }
 
 impl Dump {

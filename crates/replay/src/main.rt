@@ -8,19 +8,19 @@ ghost use Rattle.replay.specs.Program.{program_text, program_state};
 use dump::Dump;
 use std::io::Read;
 
-// What a run prints, and what it leaves.
+// What a run prints, and the dump of what it leaves.
 #[derive(Drop)]
 struct Run<'a> {
     text: &'a [u8],
-    left: Dump,
+    dump: Dump,
 }
 
 // Runs a log on a fresh store; its text stands at the start of `text`. A log of 65,536 bytes needs 150,739 bytes of text at most.
 fn answered<'a>(log: &[u8], text: &'a mut [u8]) -> Run<'a>
     requires { (length log.now ≤ 65536) × (150739 ≤ length text.old) }
     ensures text_value { result.text.now ≡ program_text log.now }
-    ensures image_value { result.left.image ≡ (program_state log.now).image }
-    ensures entries_value { result.left.entries ≡ table_bytes (program_state log.now).table }
+    ensures image_value { result.dump.image ≡ (program_state log.now).image }
+    ensures entries_value { result.dump.entries ≡ table_bytes (program_state log.now).table }
 {
     let mut image = [0u8; 8192];
     let mut table = [0u64; 768];
@@ -28,7 +28,7 @@ fn answered<'a>(log: &[u8], text: &'a mut [u8]) -> Run<'a>
     let bytes = call_log::replay(&mut image, &mut table, log, text);
     Run {
         text: &text[..bytes],
-        left: Dump::new(image, &table),
+        dump: Dump::new(image, &table),
     }
 }
 
@@ -55,6 +55,6 @@ fn main(rt: HostRuntime) {
     let run = answered(log, &mut text);
     let _ = rt.write_all(run.text);
     for i in 1..3 {
-        run.left.write_named(&rt, i);
+        run.dump.write_named(&rt, i);
     }
 }

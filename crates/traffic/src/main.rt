@@ -5,7 +5,7 @@
 mod number;
 mod recording;
 
-use dump::file::names_dump;
+use dump::names_dump;
 use number::read_number;
 use recording::{is_full, recorded};
 use std::env::FillError;
@@ -37,7 +37,7 @@ fn requested(rt: &impl Env) -> Option<(u64, u64)> {
     let is_malformed = is_given(rt, 5)
         || !is_behind(rt, 3)
         || !is_behind(rt, 4)
-        || names_dump(rt, 1) && !is_behind(rt, 2);
+        || (names_dump(rt, 1) && !is_behind(rt, 2));
     if is_malformed {
         return None;
     }
@@ -62,6 +62,6 @@ fn main(rt: HostRuntime) {
         );
     }
     for i in 1..5 {
-        recording.left.write_named(&rt, i);
+        recording.dump.write_named(&rt, i);
     }
 }

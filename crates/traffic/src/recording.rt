@@ -7,20 +7,20 @@ ghost use Rattle.traffic.specs.Program.{program_run, is_full};
 use dump::Dump;
 use workload::Traffic;
 
-// A workload's answer, the log that it has written, and what it leaves.
+// A workload's answer, the log that it has written, and the dump of what it leaves.
 #[derive(Drop)]
 pub struct Recording<'a> {
     pub answer: Traffic,
     pub log: &'a [u8],
-    pub left: Dump,
+    pub dump: Dump,
 }
 
 // Records a workload on an image of its own, at the start of `log`.
 pub fn recorded(generator: u64, draws: u64, log: &mut [u8]) -> Recording<'_>
     ensures answer_value { result.answer ≡ (program_run generator draws log.old).answer }
     ensures log_value { result.log.now ≡ take (bytes_written (program_run generator draws log.old).answer) (program_run generator draws log.old).log }
-    ensures image_value { result.left.image ≡ (program_run generator draws log.old).after.image }
-    ensures entries_value { result.left.entries ≡ table_bytes (program_run generator draws log.old).after.table }
+    ensures image_value { result.dump.image ≡ (program_run generator draws log.old).after.image }
+    ensures entries_value { result.dump.entries ≡ table_bytes (program_run generator draws log.old).after.table }
 {
     let mut image = [0u8; 8192];
     let mut table = [0u64; 768];
@@ -29,7 +29,7 @@ pub fn recorded(generator: u64, draws: u64, log: &mut [u8]) -> Recording<'_>
     Recording {
         answer,
         log: &log[..n],
-        left: Dump::new(image, &table),
+        dump: Dump::new(image, &table),
     }
 }
 
