@@ -7,7 +7,7 @@ mod recording;
 
 use dump::names_dump;
 use number::read_number;
-use recording::{is_full, recorded};
+use recording::recorded;
 use std::env::FillError;
 use std::rt::Env;
 
@@ -55,8 +55,8 @@ fn main(rt: HostRuntime) {
     // as much as `replay` reads
     let mut log = [0u8; 65536];
     let recording = recorded(generator, draws, &mut log);
-    let _ = rt.write_all(recording.log);
-    if is_full(recording.answer) {
+    let _ = rt.write_all(recording.written());
+    if recording.is_full() {
         let _ = eprintln!(rt;
             "traffic: the log of 65536 bytes is full (23): the draws behind it were not made"
         );
