@@ -4,7 +4,6 @@ use Rattle.std.proofs.Common.{sym, ap, ◌∙◌, subst, arith, length-take, get
 use Rattle.block.specs.Bytes.{Bytes}
 use Rattle.block.specs.Layout.{within, good_exponent}
 use Rattle.block.specs.laws.Booleans.{by_bool, and_left, and_right}
-use Rattle.placement.specs.declared.answer.Best.{Best}
 use Rattle.placement.specs.Orders.{orders, order_at, factorial}
 use Rattle.placement.specs.Placement.{good_sizes, good_plan, large, first_least, best_order, found, refused, placement}
 use Rattle.placement.specs.laws.Picks.{factorial_some, all-orders}
@@ -121,11 +120,11 @@ best-at s sizes budget h =
           subst (λ (o : List ℕ). large s sizes (first_least (large s sizes) tried) < large s sizes o) (tried_at n budget i (omega arith)) (b.first i m);
     }
 
--- what the search over so many orders gives: the best one's number, and its large-framed objects
-pub record BestFound (s : ℕ) (sizes : List ℕ) (tried : ℕ) (best : Best) : Type 0 where
-  pub was_tried : best.index < tried
-  pub order_is : order_at (length sizes) best.index ≡ best_order s sizes tried
-  pub large_is : best.large ≡ large s sizes (best_order s sizes tried)
+-- what the search over so many orders gives: the best one's large-framed objects, and its number
+pub record BestFound (s : ℕ) (sizes : List ℕ) (tried : ℕ) (best : ℕ × ℕ) : Type 0 where
+  pub was_tried : best.1 < tried
+  pub order_is : order_at (length sizes) best.1 ≡ best_order s sizes tried
+  pub large_is : best.0 ≡ large s sizes (best_order s sizes tried)
 
 -- Every place of the answer is a byte.
 
