@@ -7,9 +7,8 @@ use Rattle.store.specs.declared.comparing.Comparison.{Comparison}
 use Rattle.store.specs.declared.measuring.Measurement.{Measurement}
 use Rattle.store.specs.declared.measuring.Measurement.TheVariants as measurement
 use Rattle.store.specs.declared.counting.Usage.{Usage}
-use Rattle.placement.specs.Placement.{order_word}
-use Rattle.placement.specs.declared.answer.Placement.{Placement}
-use Rattle.overhead.specs.declared.answer.Report.{Report}
+use Rattle.placement.specs.Placement.{Placement, order_word}
+use Rattle.overhead.specs.Overhead.{Report}
 use Rattle.workload.specs.Traffic.{traffic_number, state_after, bytes_written, LoggedOutcome, logged}
 use Rattle.workload.specs.declared.answer.Traffic.{Traffic}
 use Rattle.workload.specs.declared.answer.Traffic.TheVariants as answer

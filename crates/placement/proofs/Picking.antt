@@ -1,8 +1,7 @@
 -- A turn of the loop that picks an order by the digits of its number, and of the loop that counts an order's large-framed objects. Assumes nothing.
-use Prim.Native.Nat.{ℕ, zero, suc, ◌+◌, ◌-◌, ◌*◌, ◌/◌, ◌%◌, ◌≤◌, ◌<◌}
+use Prim.Native.Nat.{ℕ, zero, suc, ◌+◌, ◌-◌, ◌/◌, ◌%◌, ◌≤◌, ◌<◌}
 use mathlib.Core.Path.{◌≡◌, sym, ap, ◌∙◌, subst}
-use mathlib.Core.Bool.{true, not}
-use mathlib.Core.List.{List, [], ◌∷◌, ◌++◌}
+use mathlib.Core.List.{List, ◌∷◌, ◌++◌}
 use native.Mathlib.Nat.{zero-add, suc-add, sub-zero, mod-lt}
 use native.Mathlib.Numerals.{add-one}
 use native.Mathlib.Omega.{arith}
@@ -11,7 +10,7 @@ use lib.Seq.{sets, sets-eq}
 use Rattle.block.specs.Bytes.{decode, Bytes}
 use Rattle.placement.specs.Orders.{positions, without, order_at, factorial}
 use Rattle.placement.specs.Placement.{eight_places}
-use Rattle.placement.specs.laws.Positions.{positions-at, stood, without_at, stood_most, positions_agree}
+use Rattle.placement.specs.laws.Positions.{positions_agree}
 use Rattle.placement.specs.laws.Picks.{factorial_some, picked, order_picked, picked_none, picked_one, picked-length, digit_below, picked_agree}
 use Rattle.placement.specs.laws.Packed.{place_in, removed_from, place_is, removed_is, without_bytes, eight_bytes, eight_packed}
 

@@ -1,7 +1,7 @@
 -- The definitions over the sizes in the words of `std`, and a turn of the loop over an order. Assumes nothing.
 use Rattle.std.proofs.Common.{◌≡◌, ℕ, ◌+◌, ◌*◌, ◌^◌, ◌≤◌, ◌<◌, List, [], ◌∷◌, Bool, true, false, cond, ◌&&◌, refl, ap, leb, ltb, not, length, get_or, drop, drop-cons, add-one, arith}
 use Rattle.std.specs.List.{list_all, count_by}
-use Rattle.std.proofs.lemmas.List.Recursion.{same_from_clauses, is_count_by}
+use Rattle.std.proofs.lemmas.List.Recursion.{is_count_by}
 use Rattle.frame.specs.Pointers.{bit}
 use Rattle.std.proofs.Math.ListN.{drop_of_length-le}
 use Rattle.frame.specs.Tags.{is_small, last_held}

@@ -1,4 +1,4 @@
-use Rattle.std.proofs.Common.{◌≡◌, ◌<◌, ◌^◌, sym, ◌∙◌, arith}
+use Rattle.std.proofs.Common.{◌<◌, ◌^◌, sym, ◌∙◌, arith}
 use Rattle.placement.specs.laws.Counts.{small_here, large_here}
 use Rattle.placement.proofs.Turns.{counting_begins, counting_goes_on, counting_ends}
 use Rattle.placement.proofs.counting.large_in.Goals as goal

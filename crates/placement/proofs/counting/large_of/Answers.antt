@@ -1,4 +1,4 @@
-use Rattle.std.proofs.Common.{◌≡◌, ◌≤◌, ◌∙◌, ap, length, take, take_at, arith, rules}
+use Rattle.std.proofs.Common.{◌≡◌, ◌∙◌, ap, length, take, take_at, arith, rules}
 use Rattle.placement.specs.Orders.{order_at}
 use Rattle.placement.specs.Placement.{large}
 use Rattle.placement.specs.laws.Arrangements.{only_orders}

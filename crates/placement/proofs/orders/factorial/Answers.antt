@@ -1,4 +1,4 @@
-use Rattle.std.proofs.Common.{◌≡◌, ◌∙◌, ap, refl, ℕ, ◌≤◌, List, [], ◌∷◌, map, length, get_or, arith}
+use Rattle.std.proofs.Common.{◌≡◌, ◌∙◌, ap, refl, ℕ, List, [], ◌∷◌, map, get_or, arith}
 use Rattle.std.proofs.lemmas.List.{get_or-map}
 use Rattle.placement.specs.Orders.{factorial, positions, positions_from}
 use Rattle.placement.specs.laws.Positions.{positions-length, positions-at}

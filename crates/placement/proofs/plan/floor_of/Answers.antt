@@ -1,6 +1,5 @@
-use Rattle.std.proofs.Common.{◌≡◌, ltb, ◌^◌, ◌+◌, sym, ◌∙◌, rules, tests}
+use Rattle.std.proofs.Common.{◌≡◌, ltb, ◌^◌, ◌+◌, sym, ◌∙◌, rules}
 use Rattle.std.specs.List.{count_by}
-use Rattle.std.proofs.lemmas.Grind.{common_steps}
 use Rattle.placement.proofs.Turns.{floor_count}
 use Rattle.placement.proofs.plan.floor_of.Goals as goal
 

@@ -1,5 +1,5 @@
 -- The definition's tests in their order; the lesser of budget and all orders finds what the budget finds.
-use Rattle.std.proofs.Common.{◌≡◌, sym, ap, ◌∙◌, subst, true, ℕ, ◌<◌, min, List, length, Option, None, Some, Result, Ok, Err, MatchOption, arith, rules}
+use Rattle.std.proofs.Common.{◌≡◌, sym, ap, ◌∙◌, subst, true, ℕ, ◌<◌, min, List, length, Option, None, Some, Ok, Err, MatchOption, arith, rules}
 use Rattle.std.specs.Option.{ok_or}
 use Rattle.placement.specs.declared.answer.Refusal.{Refusal}
 use Rattle.placement.specs.declared.answer.Refusal.TheVariants.{NoBudget}
