@@ -6,12 +6,21 @@ ghost use Rattle.placement.specs.Placement.{eight_places};
 use super::packed::{POSITIONS, take};
 
 // How many orders n objects have.
+#[tactic(auto, unfolding(crate::specs::Orders::factorial))]
 pub fn factorial(n: usize) -> u64
     requires { n ≤ 8 }
     ensures { result ≡ factorial n }
 {
-    const ORDERS: [u64; 9] = [1, 1, 2, 6, 24, 120, 720, 5040, 40320];
-    ORDERS[n]
+    match n {
+        0 | 1 => 1,
+        2 => 2,
+        3 => 6,
+        4 => 24,
+        5 => 120,
+        6 => 720,
+        7 => 5040,
+        _ => 40320,
+    }
 }
 
 // The order of n positions that is tried as number i: each digit of i picks from the positions that are left.
