@@ -1,6 +1,6 @@
 // The report over a list of sizes.
 ghost use Rattle.std.specs.Prelude.{◌≡◌, true, ◌≤◌, length};
-ghost use Rattle.overhead.specs.Overhead.{good_sizes, end_from, fraction, report, answered};
+ghost use Rattle.overhead.specs.Overhead.{good_sizes, padded, total, end_from, fraction, report, answered};
 
 use super::answer::{Fraction, Refusal, Report};
 use super::padding::{block_end, padded};
@@ -12,15 +12,21 @@ fn good_sizes(sizes: &[u32]) -> bool
     sizes.iter().all(|size| (1..=65536).contains(size))
 }
 
-// The end that padded blocks of these sizes reach, in list order, from 0 on.
-fn end_of(sizes: &[u32]) -> u64
+// Bytes of the padded blocks of these sizes, without gaps, and the end that they reach, in list order, from 0 on.
+fn placed(sizes: &[u32]) -> (u64, u64)
     requires few { length sizes.now ≤ 65536 }
     requires good { good_sizes sizes.now ≡ true }
-    ensures { result ≡ end_from 0 sizes.now }
+    ensures bytes { result.0 ≡ total padded sizes.now }
+    ensures end { result.1 ≡ end_from 0 sizes.now }
 {
-    sizes
-        .iter()
-        .fold(0, |end, size| block_end(padded(*size), end))
+    let mut bytes = 0;
+    let mut end = 0;
+    for size in sizes {
+        let p = padded(*size);
+        bytes += p;
+        end = block_end(p, end);
+    }
+    (bytes, end)
 }
 
 // The extra bytes over raw bytes; 0 over 1 where there are none.
@@ -50,8 +56,7 @@ pub fn report(sizes: &[u32]) -> Result<Report, Refusal>
     }
     let raw = sizes.iter().map(|size| u64::from(*size)).sum();
     let headed = raw + 16 * sizes.len() as u64;
-    let blocks = sizes.iter().map(|size| padded(*size)).sum();
-    let end = end_of(sizes);
+    let (blocks, end) = placed(sizes);
     Ok(Report {
         raw,
         headed,

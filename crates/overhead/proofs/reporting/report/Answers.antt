@@ -1,10 +1,6 @@
 -- The definition's tests in their order; no overhead is negative (`sums-ordered`).
 use Rattle.std.proofs.Common.{◌≡◌, sym, ◌∙◌, arith, rules}
 use Rattle.std.specs.List.{sum_by}
-use Rattle.std.proofs.lemmas.Iterator.{YieldsList-from_slice, YieldsList-from_map}
-use Rattle.std.proofs.lemmas.Iterator.Consumers.{YieldsList-at, fits_by_from_yields_list}
-use Rattle.overhead.specs.Overhead.{padded}
-use Rattle.overhead.specs.laws.Padding.{padded_most}
 use Rattle.overhead.specs.laws.Totals.{sums-ordered}
 use Rattle.overhead.specs.laws.Rows.{report_long, report_bad, report-given}
 use Rattle.overhead.proofs.Turns.{sum_most, summed}
@@ -22,20 +18,13 @@ overflow_add-headed c =
     let most = sum_most (λ size. size) 65536 (λ size h. h) c.args.sizes.now (sym c.good_sizes.ensures ∙ c.if-not-good_sizes.false) in
     omega (arith, raw, most)
 
-pub sum-blocks-requires-clause-fits : goal.sum-blocks-requires-clause-fits
-sum-blocks-requires-clause-fits c =
-    let most = sum_most padded 65536 padded_most c.args.sizes.now (sym c.good_sizes.ensures ∙ c.if-not-good_sizes.false) in
-    fits_by_from_yields_list padded c.args.sizes.now c.map-2.result _
-    (YieldsList-from_map _ padded (YieldsList-at c.map-2.ensures.source (YieldsList-from_slice c.args.sizes.now cc)) c.map-2.ensures.closure (λ x r q k. search rules))
-    (omega (arith, most))
-
 pub fraction-requires-2 : goal.fraction-requires-2
 fraction-requires-2 c =
-    (sums-ordered _ _ (summed c.args.sizes.now c.sum-raw.result c.sum-blocks.result c.end_of-end.result (search rules) (search rules) c.end_of-end.ensures)).1
+    (sums-ordered _ _ (summed c.args.sizes.now c.sum-raw.result c.placed-blocks.result.0 c.placed-blocks.result.1 (search rules) c.placed-blocks.ensures.bytes c.placed-blocks.ensures.end)).1
 
 pub returns : goal.returns
 returns c =
     report-given _ _ _ _ c.if-sizes-gt65536.false (sym c.good_sizes.ensures ∙ c.if-not-good_sizes.false)
-    (summed c.args.sizes.now c.sum-raw.result c.sum-blocks.result c.end_of-end.result (search rules) (search rules) c.end_of-end.ensures)
+    (summed c.args.sizes.now c.sum-raw.result c.placed-blocks.result.0 c.placed-blocks.result.1 (search rules) c.placed-blocks.ensures.bytes c.placed-blocks.ensures.end)
     c.fraction.ensures
     c.fraction-2.ensures
