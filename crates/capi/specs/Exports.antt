@@ -6,9 +6,8 @@ use Rattle.store.specs.declared.answer.Refusal.TheVariants.{BadLength, Dangling}
 use Rattle.store.specs.State.{Answer}
 use Rattle.store.specs.declared.measuring.BodyEnds.{BodyEnds}
 use Rattle.block.specs.declared.walk.Counts.{Counts}
-use Rattle.placement.specs.Placement.{order_word}
-use Rattle.placement.specs.declared.answer.Placement.{Placement}
-use Rattle.overhead.specs.declared.answer.Report.{Report}
+use Rattle.placement.specs.Placement.{Placement, order_word}
+use Rattle.overhead.specs.Overhead.{Report}
 use Rattle.workload.specs.Traffic.{traffic_number, state_after, bytes_written, LoggedOutcome, logged}
 use Rattle.workload.specs.declared.answer.Traffic.{Traffic}
 use Rattle.workload.specs.declared.answer.Traffic.TheVariants as answer

@@ -308,12 +308,22 @@ pub extern "C" fn cue_order(
 ) -> u32
     ensures { ordered result order.new large.new tried.new floor.new ≡ exported_placement (placement exponent sizes.now budget) }
 {
-    let p = placement::order(sizes, exponent, budget);
-    *order = p.order_word();
-    *large = p.large;
-    *tried = p.tried;
-    *floor = p.floor;
-    p.row
+    match placement::order(sizes, exponent, budget) {
+        Ok(p) => {
+            *order = p.order_word();
+            *large = p.large;
+            *tried = p.tried;
+            *floor = p.floor;
+            0
+        }
+        Err(r) => {
+            *order = 0;
+            *large = 0;
+            *tried = 0;
+            *floor = 0;
+            r.number()
+        }
+    }
 }
 
 // The report of the sizes: raw bytes go to `raw`, those with headers to `headed`, padded ones to `padded`, the end of padded blocks to `end`; then the two overheads.
@@ -331,14 +341,28 @@ pub extern "C" fn cue_overhead(
 ) -> u32
     ensures { reported result raw.new headed.new padded.new end.new headers_extra.new headers_over.new padded_extra.new padded_over.new ≡ exported_report (report sizes.now) }
 {
-    let r = overhead::report(sizes);
-    *raw = r.raw;
-    *headed = r.headed;
-    *padded = r.padded;
-    *end = r.end;
-    *headers_extra = r.headers.extra;
-    *headers_over = r.headers.over;
-    *padded_extra = r.padding.extra;
-    *padded_over = r.padding.over;
-    r.row
+    match overhead::report(sizes) {
+        Ok(r) => {
+            *raw = r.raw;
+            *headed = r.headed;
+            *padded = r.padded;
+            *end = r.end;
+            *headers_extra = r.headers.extra;
+            *headers_over = r.headers.over;
+            *padded_extra = r.padding.extra;
+            *padded_over = r.padding.over;
+            0
+        }
+        Err(r) => {
+            *raw = 0;
+            *headed = 0;
+            *padded = 0;
+            *end = 0;
+            *headers_extra = 0;
+            *headers_over = 0;
+            *padded_extra = 0;
+            *padded_over = 0;
+            r.number()
+        }
+    }
 }
