@@ -5,9 +5,8 @@ use crate::print::{
 };
 use crate::run::Run;
 use std::cmp::Ordering;
-use store::Refusal;
 use store::Refusal::{
-    BadDescriptor, BadExponent, BadLength, BadSuperblock, BadTag, BadWidth, Dangling, Empty,
+    self, BadDescriptor, BadExponent, BadLength, BadSuperblock, BadTag, BadWidth, Dangling, Empty,
     EntryLost, EntryTaken, Leaves, NoSpace, NotBase, OutOfBounds, ShortTable, TooFewEntries,
     TooLarge, Undescribed, Unsound, Unterminated, WrongTotal,
 };
@@ -25,8 +24,8 @@ const F31: u64 = 0x001F_0000_0000_0000;
 // A small-framed pointer to the last address.
 const LAST: u64 = 0x8000_FFFF_FFFF_FFFF;
 
-// A load buffer (type 1, 30 bytes) with two samples (type 5, 12 bytes) at 4 and 16; a sample has numbers of 4 bytes (type 2) at 0 and 8, and one of 2 bytes (type 3)
-// at 4.
+// A load buffer (type 1, 30 bytes) with two samples (type 5, 12 bytes) at 4 and 16; a sample has numbers of 4 bytes (type 2) at 0 and 8, and one of
+// 2 bytes (type 3) at 4.
 const TYPES: [u8; 78] = *b"\x0c\x00\x00\x00\x04\x00\x02\x00\x04\x00\x00\x00\
 \x0c\x00\x00\x00\x04\x00\x03\x00\x02\x00\x00\x00\
 \x1e\x00\x00\x00\x05\x00\x05\x00\x0c\x00\x00\x00\x00\x00\x00\x00\x02\x00\x04\x00\x00\x00\x03\x00\x08\x00\x00\x00\x02\x00\
@@ -443,8 +442,8 @@ fn two_cues(run: &mut Run, store: &mut Store) {
     let _ = store.allocate_for(1, 9);
 }
 
-// Releases of both cues, of one that has no object left, and of a buffer without a cue; then of one whose entry is lost, and with an unsound header behind it: refusals 21
-// and 7.
+// Releases of both cues, of one that has no object left, and of a buffer without a cue; then of one whose entry is lost, and with an unsound header behind
+// it: refusals 21 and 7.
 fn cues(run: &mut Run, store: &mut Store) {
     two_cues(run, store);
     run.call("release 7").gives(store.release(7), Ok(2));
@@ -558,8 +557,8 @@ fn loads(run: &mut Run, store: &mut Store) {
         .gives(store.traffic(5, 8, &mut [0; 128]), Err(BadExponent));
 }
 
-// Type checks of a load buffer: inside its samples, between fields, at its end and before it; with a list that is cut short, and without one; refusals 24, 25, 11
-// and 10.
+// Type checks of a load buffer: inside its samples, between fields, at its end and before it; with a list that is cut short, and without one; refusals 24, 25,
+// 11 and 10.
 fn types(run: &mut Run, store: &mut Store) {
     run.heading(
         "Cases: a load buffer of 30 bytes at 32, of type 1, with samples of type 5 at 36 and at 48",

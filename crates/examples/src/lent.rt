@@ -34,59 +34,71 @@ impl<'a> Store<'a> {
         }
     }
 
-    // The calls of the store; an object's type is 1.
+    // Sets the store up with slots of 2^s bytes.
     pub fn set_up(&mut self, s: u32) -> Result<Done, Refusal> {
         accepted(store::set_up(self.image, self.table, s)).map(Done)
     }
 
+    // Allocates an object of type 1 for no cue.
     pub fn allocate(&mut self, size: u32) -> Result<Bytes, Refusal> {
         accepted(store::allocate(self.image, self.table, size, 1)).map(Bytes)
     }
 
+    // Allocates an object of type 1 for a cue.
     pub fn allocate_for(&mut self, size: u32, cue: u32) -> Result<Bytes, Refusal> {
         accepted(store::allocate_for(self.image, self.table, size, 1, cue)).map(Bytes)
     }
 
+    // Frees an object.
     pub fn free(&mut self, pointer: u64) -> Result<Done, Refusal> {
         accepted(store::free(self.image, self.table, pointer)).map(Done)
     }
 
+    // Frees a cue's objects: how many there were.
     pub fn release(&mut self, cue: u32) -> Result<u64, Refusal> {
         accepted(store::release_cue(self.image, self.table, cue))
     }
 
+    // Moves a pointer.
     pub fn offset(&self, pointer: u64, distance: i64) -> Result<Bytes, Refusal> {
         accepted(store::offset(self.image, self.table, pointer, distance)).map(Bytes)
     }
 
+    // Reads a number of `width` bytes.
     pub fn load(&self, pointer: u64, width: u64) -> Result<Bytes, Refusal> {
         accepted(store::load(self.image, self.table, pointer, width)).map(Bytes)
     }
 
+    // Writes a number of `width` bytes.
     pub fn store(&mut self, pointer: u64, width: u64, value: u64) -> Result<Done, Refusal> {
         let table = &mut *self.table;
         accepted(store::store(self.image, table, pointer, width, value)).map(Done)
     }
 
+    // Writes one byte `length` times.
     pub fn fill(&mut self, pointer: u64, length: u32, byte: u8) -> Result<Done, Refusal> {
         let table = &mut *self.table;
         accepted(store::fill(self.image, table, pointer, length, byte)).map(Done)
     }
 
+    // Copies `length` bytes.
     pub fn copy(&mut self, target: u64, source: u64, length: u32) -> Result<Done, Refusal> {
         let table = &mut *self.table;
         accepted(store::copy(self.image, table, target, source, length)).map(Done)
     }
 
+    // Copies a text with its zero byte: how many bytes.
     pub fn copy_text(&mut self, target: u64, source: u64) -> Result<u64, Refusal> {
         let table = &mut *self.table;
         accepted(store::copy_text(self.image, table, target, source))
     }
 
+    // The free bytes.
     pub fn free_total(&self) -> Result<u64, Refusal> {
         accepted(store::free_total(self.image, self.table))
     }
 
+    // Compares `length` bytes.
     pub fn compare(&self, left: u64, right: u64, length: u32) -> Result<Side, Refusal> {
         let comparison = store::compare(self.image, self.table, left, right, length);
         match comparison {
@@ -95,6 +107,7 @@ impl<'a> Store<'a> {
         }
     }
 
+    // How far a pointer is from both ends of its body.
     pub fn distances(&self, pointer: u64) -> Result<Distances, Refusal> {
         match store::distances(self.image, self.table, pointer) {
             Measurement::Distances(from_start, to_end) => Ok(Distances(from_start, to_end)),
@@ -102,6 +115,7 @@ impl<'a> Store<'a> {
         }
     }
 
+    // What is in use.
     pub fn tally(&self) -> Result<Counts, Refusal> {
         match store::tally(self.image, self.table) {
             Usage::Counts(objects, live, free, overhead) => Ok(Counts(
@@ -111,6 +125,7 @@ impl<'a> Store<'a> {
         }
     }
 
+    // Whether there is an object or a field of this type, by a list of descriptors.
     pub fn has_type(&self, list: &[u8], pointer: u64, wanted: u16) -> Result<Verdict, Refusal> {
         accepted(store::has_type(self.image, self.table, list, pointer, wanted)).map(Verdict)
     }

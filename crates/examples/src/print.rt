@@ -133,14 +133,11 @@ pub enum Drawn {
 
 impl Display for Drawn {
     fn fmt<W: fmt::Write>(&self, f: &mut fmt::Formatter<W>) -> fmt::Result {
-        let (state, written) = match self {
-            Drawn::All(state, written) => (*state, *written),
-            Drawn::LogFull(state, written) => {
-                write!(f, "{}; ", Refused(23))?;
-                (*state, *written)
-            }
-        };
-        write!(f, "state {}, bytes of log {written}", Bytes(state))
+        if let Drawn::LogFull(..) = self {
+            write!(f, "{}; ", Refused(23))?;
+        }
+        let (Drawn::All(state, written) | Drawn::LogFull(state, written)) = self;
+        write!(f, "state {}, bytes of log {written}", Bytes(*state))
     }
 }
 

@@ -33,7 +33,7 @@ impl Run {
         let _ = println!(self.out; "{what}");
     }
 
-    // Ends the line of a call with its answer, and counts it.
+    // Ends the line of a call with its answer, which is marked where it is not the one expected.
     pub fn gives<T: Display + PartialEq + Drop, E: Drop>(
         &mut self,
         answer: Result<T, E>,
@@ -45,13 +45,13 @@ impl Run {
         let answer = answer.map_err(Refused::from);
         let met = answer == expected.map_err(Refused::from);
         match answer {
-            Ok(value) => self.counts(&value, met),
-            Err(refused) => self.counts(&refused, met),
+            Ok(value) => self.count(&value, met),
+            Err(refused) => self.count(&refused, met),
         }
     }
 
-    // Ends the line of a call, which is counted.
-    fn counts(&mut self, answer: &impl Display, met: bool) {
+    // Ends the line of a call, and counts it.
+    fn count(&mut self, answer: &impl Display, met: bool) {
         self.made = self.made.saturating_add(1);
         if met {
             self.met = self.met.saturating_add(1);

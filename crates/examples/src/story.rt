@@ -26,12 +26,15 @@ pub fn tell(run: &mut Run, store: &mut Store) {
 }
 
 // A buffer of this size is allocated, and its pointer shown in parts.
-fn buffer(run: &mut Run, store: &mut Store, label: &str, size: u32, pointer: u64) {
+fn buffer(run: &mut Run, store: &mut Store, label: &str, size: u32, expected: u64) {
     let answer = store.allocate(size);
     let table = &*store.table;
     run.call(label).gives(
         answer.map(|Bytes(pointer)| Parts { pointer, table }),
-        Ok(Parts { pointer, table }),
+        Ok(Parts {
+            pointer: expected,
+            table,
+        }),
     );
 }
 
