@@ -674,63 +674,91 @@ fn overheads(run: &mut Run) {
     run.heading("Cases: overhead of headers and of padded blocks, each over raw bytes");
     run.call("no size").gives(
         report(&[]),
-        Ok(Overheads(0, 0, 0, 0, Fraction(0, 1), Fraction(0, 1))),
+        Ok(Overheads {
+            raw: 0,
+            headed: 0,
+            padded: 0,
+            end: 0,
+            headers: Fraction(0, 1),
+            padding: Fraction(0, 1),
+        }),
     );
     run.call("10, 20, 30, 100 and 1000 bytes").gives(
         report(&[10, 20, 30, 100, 1000]),
-        Ok(Overheads(
-            1160,
-            1240,
-            1232,
-            2048,
-            Fraction(80, 1160),
-            Fraction(72, 1160),
-        )),
+        Ok(Overheads {
+            raw: 1160,
+            headed: 1240,
+            padded: 1232,
+            end: 2048,
+            headers: Fraction(80, 1160),
+            padding: Fraction(72, 1160),
+        }),
     );
     run.call("1 byte").gives(
         report(&[1]),
-        Ok(Overheads(1, 17, 16, 16, Fraction(16, 1), Fraction(15, 1))),
+        Ok(Overheads {
+            raw: 1,
+            headed: 17,
+            padded: 16,
+            end: 16,
+            headers: Fraction(16, 1),
+            padding: Fraction(15, 1),
+        }),
     );
     run.call("16 bytes").gives(
         report(&[16]),
-        Ok(Overheads(16, 32, 16, 16, Fraction(16, 16), Fraction(0, 16))),
+        Ok(Overheads {
+            raw: 16,
+            headed: 32,
+            padded: 16,
+            end: 16,
+            headers: Fraction(16, 16),
+            padding: Fraction(0, 16),
+        }),
     );
     run.call("17 bytes").gives(
         report(&[17]),
-        Ok(Overheads(17, 33, 32, 32, Fraction(16, 17), Fraction(15, 17))),
+        Ok(Overheads {
+            raw: 17,
+            headed: 33,
+            padded: 32,
+            end: 32,
+            headers: Fraction(16, 17),
+            padding: Fraction(15, 17),
+        }),
     );
     run.call("65536 bytes").gives(
         report(&[65536]),
-        Ok(Overheads(
-            65536,
-            65552,
-            65536,
-            65536,
-            Fraction(16, 65536),
-            Fraction(0, 65536),
-        )),
+        Ok(Overheads {
+            raw: 65536,
+            headed: 65552,
+            padded: 65536,
+            end: 65536,
+            headers: Fraction(16, 65536),
+            padding: Fraction(0, 65536),
+        }),
     );
     run.call("1 and 65536 bytes").gives(
         report(&[1, 65536]),
-        Ok(Overheads(
-            65537,
-            65569,
-            65552,
-            131072,
-            Fraction(32, 65537),
-            Fraction(15, 65537),
-        )),
+        Ok(Overheads {
+            raw: 65537,
+            headed: 65569,
+            padded: 65552,
+            end: 131072,
+            headers: Fraction(32, 65537),
+            padding: Fraction(15, 65537),
+        }),
     );
     run.call("65536 sizes of 65536 bytes").gives(
         report_of::<65536>(65536),
-        Ok(Overheads(
-            4294967296,
-            4296015872,
-            4294967296,
-            4294967296,
-            Fraction(1048576, 4294967296),
-            Fraction(0, 4294967296),
-        )),
+        Ok(Overheads {
+            raw: 4294967296,
+            headed: 4296015872,
+            padded: 4294967296,
+            end: 4294967296,
+            headers: Fraction(1048576, 4294967296),
+            padding: Fraction(0, 4294967296),
+        }),
     );
     run.call("65537 sizes of 1 byte")
         .gives(report_of::<65537>(1), Err(Refused(28)));

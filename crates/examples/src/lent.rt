@@ -181,9 +181,14 @@ pub fn report(sizes: &[u32]) -> Result<Overheads, Refused> {
     if r.row != 0 {
         return Err(Refused(r.row));
     }
-    let headers = Fraction(r.headers.extra, r.headers.over);
-    let padding = Fraction(r.padding.extra, r.padding.over);
-    Ok(Overheads(r.raw, r.headed, r.padded, r.end, headers, padding))
+    Ok(Overheads {
+        raw: r.raw,
+        headed: r.headed,
+        padded: r.padded,
+        end: r.end,
+        headers: Fraction(r.headers.extra, r.headers.over),
+        padding: Fraction(r.padding.extra, r.padding.over),
+    })
 }
 
 // The overheads of so many objects of one size.

@@ -194,20 +194,27 @@ impl Display for Fraction {
     }
 }
 
-// The sums of a list of sizes, raw, with headers and padded; the end that padded blocks reach; the overheads of headers and of padding.
+// Sums over a list of sizes, in bytes: raw, with headers, padded, and the end that padded blocks reach; the overheads of headers and of padding.
 #[derive(PartialEq, Drop)]
-pub struct Overheads(
-    pub u64,
-    pub u64,
-    pub u64,
-    pub u64,
-    pub Fraction,
-    pub Fraction,
-);
+pub struct Overheads {
+    pub raw: u64,
+    pub headed: u64,
+    pub padded: u64,
+    pub end: u64,
+    pub headers: Fraction,
+    pub padding: Fraction,
+}
 
 impl Display for Overheads {
     fn fmt<W: fmt::Write>(&self, f: &mut fmt::Formatter<W>) -> fmt::Result {
-        let Overheads(raw, headed, padded, end, headers, padding) = self;
+        let Overheads {
+            raw,
+            headed,
+            padded,
+            end,
+            headers,
+            padding,
+        } = self;
         write!(
             f,
             "raw {raw}, headed {headed}, padded {padded}, end {end}, "
