@@ -4,7 +4,7 @@ ghost use Rattle.std.specs.Prelude.{◌<◌, ◌^◌};
 use crate::print::{
     Bytes, Counts, Distances, Done, Drawn, Fraction, Order, Overheads, Refused, Side, Verdict,
 };
-use store::{Answer, Comparison, Measurement, Refusal, Usage};
+use store::Refusal;
 use workload::Traffic;
 
 // The image and the frame table that are lent at each call.
@@ -12,14 +12,6 @@ use workload::Traffic;
 pub struct Store<'a> {
     pub image: &'a mut [u8],
     pub table: &'a mut [u64],
-}
-
-// The value of an accepted call.
-fn accepted(answer: Answer) -> Result<u64, Refusal> {
-    match answer {
-        Answer::Accepted(value) => Ok(value),
-        Answer::Refused(refusal) => Err(refusal),
-    }
 }
 
 impl<'a> Store<'a> {
@@ -36,98 +28,93 @@ impl<'a> Store<'a> {
 
     // Sets the store up with slots of 2^s bytes.
     pub fn set_up(&mut self, s: u32) -> Result<Done, Refusal> {
-        accepted(store::set_up(self.image, self.table, s)).map(Done)
+        store::set_up(self.image, self.table, s).map(Done)
     }
 
     // Allocates an object of type 1 for no cue.
     pub fn allocate(&mut self, size: u32) -> Result<Bytes, Refusal> {
-        accepted(store::allocate(self.image, self.table, size, 1)).map(Bytes)
+        store::allocate(self.image, self.table, size, 1).map(Bytes)
     }
 
     // Allocates an object of type 1 for a cue.
     pub fn allocate_for(&mut self, size: u32, cue: u32) -> Result<Bytes, Refusal> {
-        accepted(store::allocate_for(self.image, self.table, size, 1, cue)).map(Bytes)
+        store::allocate_for(self.image, self.table, size, 1, cue).map(Bytes)
     }
 
     // Frees an object.
     pub fn free(&mut self, pointer: u64) -> Result<Done, Refusal> {
-        accepted(store::free(self.image, self.table, pointer)).map(Done)
+        store::free(self.image, self.table, pointer).map(Done)
     }
 
     // Frees a cue's objects: how many there were.
     pub fn release(&mut self, cue: u32) -> Result<u64, Refusal> {
-        accepted(store::release_cue(self.image, self.table, cue))
+        store::release_cue(self.image, self.table, cue)
     }
 
     // Moves a pointer.
     pub fn offset(&self, pointer: u64, distance: i64) -> Result<Bytes, Refusal> {
-        accepted(store::offset(self.image, self.table, pointer, distance)).map(Bytes)
+        store::offset(self.image, self.table, pointer, distance).map(Bytes)
     }
 
     // Reads a number of `width` bytes.
     pub fn load(&self, pointer: u64, width: u64) -> Result<Bytes, Refusal> {
-        accepted(store::load(self.image, self.table, pointer, width)).map(Bytes)
+        store::load(self.image, self.table, pointer, width).map(Bytes)
     }
 
     // Writes a number of `width` bytes.
     pub fn store(&mut self, pointer: u64, width: u64, value: u64) -> Result<Done, Refusal> {
         let table = &mut *self.table;
-        accepted(store::store(self.image, table, pointer, width, value)).map(Done)
+        store::store(self.image, table, pointer, width, value).map(Done)
     }
 
     // Writes one byte `length` times.
     pub fn fill(&mut self, pointer: u64, length: u32, byte: u8) -> Result<Done, Refusal> {
         let table = &mut *self.table;
-        accepted(store::fill(self.image, table, pointer, length, byte)).map(Done)
+        store::fill(self.image, table, pointer, length, byte).map(Done)
     }
 
     // Copies `length` bytes.
     pub fn copy(&mut self, target: u64, source: u64, length: u32) -> Result<Done, Refusal> {
         let table = &mut *self.table;
-        accepted(store::copy(self.image, table, target, source, length)).map(Done)
+        store::copy(self.image, table, target, source, length).map(Done)
     }
 
     // Copies a text with its zero byte: how many bytes.
     pub fn copy_text(&mut self, target: u64, source: u64) -> Result<u64, Refusal> {
         let table = &mut *self.table;
-        accepted(store::copy_text(self.image, table, target, source))
+        store::copy_text(self.image, table, target, source)
     }
 
     // The free bytes.
     pub fn free_total(&self) -> Result<u64, Refusal> {
-        accepted(store::free_total(self.image, self.table))
+        store::free_total(self.image, self.table)
     }
 
     // Compares `length` bytes.
     pub fn compare(&self, left: u64, right: u64, length: u32) -> Result<Side, Refusal> {
-        let comparison = store::compare(self.image, self.table, left, right, length);
-        match comparison {
-            Comparison::Ordered(_) => Ok(Side(comparison.value().cmp(&0))),
-            Comparison::Refused(refusal) => Err(refusal),
-        }
+        store::compare(self.image, self.table, left, right, length).map(Side)
     }
 
     // How far a pointer is from both ends of its body.
     pub fn distances(&self, pointer: u64) -> Result<Distances, Refusal> {
-        match store::distances(self.image, self.table, pointer) {
-            Measurement::Distances(from_start, to_end) => Ok(Distances(from_start, to_end)),
-            Measurement::Refused(refusal) => Err(refusal),
-        }
+        let ends = store::distances(self.image, self.table, pointer)?;
+        Ok(Distances(ends.from_start, ends.to_end))
     }
 
     // What is in use.
     pub fn tally(&self) -> Result<Counts, Refusal> {
-        match store::tally(self.image, self.table) {
-            Usage::Counts(objects, live, free, overhead) => Ok(Counts(
-                objects, live, free, overhead,
-            )),
-            Usage::Refused(refusal) => Err(refusal),
-        }
+        let counts = store::tally(self.image, self.table)?;
+        Ok(Counts(
+            counts.objects,
+            counts.live,
+            counts.free,
+            counts.overhead,
+        ))
     }
 
     // Whether there is an object or a field of this type, by a list of descriptors.
     pub fn has_type(&self, list: &[u8], pointer: u64, wanted: u16) -> Result<Verdict, Refusal> {
-        accepted(store::has_type(self.image, self.table, list, pointer, wanted)).map(Verdict)
+        store::has_type(self.image, self.table, list, pointer, wanted).map(Verdict)
     }
 
     // A load from the state 0.

@@ -9,7 +9,7 @@ use Rattle.store.specs.laws.Access.{accessed_parts}
 use Rattle.store.proofs.access.store_byte.Goals as goal
 
 pub write-requires : goal.write-requires
-write-requires c = (accessed_parts _ _ _ _ _ (sym (ap (λ (x : State). accessed c.in_ok-new.field-0.s (unpack c.args.pointer) 1 x) c.in_ok-new.ensures) ∙ sym c.in_ok-at.ensures)).inside
+write-requires c = (omega arith, (accessed_parts _ _ _ _ _ (sym (ap (λ (x : State). accessed c.in_ok-new.field-0.s (unpack c.args.pointer) 1 x) c.in_ok-new.ensures) ∙ sym c.in_ok-at.ensures)).inside)
 
 -- row 4 or 5
 pub returns-in_err-new : goal.returns-in_err-new
