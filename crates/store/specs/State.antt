@@ -1,5 +1,6 @@
 -- What a call is given and what it leaves: document 01, "Why a call was declined", and document 02's further rows. Assumes nothing.
 use Rattle.std.specs.Prelude.{ℕ, ◌+◌, ◌-◌, ◌≡◌, Bool, cond, List, ℤ, pos, Err, Ok, Result}
+use Rattle.std.specs.Result.{result_unwrap_or}
 use Rattle.block.specs.Order.{sign}
 use Rattle.store.specs.declared.answer.Refusal.{Refusal}
 use Rattle.store.specs.declared.answer.Refusal.TheVariants.{BadExponent, BadLength, TooFewEntries, BadSuperblock, ShortTable, Empty, Unsound, NoSpace, EntryTaken, BadTag, Dangling, Leaves, OutOfBounds, BadWidth, NotBase, TooLarge, Unterminated, EntryLost, WrongTotal, BadDescriptor, Undescribed}
@@ -42,8 +43,7 @@ returned (Err r) = refusal_number r
 
 -- the value that it gives: 0 where it has none, or is refused
 abbrev pub value : Answer → ℕ
-value (Ok v) = v
-value (Err r) = 0
+value a = result_unwrap_or a 0
 
 -- the number that tally returns: 0 where it is accepted
 abbrev pub usage_number : Result Counts Refusal → ℕ
