@@ -92,7 +92,7 @@ impl TryFrom<u64> for Kind {
 }
 
 // The call of a kind whose fields begin at f. A fill value has to be a byte.
-#[tactic(auto, unfolding(crate::specs::Records::field_bytes, crate::specs::Records::call_at, crate::specs::Records::good_value))]
+#[tactic(auto, using(crate::proofs::Reading::half_fits, crate::proofs::Reading::word_fits, crate::proofs::Reading::signed_cast), unfolding(crate::specs::Records::field_bytes, crate::specs::Records::call_at, crate::specs::Records::good_value))]
 fn call_at(log: &[u8], kind: Kind, f: usize) -> Result<Call, Fault>
     requires { f + field_bytes (kind_number kind) ≤ length log.now }
     ensures { result ≡ insist (good_value log.now (kind_number kind) f) Fault.BadFields (Ok (call_at log.now (kind_number kind) f)) }
