@@ -1,11 +1,10 @@
 -- The count of an image's blocks, turn by turn. Assumes nothing.
-use Rattle.std.proofs.Common.{◌≡◌, ℕ, ◌+◌, ◌-◌, ◌*◌, ◌≤◌, List, length, sym, refl, ap, ◌∙◌, subst, arith}
+use Rattle.std.proofs.Common.{◌≡◌, ℕ, ◌+◌, ◌-◌, ◌*◌, ◌≤◌, List, length, sym, refl, ap, ◌∙◌, subst, arith, Some}
 use Rattle.block.specs.Walk.{no_counts, counting, count_blocks}
 use Rattle.block.specs.laws.Counting.{same-counts, passes_live, passes-free, count_is}
 use Rattle.block.specs.laws.Turns.{Walking, Seen, live_holds, free_empty, begins, at-end, goes_on}
 use Rattle.block.specs.declared.header.Header.{Header}
 use Rattle.block.specs.declared.walk.Counts.{Counts}
-use Rattle.block.specs.declared.walk.Counted.TheVariants as counted
 
 -- the counts up to h: what is neither live nor free is overhead
 abbrev counts_up_to : ℕ → ℕ → ℕ → ℕ → Counts
@@ -23,9 +22,9 @@ counts_none image = record { rest = begins counting image no_counts; below = ome
 module _ {image : List ℕ} {h objects live free : ℕ} (w : Counting image h objects live free) where
   -- all blocks are counted
   pub counts_all : h ≡ length image
-      → counted.Counts (record { objects = objects; live = live; free = free; overhead = length image - 16 - live - free }) ≡ count_blocks image
+      → Some (record { objects = objects; live = live; free = free; overhead = length image - 16 - live - free }) ≡ count_blocks image
   counts_all e =
-      ap counted.Counts (same-counts refl refl refl (omega arith)) ∙ sym (count_is image (counts_up_to h objects live free) (sym (at-end w.rest e)))
+      ap Some (same-counts refl refl refl (omega arith)) ∙ sym (count_is image (counts_up_to h objects live free) (sym (at-end w.rest e)))
 
   module _ {d : Header} (e : Seen image h d) where
     -- a block more, whose counts are o, n and f

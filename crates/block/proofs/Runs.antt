@@ -1,6 +1,7 @@
 -- The turns of the loops that fill and copy runs of bytes. Assumes nothing.
-use Rattle.std.proofs.Common.{◌≡◌, ℕ, suc, ◌+◌, ◌-◌, ◌<◌, ◌≤◌, List, [], ◌∷◌, ◌++◌, length, get_or, take, drop, set, replicate, sym, ap, ◌∙◌, add-one, arith, length-drop, length-take-le, take-suc, drop-drop, take-suc-set, take-add}
+use Rattle.std.proofs.Common.{◌≡◌, ℕ, suc, ◌+◌, ◌-◌, ◌<◌, ◌≤◌, List, [], ◌∷◌, ◌++◌, length, get_or, take, drop, set, replicate, refl, sym, ap, ◌∙◌, add-one, arith, length-drop, length-take-le, take-suc, drop-drop, take-suc-set, take-add}
 use lib.ListN.{length-replicate}
+use borrow.Rule.Slice.PartMut.{put_mid}
 use Rattle.block.specs.Bytes.{put}
 use Rattle.block.specs.laws.Writes.{put_cons, put_nil, put-append, put-before, set-put-end, drop-put_above, part_put_below}
 
@@ -77,3 +78,8 @@ up_turn l image to from n i k above fits h g e =
     ∙ ap (λ (x : List ℕ). put x (to + j) (take k s)) e
     ∙ put-before l (to + j) (take k s) rest (to + i) (omega arith) (omega arith)
     ∙ ap (put l (to + j)) whole
+
+-- a part of a slice written: the run in it is replaced
+pub part_put : (image bs : List ℕ) (at to : ℕ) → at + length bs ≡ to → put_mid at (to - at) image bs ≡ put image at bs
+unfolding put
+part_put image bs at to e = let k : to - at ≡ length bs = omega arith in rw (k, drop-drop (length bs) at image) refl

@@ -1,5 +1,5 @@
 -- Worked examples, computed: on an image of 1,024 bytes; of runs of bytes and of texts. Assumes nothing.
-use Rattle.std.specs.Prelude.{◌≡◌, ℕ, true, false, List, [], ◌∷◌, ◌++◌, replicate, refl}
+use Rattle.std.specs.Prelude.{◌≡◌, ℕ, true, false, List, [], ◌∷◌, ◌++◌, replicate, refl, None, Some}
 use Rattle.block.specs.Bytes.{encode, decode, field, put}
 use Rattle.block.specs.Order.{compare_bytes}
 use Rattle.block.specs.Text.{text_from, text_of}
@@ -7,11 +7,7 @@ use Rattle.block.specs.Layout.{superblock, superblock_good, header, free_header,
 use Rattle.block.specs.laws.Superblock.{opened}
 use Rattle.block.specs.Walk.{walk_in, walk_from, walk, fit_of, first_fit, met_of, walk_to, count_of, count_blocks, unsound, ended, walk_cue}
 use Rattle.block.specs.declared.order.Ordering.TheVariants as ordering
-use Rattle.block.specs.declared.text.Text.TheVariants as text
-use Rattle.block.specs.declared.superblock.Opened.TheVariants as opening
 use Rattle.block.specs.declared.walk.Fit.TheVariants as fit
-use Rattle.block.specs.declared.walk.Met.TheVariants as met
-use Rattle.block.specs.declared.walk.Counted.TheVariants as counted
 
 -- live blocks at 16 and 42 of sizes 10 and 20 and of cues 0 and 2^32 - 1, and a free one from 78 to the end
 image : List ℕ
@@ -32,7 +28,7 @@ laid : superblock 6 1024 881 ≡ 16 ∷ 0 ∷ 0 ∷ 0 ∷ 3 ∷ 0 ∷ 6 ∷ 0 �
 unfolding superblock encode
 laid = refl
 
-opens : opened image ≡ opening.Exponent 6
+opens : opened image ≡ Some 6
 unfolding image superblock header encode decode field superblock_good opened
 opens = refl
 
@@ -56,11 +52,11 @@ fits : (first_fit image 946 ≡ fit.At 78) × (first_fit image 947 ≡ fit.End) 
 unfolding image damaged superblock header encode decode field put header_at well_formed sound walk_in walk_from walk fit_of first_fit
 fits = (refl, refl, refl)
 
-meets : (walk_to image 16 ≡ met.After 0) × (walk_to image 78 ≡ met.After 42) × (walk_to image 58 ≡ met.Lost) × (walk_to damaged 78 ≡ met.Lost)
+meets : (walk_to image 16 ≡ Some 0) × (walk_to image 78 ≡ Some 42) × (walk_to image 58 ≡ None) × (walk_to damaged 78 ≡ None)
 unfolding image damaged superblock header encode decode field put header_at well_formed sound walk_in walk_from walk met_of walk_to
 meets = (refl, refl, refl, refl)
 
-counts : (count_blocks image ≡ counted.Counts (record { objects = 2; live = 30; free = 946; overhead = 32 })) × (count_blocks damaged ≡ counted.Unsound)
+counts : (count_blocks image ≡ Some (record { objects = 2; live = 30; free = 946; overhead = 32 })) × (count_blocks damaged ≡ None)
 unfolding image damaged superblock header encode decode field put header_at well_formed sound walk_in walk_from walk count_of count_blocks
 counts = (refl, refl)
 
@@ -82,9 +78,9 @@ compares = (refl, refl, refl)
 
 -- no byte; the zero byte first; five letters and a zero; no zero byte
 texts :
-    (text_of [] ≡ text.Endless)
-    × (text_of (0 ∷ 72 ∷ []) ≡ text.Ends 0)
-    × (text_of (72 ∷ 101 ∷ 108 ∷ 108 ∷ 111 ∷ 0 ∷ 7 ∷ []) ≡ text.Ends 5)
-    × (text_of (72 ∷ 101 ∷ 108 ∷ 108 ∷ 111 ∷ []) ≡ text.Endless)
+    (text_of [] ≡ None)
+    × (text_of (0 ∷ 72 ∷ []) ≡ Some 0)
+    × (text_of (72 ∷ 101 ∷ 108 ∷ 108 ∷ 111 ∷ 0 ∷ 7 ∷ []) ≡ Some 5)
+    × (text_of (72 ∷ 101 ∷ 108 ∷ 108 ∷ 111 ∷ []) ≡ None)
 unfolding text_from text_of
 texts = (refl, refl, refl, refl)

@@ -1,15 +1,11 @@
 -- The walk over the blocks of an image, from 16 on, from block to block by their extents: document 01, "Calls"; the counts and the
 -- objects of a cue: document 02, W3 and W6. Assumes nothing.
-use Rattle.std.specs.Prelude.{◌≡◌, ℕ, zero, suc, ◌+◌, ◌-◌, ◌<◌, ◌≤◌, Bool, true, false, cond, ◌&&◌, List, [], ◌∷◌, ◌++◌, length, ◌==◌, nat_le}
+use Rattle.std.specs.Prelude.{◌≡◌, ℕ, zero, suc, ◌+◌, ◌-◌, ◌<◌, ◌≤◌, Bool, true, false, cond, ◌&&◌, List, [], ◌∷◌, ◌++◌, length, ◌==◌, nat_le, None, Option, Some}
 use Rattle.block.specs.Layout.{header_at, extent_at, is_free, sound}
 use Rattle.block.specs.declared.header.Header.{Header}
 use Rattle.block.specs.declared.walk.Fit.{Fit}
 use Rattle.block.specs.declared.walk.Fit.TheVariants as fit
-use Rattle.block.specs.declared.walk.Met.{Met}
-use Rattle.block.specs.declared.walk.Met.TheVariants as met
 use Rattle.block.specs.declared.walk.Counts.{Counts}
-use Rattle.block.specs.declared.walk.Counted.{Counted}
-use Rattle.block.specs.declared.walk.Counted.TheVariants as counted
 
 -- how a walk ends: at a block that it stops at, with what it gathered before; at an unsound header; or at the image's end
 pub data Walked (A : Type 0) : Type 0 where
@@ -64,13 +60,13 @@ abbrev pub reaching : ℕ → Search ℕ
 reaching target = record { stops = λ h d. nat_le target h; passes = λ a h d. h }
 
 -- the answer of the walk to a block: met only where it stopped at the target itself
-unfoldable pub met_of : ℕ → Walked ℕ → Met
-met_of target (stopped a h) = cond (h == target) (met.After a) met.Lost
-met_of target (unsound h) = met.Lost
-met_of target (ended a) = met.Lost
+unfoldable pub met_of : ℕ → Walked ℕ → Option ℕ
+met_of target (stopped a h) = cond (h == target) (Some a) None
+met_of target (unsound h) = None
+met_of target (ended a) = None
 
 -- the walk to the block at `target`; the value is the place of the block before it, 0 where there is none
-unfoldable pub walk_to : List ℕ → ℕ → Met
+unfoldable pub walk_to : List ℕ → ℕ → Option ℕ
 walk_to image target = met_of target (walk (reaching target) image 0)
 
 -- no block is counted yet
@@ -94,13 +90,13 @@ abbrev pub counting : Search Counts
 counting = record { stops = λ h d. false; passes = λ a h d. cond (d.kind == 2) (with_live a d) (with_free a d) }
 
 -- the answer of a count; its walk never stops before the end
-unfoldable pub count_of : Walked Counts → Counted
-count_of (stopped a h) = counted.Unsound
-count_of (unsound h) = counted.Unsound
-count_of (ended a) = counted.Counts a
+unfoldable pub count_of : Walked Counts → Option Counts
+count_of (stopped a h) = None
+count_of (unsound h) = None
+count_of (ended a) = Some a
 
 -- the counts of an image's blocks, or that a header is unsound
-unfoldable pub count_blocks : List ℕ → Counted
+unfoldable pub count_blocks : List ℕ → Option Counts
 count_blocks image = count_of (walk counting image no_counts)
 
 -- a live block of the cue

@@ -2,150 +2,55 @@
 ghost use Rattle.std.specs.Prelude.{◌≡◌, ◌+◌, ◌<◌, ◌≤◌, length, take, drop, replicate};
 ghost use Rattle.block.specs.Bytes.{encode, field, put};
 
-// The byte at `at`.
-pub fn read1(image: &[u8], at: usize) -> u64
-    requires { at + 1 ≤ length image.now }
-    ensures { result ≡ field image.now at 1 }
+// The number in the WIDTH bytes at `at`. The compiler makes one load of it.
+pub fn read<const WIDTH: usize>(image: &[u8], at: usize) -> u64
+    requires { (WIDTH ≤ 8) × (at + WIDTH ≤ length image.now) }
+    ensures { result ≡ field image.now at WIDTH }
 {
-    let b0 = image[at] as u64;
-    b0
+    let mut bytes = [0u8; 8];
+    bytes[..WIDTH].copy_from_slice(&image[at..at + WIDTH]);
+    u64::from_le_bytes(bytes)
 }
 
-// The number in the 2 bytes at `at`; so for wider ones, each from two of half its width. The compiler makes one load of each.
-pub fn read2(image: &[u8], at: usize) -> u64
-    requires { at + 2 ≤ length image.now }
-    ensures { result ≡ field image.now at 2 }
-{
-    read1(image, at) + 256 * read1(image, at + 1)
-}
-
-// The number in the 4 bytes at `at`.
-pub fn read4(image: &[u8], at: usize) -> u64
-    requires { at + 4 ≤ length image.now }
-    ensures { result ≡ field image.now at 4 }
-{
-    read2(image, at) + 65536 * read2(image, at + 2)
-}
-
-// The number in the 8 bytes at `at`.
-pub fn read8(image: &[u8], at: usize) -> u64
-    requires { at + 8 ≤ length image.now }
-    ensures { result ≡ field image.now at 8 }
-{
-    read4(image, at) + 4294967296 * read4(image, at + 4)
-}
-
-// The number in the 3 bytes at `at`.
-fn read3(image: &[u8], at: usize) -> u64
-    requires { at + 3 ≤ length image.now }
-    ensures { result ≡ field image.now at 3 }
-{
-    read2(image, at) + 65536 * read1(image, at + 2)
-}
-
-// The number in the 1 to 4 bytes at `at`.
-fn read_short(image: &[u8], at: usize, width: u64) -> u64
-    requires { (1 ≤ width) × (width ≤ 4) × (at + width ≤ length image.now) }
-    ensures { result ≡ field image.now at width }
-{
-    if width == 1 {
-        return read1(image, at);
-    }
-    if width == 2 {
-        return read2(image, at);
-    }
-    if width == 4 {
-        return read4(image, at);
-    }
-    read3(image, at)
-}
-
-// The number in the 1 to 8 bytes at `at`: 5 to 7 are read as 4 and the rest.
+// The number in the 1 to 8 bytes at `at`.
 pub fn read_field(image: &[u8], at: usize, width: u64) -> u64
     requires { (1 ≤ width) × (width ≤ 8) × (at + width ≤ length image.now) }
     ensures { result ≡ field image.now at width }
 {
-    if width <= 4 {
-        return read_short(image, at, width);
-    }
-    if width == 8 {
-        return read8(image, at);
-    }
-    read4(image, at) + 4294967296 * read_short(image, at + 4, width - 4)
-}
-
-// Puts the low byte of v at `at`.
-pub fn write1(image: &mut [u8], at: usize, v: u64)
-    requires { at + 1 ≤ length image.old }
-    ensures { image.new ≡ put image.old at (encode 1 v) }
-{
-    image[at] = (v % 256) as u8;
-}
-
-// Puts the low 2 bytes of v at `at`; so for wider ones, each by two of half its width. The compiler makes one store of each.
-pub fn write2(image: &mut [u8], at: usize, v: u64)
-    requires { at + 2 ≤ length image.old }
-    ensures { image.new ≡ put image.old at (encode 2 v) }
-{
-    write1(image, at, v);
-    write1(image, at + 1, v / 256);
-}
-
-// Puts the low 4 bytes of v at `at`.
-pub fn write4(image: &mut [u8], at: usize, v: u64)
-    requires { at + 4 ≤ length image.old }
-    ensures { image.new ≡ put image.old at (encode 4 v) }
-{
-    write2(image, at, v);
-    write2(image, at + 2, v / 65536);
-}
-
-// Puts the 8 bytes of v at `at`.
-pub fn write8(image: &mut [u8], at: usize, v: u64)
-    requires { at + 8 ≤ length image.old }
-    ensures { image.new ≡ put image.old at (encode 8 v) }
-{
-    write4(image, at, v);
-    write4(image, at + 4, v / 4294967296);
-}
-
-// Puts the low 3 bytes of v at `at`.
-fn write3(image: &mut [u8], at: usize, v: u64)
-    requires { at + 3 ≤ length image.old }
-    ensures { image.new ≡ put image.old at (encode 3 v) }
-{
-    write2(image, at, v);
-    write1(image, at + 2, v / 65536);
-}
-
-// Puts the low 1 to 4 bytes of v at `at`.
-fn write_short(image: &mut [u8], at: usize, width: u64, v: u64)
-    requires { (1 ≤ width) × (width ≤ 4) × (at + width ≤ length image.old) }
-    ensures { image.new ≡ put image.old at (encode width v) }
-{
-    if width == 1 {
-        write1(image, at, v);
-    } else if width == 2 {
-        write2(image, at, v);
-    } else if width == 4 {
-        write4(image, at, v);
-    } else {
-        write3(image, at, v);
+    match width {
+        1 => read::<1>(image, at),
+        2 => read::<2>(image, at),
+        3 => read::<3>(image, at),
+        4 => read::<4>(image, at),
+        5 => read::<5>(image, at),
+        6 => read::<6>(image, at),
+        7 => read::<7>(image, at),
+        _ => read::<8>(image, at),
     }
 }
 
-// Puts the low 1 to 8 bytes of v at `at`: 5 to 7 are written as 4 and the rest.
+// Puts the low WIDTH bytes of v at `at`. The compiler makes one store of it.
+pub fn write<const WIDTH: usize>(image: &mut [u8], at: usize, v: u64)
+    requires { (WIDTH ≤ 8) × (at + WIDTH ≤ length image.old) }
+    ensures { image.new ≡ put image.old at (encode WIDTH v) }
+{
+    image[at..at + WIDTH].copy_from_slice(&v.to_le_bytes()[..WIDTH]);
+}
+
+// Puts the low 1 to 8 bytes of v at `at`.
 pub fn write_field(image: &mut [u8], at: usize, width: u64, v: u64)
     requires { (1 ≤ width) × (width ≤ 8) × (at + width ≤ length image.old) }
     ensures { image.new ≡ put image.old at (encode width v) }
 {
-    if width <= 4 {
-        write_short(image, at, width, v);
-    } else if width == 8 {
-        write8(image, at, v);
-    } else {
-        write4(image, at, v);
-        write_short(image, at + 4, width - 4, v / 4294967296);
+    match width {
+        1 => write::<1>(image, at, v),
+        2 => write::<2>(image, at, v),
+        3 => write::<3>(image, at, v),
+        4 => write::<4>(image, at, v),
+        5 => write::<5>(image, at, v),
+        6 => write::<6>(image, at, v),
+        7 => write::<7>(image, at, v),
+        _ => write::<8>(image, at, v),
     }
 }
 

@@ -4,7 +4,7 @@ ghost use Rattle.block.specs.Bytes.{put};
 ghost use Rattle.block.specs.Layout.{within, header, free_header, live_header, header_at, extent_at, kind_at, type_at, size_at, cue_at, sound};
 ghost use Rattle.block.specs.laws.Soundness.{examined, object_at};
 
-use super::bytes::{read2, read4, write2, write4};
+use super::bytes::{read, write};
 use std::num::wrapping_sub_u64;
 
 // A block header's fields.
@@ -17,26 +17,12 @@ pub struct Header {
     pub cue: u64,
 }
 
-// What stands at a place: a sound header, or none.
-#[derive(Clone, Copy)]
-pub enum Examined {
-    Sound(Header),
-    Unsound,
-}
-
-// The object at a place: its raw size in bytes, or none.
-#[derive(Clone, Copy)]
-pub enum Object {
-    Size(u64),
-    None,
-}
-
 // The extent in the header at h, in bytes.
 pub fn extent_at(image: &[u8], h: usize) -> u64
     requires { h + 16 ≤ length image.now }
     ensures { result ≡ extent_at image.now h }
 {
-    read4(image, h)
+    read::<4>(image, h)
 }
 
 // Its kind.
@@ -44,7 +30,7 @@ pub fn kind_at(image: &[u8], h: usize) -> u64
     requires { h + 16 ≤ length image.now }
     ensures { result ≡ kind_at image.now h }
 {
-    read2(image, h + 4)
+    read::<2>(image, h + 4)
 }
 
 // Its type number.
@@ -52,7 +38,7 @@ fn type_at(image: &[u8], h: usize) -> u64
     requires { h + 16 ≤ length image.now }
     ensures { result ≡ type_at image.now h }
 {
-    read2(image, h + 6)
+    read::<2>(image, h + 6)
 }
 
 // The raw size in it, in bytes.
@@ -60,7 +46,7 @@ pub fn size_at(image: &[u8], h: usize) -> u64
     requires { h + 16 ≤ length image.now }
     ensures { result ≡ size_at image.now h }
 {
-    read4(image, h + 8)
+    read::<4>(image, h + 8)
 }
 
 // The number of its cue.
@@ -68,7 +54,7 @@ fn cue_at(image: &[u8], h: usize) -> u64
     requires { h + 16 ≤ length image.now }
     ensures { result ≡ cue_at image.now h }
 {
-    read4(image, h + 12)
+    read::<4>(image, h + 12)
 }
 
 // The fields of the header at h.
@@ -135,24 +121,24 @@ fn is_sound(image: &[u8], h: usize) -> bool
 }
 
 // The header at h where it is sound. h may be any number, so it is compared with the length less 16.
-pub fn examine(image: &[u8], h: u64) -> Examined
+pub fn examine(image: &[u8], h: u64) -> Option<Header>
     ensures { result ≡ examined image.now h }
 {
     let len = image.len() as u64;
     if h < 16 {
-        return Examined::Unsound;
+        return None;
     }
     if len < 16 {
-        return Examined::Unsound;
+        return None;
     }
     if len - 16 < h {
-        return Examined::Unsound;
+        return None;
     }
     let at = h as usize;
     if is_sound(image, at) {
-        Examined::Sound(read_header(image, at))
+        Some(read_header(image, at))
     } else {
-        Examined::Unsound
+        None
     }
 }
 
@@ -165,22 +151,22 @@ fn has_room(len: u64, h: u64) -> bool
 }
 
 // The raw size of the object whose header is at h, where a sound header of a live block stands there. h may be any number.
-pub fn live_size(image: &[u8], h: u64) -> Object
+pub fn live_size(image: &[u8], h: u64) -> Option<u64>
     requires { 32 ≤ length image.now }
     ensures { result ≡ object_at image.now h }
 {
     if !has_room(image.len() as u64, h) {
-        return Object::None;
+        return None;
     }
     let at = h as usize;
     if kind_at(image, at) != 2 {
-        return Object::None;
+        return None;
     }
     let extent = extent_at(image, at);
     if !live_sound(image, at, extent) {
-        return Object::None;
+        return None;
     }
-    Object::Size(size_at(image, at))
+    Some(size_at(image, at))
 }
 
 // Writes a header at h.
@@ -188,11 +174,11 @@ fn write_header(image: &mut [u8], h: usize, extent: u64, kind: u64, ty: u64, siz
     requires { h + 16 ≤ length image.old }
     ensures { image.new ≡ put image.old h (header extent kind ty size cue) }
 {
-    write4(image, h, extent);
-    write2(image, h + 4, kind);
-    write2(image, h + 6, ty);
-    write4(image, h + 8, size);
-    write4(image, h + 12, cue);
+    write::<4>(image, h, extent);
+    write::<2>(image, h + 4, kind);
+    write::<2>(image, h + 6, ty);
+    write::<4>(image, h + 8, size);
+    write::<4>(image, h + 12, cue);
 }
 
 // Writes the header of a free block at h.

@@ -3,7 +3,7 @@ ghost use Rattle.std.specs.Prelude.{◌≡◌, ◌+◌, ◌≤◌, length, take,
 ghost use Rattle.block.specs.Order.{compare_bytes, sign};
 ghost use Rattle.block.specs.laws.Order.{big_field, compare_runs, compare_after};
 
-use super::bytes::{read1, read8};
+use super::bytes::read;
 
 // By their first differing byte, unsigned.
 #[derive(Clone, Copy)]
@@ -32,7 +32,7 @@ fn read2_be(image: &[u8], at: usize) -> u64
     requires { at + 2 ≤ length image.now }
     ensures { result ≡ big_field image.now at 2 }
 {
-    read1(image, at + 1) + 256 * read1(image, at)
+    read::<1>(image, at + 1) + 256 * read::<1>(image, at)
 }
 
 // The big-endian number in the 4 bytes at `at`.
@@ -58,8 +58,8 @@ fn compare_bytes(image: &[u8], a: usize, b: usize, n: usize) -> Ordering
 {
     let mut i = 0;
     while i < n {
-        let x = read1(image, a + i);
-        let y = read1(image, b + i);
+        let x = read::<1>(image, a + i);
+        let y = read::<1>(image, b + i);
         if x < y {
             return Ordering::Less;
         }
@@ -78,7 +78,7 @@ fn same_words(image: &[u8], a: usize, b: usize, n: usize) -> usize
 {
     let mut i = 0;
     while 8 <= n - i {
-        if read8(image, a + i) != read8(image, b + i) {
+        if read::<8>(image, a + i) != read::<8>(image, b + i) {
             break;
         }
         i += 8;

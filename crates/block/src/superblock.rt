@@ -4,51 +4,44 @@ ghost use Rattle.block.specs.Bytes.{put};
 ghost use Rattle.block.specs.Layout.{superblock, slot_exponent, stored_total, with_total};
 ghost use Rattle.block.specs.laws.Superblock.{opened};
 
-use super::bytes::{read2, read4, write2, write4};
-
-// What an image's superblock says: the slot exponent, or that it is not as laid out.
-#[derive(Clone, Copy)]
-pub enum Opened {
-    Exponent(u32),
-    Bad,
-}
+use super::bytes::{read, write};
 
 // The slot exponent in the superblock.
 pub fn slot_exponent(image: &[u8]) -> u64
     requires { 16 ≤ length image.now }
     ensures { result ≡ slot_exponent image.now }
 {
-    read2(image, 6)
+    read::<2>(image, 6)
 }
 
-// Tests the superblock of any image.
-pub fn open(image: &[u8]) -> Opened
+// The slot exponent of any image whose superblock is as laid out.
+pub fn open(image: &[u8]) -> Option<u32>
     ensures { result ≡ opened image.now }
 {
     let len = image.len() as u64;
     if len < 64 {
-        return Opened::Bad;
+        return None;
     }
     if 1073741824 < len {
-        return Opened::Bad;
+        return None;
     }
-    if read4(image, 0) != 16 {
-        return Opened::Bad;
+    if read::<4>(image, 0) != 16 {
+        return None;
     }
-    if read2(image, 4) != 3 {
-        return Opened::Bad;
+    if read::<2>(image, 4) != 3 {
+        return None;
     }
-    if read4(image, 8) != len {
-        return Opened::Bad;
+    if read::<4>(image, 8) != len {
+        return None;
     }
     let s = slot_exponent(image);
     if s < 6 {
-        return Opened::Bad;
+        return None;
     }
     if 15 < s {
-        return Opened::Bad;
+        return None;
     }
-    Opened::Exponent(s as u32)
+    Some(s as u32)
 }
 
 // Writes the superblock of an image with slot exponent s and that free total.
@@ -57,11 +50,11 @@ pub fn write_superblock(image: &mut [u8], s: u32, total: u64)
     ensures { image.new ≡ put image.old 0 (superblock s (length image.old) total) }
 {
     let len = image.len() as u64;
-    write4(image, 0, 16);
-    write2(image, 4, 3);
-    write2(image, 6, s as u64);
-    write4(image, 8, len);
-    write4(image, 12, total);
+    write::<4>(image, 0, 16);
+    write::<2>(image, 4, 3);
+    write::<2>(image, 6, s as u64);
+    write::<4>(image, 8, len);
+    write::<4>(image, 12, total);
 }
 
 // The free total in the superblock, in bytes: any 32-bit number on a damaged image.
@@ -69,7 +62,7 @@ pub fn stored_total(image: &[u8]) -> u64
     requires { 16 ≤ length image.now }
     ensures { (result ≡ stored_total image.now) × (result < 2 ^ 32) }
 {
-    read4(image, 12)
+    read::<4>(image, 12)
 }
 
 // Writes the free total.
@@ -77,5 +70,5 @@ pub fn write_total(image: &mut [u8], total: u64)
     requires { 16 ≤ length image.old }
     ensures { image.new ≡ with_total image.old total }
 {
-    write4(image, 12, total);
+    write::<4>(image, 12, total);
 }

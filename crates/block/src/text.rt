@@ -3,14 +3,7 @@ ghost use Rattle.std.specs.Prelude.{◌≡◌, ◌+◌, ◌-◌, ◌≤◌, leng
 ghost use Rattle.block.specs.Text.{text_from, text_of};
 ghost use Rattle.block.specs.laws.Text.{any_zero};
 
-use super::bytes::read1;
-
-// A text's length in bytes, its zero byte not counted; or that no zero byte ends it.
-#[derive(Clone, Copy)]
-pub enum Text {
-    Ends(u64),
-    Endless,
-}
+use super::bytes::read;
 
 // Whether one of the 2 bytes at `at` is zero; so for more, each from two of half their number. No byte is tested behind a branch: the compiler makes one
 // load and one comparison of all 8.
@@ -18,7 +11,7 @@ fn has_zero2(image: &[u8], at: usize) -> bool
     requires { at + 2 ≤ length image.now }
     ensures { result ≡ any_zero image.now at 2 }
 {
-    (read1(image, at) == 0) | (read1(image, at + 1) == 0)
+    (read::<1>(image, at) == 0) | (read::<1>(image, at + 1) == 0)
 }
 
 // Whether one of the 4 bytes at `at` is zero.
@@ -37,23 +30,24 @@ fn has_zero8(image: &[u8], at: usize) -> bool
     has_zero4(image, at) | has_zero4(image, at + 4)
 }
 
-// The text in the n bytes at `at`, of which the first `passed` have no zero, one byte a turn.
-fn find_bytes(image: &[u8], at: usize, n: usize, passed: usize) -> Text
+// The length of the text in the n bytes at `at`, its zero byte not counted, or none where no zero byte ends it. The first `passed` have no zero; one
+// byte a turn.
+fn find_bytes(image: &[u8], at: usize, n: usize, passed: usize) -> Option<u64>
     requires { (at + n ≤ length image.now) × (passed ≤ n) }
     ensures { result ≡ text_from passed (take (n - passed) (drop (at + passed) image.now)) }
 {
     let mut i = passed;
     while i < n {
-        if read1(image, at + i) == 0 {
-            return Text::Ends(i as u64);
+        if read::<1>(image, at + i) == 0 {
+            return Some(i as u64);
         }
         i += 1;
     }
-    Text::Endless
+    None
 }
 
-// The text in the n bytes at `at`, 8 bytes a turn up to the 8 that have the first zero.
-pub fn find_text(image: &[u8], at: usize, n: usize) -> Text
+// The same of all n bytes, 8 bytes a turn up to the 8 that have the first zero.
+pub fn find_text(image: &[u8], at: usize, n: usize) -> Option<u64>
     requires { at + n ≤ length image.now }
     ensures { result ≡ text_of (take n (drop at image.now)) }
 {

@@ -2,7 +2,7 @@
 ghost use Rattle.std.specs.Prelude.{◌≡◌};
 ghost use Rattle.block.specs.Walk.{first_fit, walk_to, count_blocks};
 
-use super::header::{Examined, examine};
+use super::header::examine;
 
 // How the search for room ends: at a free block that is long enough, at an unsound header, or at the image's end.
 #[derive(Clone, Copy)]
@@ -10,13 +10,6 @@ pub enum Fit {
     At(u64),
     Unsound(u64),
     End,
-}
-
-// How the walk to a block ends: at it, with the place of the block before it (0 where there is none), or not.
-#[derive(Clone, Copy)]
-pub enum Met {
-    After(u64),
-    Lost,
 }
 
 // The blocks, counted: live objects, and in bytes the sum of their raw sizes, the sum of the free blocks' extents, and the overhead.
@@ -28,13 +21,6 @@ pub struct Counts {
     pub overhead: u64,
 }
 
-// What a count of the blocks finds: all of them, or an unsound header.
-#[derive(Clone, Copy)]
-pub enum Counted {
-    Counts(Counts),
-    Unsound,
-}
-
 // The first block that is unsound, or free with an extent of `need` or more.
 pub fn first_fit(image: &[u8], need: u64) -> Fit
     ensures { result ≡ first_fit image.now need }
@@ -42,7 +28,7 @@ pub fn first_fit(image: &[u8], need: u64) -> Fit
     let len = image.len() as u64;
     let mut h: u64 = 16;
     loop {
-        let Examined::Sound(d) = examine(image, h) else {
+        let Some(d) = examine(image, h) else {
             if h == len {
                 break Fit::End;
             }
@@ -55,29 +41,29 @@ pub fn first_fit(image: &[u8], need: u64) -> Fit
     }
 }
 
-// Walks to the block at `target`.
-pub fn walk_to(image: &[u8], target: u64) -> Met
+// Walks to the block at `target`: the place of the block before it, 0 where there is none; or none where no block is met there.
+pub fn walk_to(image: &[u8], target: u64) -> Option<u64>
     ensures { result ≡ walk_to image.now target }
 {
     let mut before: u64 = 0;
     let mut h: u64 = 16;
     loop {
-        let Examined::Sound(d) = examine(image, h) else {
-            break Met::Lost;
+        let Some(d) = examine(image, h) else {
+            break None;
         };
         if h == target {
-            break Met::After(before);
+            break Some(before);
         }
         if target < h {
-            break Met::Lost;
+            break None;
         }
         before = h;
         h = h + d.extent;
     }
 }
 
-// Counts the blocks. Free ones have size 0; and what is neither live nor free behind the superblock is overhead, so that no sum is kept of it.
-pub fn count_blocks(image: &[u8]) -> Counted
+// Counts the blocks; none where a header is unsound. Free ones have size 0; and what is neither live nor free behind the superblock is overhead, so that no sum is kept of it.
+pub fn count_blocks(image: &[u8]) -> Option<Counts>
     ensures { result ≡ count_blocks image.now }
 {
     let len = image.len() as u64;
@@ -86,16 +72,16 @@ pub fn count_blocks(image: &[u8]) -> Counted
     let mut free: u64 = 0;
     let mut h: u64 = 16;
     loop {
-        let Examined::Sound(d) = examine(image, h) else {
+        let Some(d) = examine(image, h) else {
             if h == len {
-                break Counted::Counts(Counts {
+                break Some(Counts {
                     objects,
                     live,
                     free,
                     overhead: len - 16 - live - free,
                 });
             }
-            break Counted::Unsound;
+            break None;
         };
         if d.kind == 2 {
             objects = objects + 1;

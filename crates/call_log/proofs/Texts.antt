@@ -1,14 +1,13 @@
 -- Text put into a buffer, piece by piece. In order: pieces; hexadecimal digits; decimal digits; the numbers of kinds, refusals and malformed records.
 -- Assumes nothing.
-use Rattle.std.proofs.Common.{ℕ, zero, suc, ◌+◌, ◌*◌, ◌/◌, ◌%◌, ◌^◌, ◌≤◌, ◌<◌, ◌≡◌, refl, sym, ap, ◌∙◌, subst, List, [], ◌∷◌, ◌++◌, append_assoc, append-nil, mod-eq_of_lt, pow-suc, arith, length, length-append, lt-ltb, le-ltb}
+use Rattle.std.proofs.Common.{ℕ, zero, suc, ◌+◌, ◌*◌, ◌/◌, ◌%◌, ◌^◌, ◌≤◌, ◌<◌, ◌≡◌, refl, sym, ap, ◌∙◌, subst, List, [], ◌∷◌, ◌++◌, append_assoc, append-nil, mod-eq_of_lt, pow-suc, arith, length, length-append, lt-ltb, le-ltb, Err, Ok}
 use denote.Enum.Declared.{tag_of}
 use Rattle.std.proofs.lemmas.Nat.{pow-add}
 use Rattle.block.specs.Bytes.{put}
 use Rattle.block.specs.laws.Writes.{put_nil, put-append}
 use Rattle.store.specs.State.{returned}
 use Rattle.store.specs.laws.Refusals.{refusal_range}
-use Rattle.store.specs.declared.answer.Answer.{Answer}
-use Rattle.store.specs.declared.answer.Answer.TheVariants.{Accepted, Refused}
+use Rattle.store.specs.State.{Answer}
 use Rattle.call_log.specs.Buffer.{Puts}
 use Rattle.call_log.specs.Records.{kind_number, fault_number}
 use Rattle.call_log.specs.Text.{digit, hexadecimal, decimal_in, decimal}
@@ -104,8 +103,8 @@ decimal_two (suc k) h l = rw (le-ltb (suc k) 10 h, decimal_in, one_digit k (suc 
 -- the numbers of kinds, refusals and malformed records are below 100
 
 pub returned_small : (a : Answer) → returned a < 100
-returned_small (Accepted v) = omega arith
-returned_small (Refused r) = (refusal_range r).1
+returned_small (Ok v) = omega arith
+returned_small (Err r) = (refusal_range r).1
 
 pub kind_small : (k : Kind) → kind_number k < 100
 kind_small Allocate = omega arith

@@ -4,7 +4,7 @@ use Rattle.std.proofs.str.Laws.{order}
 use Rattle.block.specs.Bytes.{put}
 use Rattle.block.specs.laws.Writes.{take-put-end}
 use Rattle.store.specs.State.{State, state, Outcome, outcome, returned, value}
-use Rattle.store.specs.declared.answer.Answer.{Answer}
+use Rattle.store.specs.State.{Answer}
 use Rattle.call_log.specs.Buffer.{Puts}
 use Rattle.call_log.specs.Reader.{item, position_after, GivesNext}
 use Rattle.call_log.specs.Records.{kind_of, Next, next_at, records_from}

@@ -3,7 +3,7 @@
 use Rattle.std.specs.Prelude.{ℕ, List, [], ◌∷◌, Option}
 use Rattle.store.specs.State.{State, Outcome}
 use Rattle.store.specs.Step as store
-use Rattle.store.specs.declared.answer.Answer.{Answer}
+use Rattle.store.specs.State.{Answer}
 use Rattle.call_log.specs.Records.{Records, records}
 use Rattle.call_log.specs.declared.record.Call.{Call}
 use Rattle.call_log.specs.declared.record.Call.TheVariants.{Allocate, Free, Move, Load, Store, Fill, Copy}

@@ -4,11 +4,11 @@ ghost use Rattle.store.specs.State.{state, outcome};
 ghost use Rattle.call_log.specs.Run.{made};
 
 use crate::record::Call;
-use store::Answer;
+use store::Refusal;
 
 // Makes a call.
 #[tactic(auto, using(store::specs::laws::Move::move_leaves, store::specs::laws::Load::load_leaves))]
-pub fn make(image: &mut [u8], table: &mut [u64], c: Call) -> Answer
+pub fn make(image: &mut [u8], table: &mut [u64], c: Call) -> Result<u64, Refusal>
     ensures { outcome result image.new table.new ≡ made c (state image.old table.old) }
 {
     match c {

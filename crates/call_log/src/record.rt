@@ -3,7 +3,7 @@ ghost use Rattle.std.specs.Prelude.{◌+◌, ◌<◌, ◌≤◌, ◌≡◌, leng
 ghost use Rattle.block.specs.Bytes.{field};
 ghost use Rattle.call_log.specs.Records.{kind_number, KindWith, kind_of, field_bytes, record_length, call_at, good_value, insist, formed_at, next_at};
 
-use block::bytes::{read2, read4, read8};
+use block::bytes::read;
 
 // A call with its arguments. A fill's value has two bytes in the record and one here; a width is handed on untested.
 #[derive(Clone, Copy)]
@@ -98,16 +98,16 @@ fn call_at(log: &[u8], kind: Kind, f: usize) -> Result<Call, Fault>
     ensures { result ≡ insist (good_value log.now (kind_number kind) f) Fault.BadFields (Ok (call_at log.now (kind_number kind) f)) }
 {
     Ok(match kind {
-        Kind::Allocate => Call::Allocate(read4(log, f) as u32, read2(log, f + 4) as u16),
-        Kind::Free => Call::Free(read8(log, f)),
-        Kind::Move => Call::Move(read8(log, f), read8(log, f + 8).cast_signed()),
-        Kind::Load => Call::Load(read8(log, f), read2(log, f + 8)),
-        Kind::Store => Call::Store(read8(log, f), read2(log, f + 8), read8(log, f + 10)),
+        Kind::Allocate => Call::Allocate(read::<4>(log, f) as u32, read::<2>(log, f + 4) as u16),
+        Kind::Free => Call::Free(read::<8>(log, f)),
+        Kind::Move => Call::Move(read::<8>(log, f), read::<8>(log, f + 8).cast_signed()),
+        Kind::Load => Call::Load(read::<8>(log, f), read::<2>(log, f + 8)),
+        Kind::Store => Call::Store(read::<8>(log, f), read::<2>(log, f + 8), read::<8>(log, f + 10)),
         Kind::Fill => {
-            let value = u8::try_from(read2(log, f + 12)).map_err(|_| Fault::BadFields)?;
-            Call::Fill(read8(log, f), read4(log, f + 8) as u32, value)
+            let value = u8::try_from(read::<2>(log, f + 12)).map_err(|_| Fault::BadFields)?;
+            Call::Fill(read::<8>(log, f), read::<4>(log, f + 8) as u32, value)
         }
-        Kind::Copy => Call::Copy(read8(log, f), read8(log, f + 8), read4(log, f + 16) as u32),
+        Kind::Copy => Call::Copy(read::<8>(log, f), read::<8>(log, f + 8), read::<4>(log, f + 16) as u32),
     })
 }
 
@@ -117,7 +117,7 @@ fn formed_at(log: &[u8], at: usize, len: usize) -> Result<(Call, usize), Fault>
     requires { (4 ≤ len) × (at + len ≤ length log.now) }
     ensures { result ≡ formed_at log.now at len }
 {
-    let kind = Kind::try_from(read2(log, at + 2))?;
+    let kind = Kind::try_from(read::<2>(log, at + 2))?;
     if len != kind.record_length() {
         return Err(Fault::BadFields);
     }
@@ -134,7 +134,7 @@ pub fn record_at(log: &[u8], at: usize) -> Result<(Call, usize), Fault>
     if left < 4 {
         return Err(Fault::CutShort);
     }
-    let len = read2(log, at) as usize;
+    let len = read::<2>(log, at) as usize;
     if len < 4 || left < len {
         return Err(Fault::CutShort);
     }

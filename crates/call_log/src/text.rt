@@ -6,7 +6,7 @@ ghost use Rattle.call_log.specs.Text.{digit, hexadecimal, decimal, line_of, faul
 ghost use Rattle.call_log.specs.Buffer.{Puts};
 
 use crate::record::{Fault, Kind};
-use store::Answer;
+use store::{Refusal, returned};
 
 // A buffer, of which the first `at` bytes are put.
 #[derive(Drop)]
@@ -66,16 +66,16 @@ impl Text<'_> {
 
     // Puts the line of a call.
     #[tactic(auto, using(crate::proofs::Texts::small))]
-    pub fn put_answer(&mut self, kind: Kind, a: Answer)
+    pub fn put_answer(&mut self, kind: Kind, answer: Result<u64, Refusal>)
         requires { self.old.at + 23 ≤ length self.old.buffer.now }
-        ensures line { Puts self.old (line_of (kind_number kind) (returned a) (value a)) self.new }
+        ensures line { Puts self.old (line_of (kind_number kind) (returned answer) (value answer)) self.new }
         ensures few { self.new.at ≤ self.old.at + 23 }
     {
         self.put_decimal(kind as u64);
         self.put(b" ");
-        self.put_decimal(a.returned() as u64);
+        self.put_decimal(returned(&answer) as u64);
         self.put(b" ");
-        self.put_hexadecimal(a.value());
+        self.put_hexadecimal(answer.unwrap_or(0));
         self.put(b"\n");
     }
 

@@ -7,7 +7,7 @@ use Rattle.store.specs.State.{State, state, Outcome, outcome, returned, value}
 use Rattle.store.specs.Calls.{move, move_answer, load, load_answer}
 use Rattle.store.specs.laws.Move.{move_leaves}
 use Rattle.store.specs.laws.Load.{load_leaves}
-use Rattle.store.specs.declared.answer.Answer.{Answer}
+use Rattle.store.specs.State.{Answer}
 use Rattle.workload.specs.Traffic.{traffic_number, state_after, bytes_written, LoggedOutcome, logged}
 use Rattle.workload.specs.declared.answer.Traffic.{Traffic}
 use Rattle.capi.specs.Exports.{left, left_by, export, exported, logged_export, exported_traffic}

@@ -1,18 +1,18 @@
 -- What C sees of a call: the returned number, the value, and the image and table as they are left. Assumes nothing.
-use Rattle.std.specs.Prelude.{ℕ, ◌≡◌, refl, List, [], ◌∷◌, ℤ, pos, negsuc}
+use Rattle.store.specs.State.{measured_as}
+use Rattle.std.specs.Prelude.{ℕ, ◌≡◌, refl, List, [], ◌∷◌, ℤ, pos, negsuc, Result, Err}
 use Rattle.store.specs.State.{state, Outcome, returned, value, comparison_number, comparison_value, distances_number, start_distance, end_distance, usage_number, live_objects, live_bytes, free_bytes, overhead_bytes}
 use Rattle.store.specs.declared.answer.Refusal.TheVariants.{BadLength, Dangling}
-use Rattle.store.specs.declared.answer.Answer.{Answer}
-use Rattle.store.specs.declared.comparing.Comparison.{Comparison}
-use Rattle.store.specs.declared.measuring.Measurement.{Measurement}
-use Rattle.store.specs.declared.measuring.Measurement.TheVariants as measurement
-use Rattle.store.specs.declared.counting.Usage.{Usage}
-use Rattle.placement.specs.Placement.{order_word}
-use Rattle.placement.specs.declared.answer.Placement.{Placement}
-use Rattle.overhead.specs.declared.answer.Report.{Report}
+use Rattle.store.specs.State.{Answer}
+use Rattle.store.specs.declared.measuring.BodyEnds.{BodyEnds}
+use Rattle.block.specs.declared.walk.Counts.{Counts}
+use Rattle.placement.specs.Placement.{Placement, order_word}
+use Rattle.overhead.specs.Overhead.{Report}
 use Rattle.workload.specs.Traffic.{traffic_number, state_after, bytes_written, LoggedOutcome, logged}
 use Rattle.workload.specs.declared.answer.Traffic.{Traffic}
 use Rattle.workload.specs.declared.answer.Traffic.TheVariants as answer
+use Rattle.store.specs.declared.answer.Refusal.{Refusal}
+use Rattle.block.specs.declared.order.Ordering.{Ordering}
 
 -- What the export of a call that gives no value returns and leaves.
 pub record Left : Type 0 where
@@ -66,7 +66,7 @@ abbrev pub compared : ℕ → ℤ → Compared
 compared r order = record { returned = r; order = order }
 
 -- what C sees of compare's answer
-abbrev pub exported_comparison : Comparison → Compared
+abbrev pub exported_comparison : Result Ordering Refusal → Compared
 exported_comparison c = compared (comparison_number c) (comparison_value c)
 
 -- What the export of distances returns and gives: both values are 0 where it is refused.
@@ -80,13 +80,13 @@ abbrev pub measured : ℕ → ℤ → ℤ → Measured
 measured r from_start to_end = record { returned = r; from_start = from_start; to_end = to_end }
 
 -- what C sees of distances' answer
-abbrev pub exported_distances : Measurement → Measured
+abbrev pub exported_distances : Result BodyEnds Refusal → Measured
 exported_distances m = measured (distances_number m) (start_distance m) (end_distance m)
 
 -- one byte before a body of ten, and refused
 pub distances_seen :
-    let m : Measured = exported_distances (measurement.Distances (negsuc 0) (pos 11)) in
-    let r : Measured = exported_distances (measurement.Refused Dangling) in
+    let m : Measured = exported_distances (measured_as (negsuc 0) (pos 11)) in
+    let r : Measured = exported_distances (Err Dangling) in
     (m.returned ≡ 0) × (m.from_start ≡ negsuc 0) × (m.to_end ≡ pos 11) × (r.returned ≡ 11) × (r.from_start ≡ pos 0) × (r.to_end ≡ pos 0)
 distances_seen = (refl, refl, refl, refl, refl, refl)
 
@@ -103,7 +103,7 @@ abbrev pub tallied : ℕ → ℕ → ℕ → ℕ → ℕ → Tallied
 tallied r objects live free overhead = record { returned = r; objects = objects; live = live; free = free; overhead = overhead }
 
 -- what C sees of tally's answer
-abbrev pub exported_usage : Usage → Tallied
+abbrev pub exported_usage : Result Counts Refusal → Tallied
 exported_usage u = tallied (usage_number u) (live_objects u) (live_bytes u) (free_bytes u) (overhead_bytes u)
 
 -- What the export of traffic returns, gives and leaves: both values are 0 where set-up is refused, and those of the load where the log is full.

@@ -10,7 +10,7 @@ ghost use Rattle.placement.specs.Placement.{placement};
 ghost use Rattle.overhead.specs.Overhead.{report};
 ghost use Rattle.capi.specs.Exports.{left, left_by, export, exported, answered, exported_answer, compared, exported_comparison, measured, exported_distances, tallied, exported_usage, logged_export, exported_traffic, ordered, exported_placement, reported, exported_report};
 
-use store::{Measurement, Usage};
+use store::{compared, give, returned};
 use workload::Traffic;
 
 // A fresh store on the image and table.
@@ -19,7 +19,7 @@ pub extern "C" fn cue_setup(image: &mut [u8], table: &mut [u64], exponent: u32) 
     ensures { left result image.new table.new ≡ left_by (set_up exponent (state image.old table.old)) }
 {
     let a = store::set_up(image, table, exponent);
-    a.returned()
+    returned(&a)
 }
 
 // A new object for no cue, which is cue 0; its tagged base goes to `pointer`.
@@ -65,7 +65,7 @@ pub extern "C" fn cue_move(
     // what a refusal gives
     *moved = 0;
     let a = store::offset(image, table, pointer, distance);
-    a.give(moved)
+    give(a, moved)
 }
 
 // The number in `width` bytes goes to `value`.
@@ -82,7 +82,7 @@ pub extern "C" fn cue_load(
     // what a refusal gives
     *value = 0;
     let a = store::load(image, table, pointer, width);
-    a.give(value)
+    give(a, value)
 }
 
 // Puts the value into `width` bytes.
@@ -97,7 +97,7 @@ pub extern "C" fn cue_store(
     ensures { left result image.new table.now ≡ left_by (store pointer width value (state image.old table.now)) }
 {
     let a = store::store(image, table, pointer, width, value);
-    a.returned()
+    returned(&a)
 }
 
 // Ends the life of the object whose base pointer this is.
@@ -114,8 +114,8 @@ pub extern "C" fn cue_release(image: &mut [u8], table: &mut [u64], cue: u32, cou
     ensures { export result count.new image.new table.new ≡ exported (release_cue cue (state image.old table.old)) }
 {
     let a = store::release_cue(image, table, cue);
-    *count = a.value();
-    a.returned()
+    *count = a.unwrap_or(0);
+    returned(&a)
 }
 
 // Sets `length` bytes to one value.
@@ -130,7 +130,7 @@ pub extern "C" fn cue_fill(
     ensures { left result image.new table.now ≡ left_by (fill pointer length value (state image.old table.now)) }
 {
     let a = store::fill(image, table, pointer, length, value);
-    a.returned()
+    returned(&a)
 }
 
 // Copies `length` bytes, as if all of the source were read first.
@@ -145,7 +145,7 @@ pub extern "C" fn cue_copy(
     ensures { left result image.new table.now ≡ left_by (copy target source length (state image.old table.now)) }
 {
     let a = store::copy(image, table, target, source, length);
-    a.returned()
+    returned(&a)
 }
 
 // How `length` bytes of the left stand to those of the right goes to `order`: -1, 0 or 1.
@@ -161,8 +161,8 @@ pub extern "C" fn cue_compare(
     ensures { compared result order.new ≡ exported_comparison (compare left right length (state image.now table.now)) }
 {
     let c = store::compare(image, table, left, right, length);
-    *order = c.value();
-    c.returned()
+    *order = compared(c);
+    returned(&c)
 }
 
 // Copies the text at the source, its zero byte included; how many bytes it has goes to `copied`.
@@ -177,8 +177,8 @@ pub extern "C" fn cue_copy_text(
     ensures { export result copied.new image.new table.now ≡ exported (copy_text target source (state image.old table.now)) }
 {
     let a = store::copy_text(image, table, target, source);
-    *copied = a.value();
-    a.returned()
+    *copied = a.unwrap_or(0);
+    returned(&a)
 }
 
 // How far the pointer is from the start of its object's body goes to `from_start`, how far from its end to `to_end`.
@@ -196,12 +196,12 @@ pub extern "C" fn cue_distances(
     *from_start = 0;
     *to_end = 0;
     match store::distances(image, table, pointer) {
-        Measurement::Distances(a, b) => {
-            *from_start = a;
-            *to_end = b;
+        Ok(ends) => {
+            *from_start = ends.from_start;
+            *to_end = ends.to_end;
             0
         }
-        Measurement::Refused(r) => r.number(),
+        Err(r) => r.number(),
     }
 }
 
@@ -218,8 +218,8 @@ pub extern "C" fn cue_has_type(
     ensures { answered result yes.new ≡ exported_answer (has_type descriptors.now pointer wanted (state image.now table.now)) }
 {
     let a = store::has_type(image, table, descriptors, pointer, wanted);
-    *yes = a.value();
-    a.returned()
+    *yes = a.unwrap_or(0);
+    returned(&a)
 }
 
 // The free total in the superblock goes to `total`.
@@ -230,7 +230,7 @@ pub extern "C" fn cue_free_total(image: &[u8], table: &[u64], total: &mut u64) -
     // what a refusal gives
     *total = 0;
     let a = store::free_total(image, table);
-    a.give(total)
+    give(a, total)
 }
 
 // Live objects, live bytes, free bytes and overhead bytes.
@@ -251,14 +251,14 @@ pub extern "C" fn cue_tally(
     *free = 0;
     *overhead = 0;
     match store::tally(image, table) {
-        Usage::Counts(o, l, f, v) => {
-            *objects = o;
-            *live = l;
-            *free = f;
-            *overhead = v;
+        Ok(counts) => {
+            *objects = counts.objects;
+            *live = counts.live;
+            *free = counts.free;
+            *overhead = counts.overhead;
             0
         }
-        Usage::Refused(r) => r.number(),
+        Err(r) => r.number(),
     }
 }
 
@@ -308,12 +308,22 @@ pub extern "C" fn cue_order(
 ) -> u32
     ensures { ordered result order.new large.new tried.new floor.new ≡ exported_placement (placement exponent sizes.now budget) }
 {
-    let p = placement::order(sizes, exponent, budget);
-    *order = p.order_word();
-    *large = p.large;
-    *tried = p.tried;
-    *floor = p.floor;
-    p.row
+    match placement::order(sizes, exponent, budget) {
+        Ok(p) => {
+            *order = p.order_word();
+            *large = p.large;
+            *tried = p.tried;
+            *floor = p.floor;
+            0
+        }
+        Err(r) => {
+            *order = 0;
+            *large = 0;
+            *tried = 0;
+            *floor = 0;
+            r.number()
+        }
+    }
 }
 
 // The report of the sizes: raw bytes go to `raw`, those with headers to `headed`, padded ones to `padded`, the end of padded blocks to `end`; then the two overheads.
@@ -331,14 +341,28 @@ pub extern "C" fn cue_overhead(
 ) -> u32
     ensures { reported result raw.new headed.new padded.new end.new headers_extra.new headers_over.new padded_extra.new padded_over.new ≡ exported_report (report sizes.now) }
 {
-    let r = overhead::report(sizes);
-    *raw = r.raw;
-    *headed = r.headed;
-    *padded = r.padded;
-    *end = r.end;
-    *headers_extra = r.headers.extra;
-    *headers_over = r.headers.over;
-    *padded_extra = r.padding.extra;
-    *padded_over = r.padding.over;
-    r.row
+    match overhead::report(sizes) {
+        Ok(r) => {
+            *raw = r.raw;
+            *headed = r.headed;
+            *padded = r.padded;
+            *end = r.end;
+            *headers_extra = r.headers.extra;
+            *headers_over = r.headers.over;
+            *padded_extra = r.padding.extra;
+            *padded_over = r.padding.over;
+            0
+        }
+        Err(r) => {
+            *raw = 0;
+            *headed = 0;
+            *padded = 0;
+            *end = 0;
+            *headers_extra = 0;
+            *headers_over = 0;
+            *padded_extra = 0;
+            *padded_over = 0;
+            r.number()
+        }
+    }
 }

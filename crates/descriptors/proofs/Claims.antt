@@ -1,6 +1,5 @@
 -- The claims on lists of descriptors and on layouts. Assumes nothing.
-use Prim.Native.Nat.{ℕ}
-use mathlib.Core.Path.{subst}
+use Rattle.std.proofs.Common.{ℕ, subst}
 use Rattle.block.specs.laws.Booleans.{refuted}
 use Rattle.descriptors.specs.Descriptors.{good_list}
 use Rattle.descriptors.specs.Claims.{RefusesBad, Has, AnswersHas, EndsBeforeSize}

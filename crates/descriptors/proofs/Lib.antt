@@ -1,5 +1,4 @@
 -- What the proofs of several functions use.
-mod Turns
-mod Read
+pub mod Turns
 -- The claims on lists and layouts.
 pub mod Claims

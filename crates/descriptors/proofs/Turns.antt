@@ -1,40 +1,56 @@
--- `find_type`, turn by turn. Assumes nothing.
-use Prim.Native.Nat.{ℕ, zero, suc, ◌+◌, ◌≤◌, ◌<◌}
-use mathlib.Core.Path.{◌≡◌, refl, sym, ◌∙◌}
-use mathlib.Core.List.{List}
-use native.Mathlib.Omega.{arith}
-use Rattle.descriptors.specs.Descriptors.{length_at, type_at, WholeTo, start, look_up_in, look_up}
+-- The loops of `find_type` and `good_fields`, turn by turn. Assumes nothing.
+use Rattle.std.proofs.Common.{ℕ, suc, ◌+◌, ◌-◌, ◌≤◌, ◌<◌, ◌≡◌, refl, true, false, List, None, Some, sym, ◌∙◌, add-one, arith}
+use Rattle.descriptors.specs.Descriptors.{descriptor_at, field_at, WholeTo, start, look_up_in, look_up, field_end, good_fields_in}
 use Rattle.descriptors.specs.laws.Lookups.{step, lookup-end, lookup-found, lookup_on}
-use Rattle.descriptors.specs.declared.descriptor.Lookup.TheVariants.{At, Nowhere}
+use Rattle.descriptors.specs.laws.Fields.{fields_bad, fields_on}
+use Rattle.descriptors.specs.declared.descriptor.Descriptor.{Descriptor}
 
--- what is left of the search from p on comes to what the whole search comes to
+-- The search for a type: what is left of it from p on comes to what the whole search comes to.
+
 pub record Searching (list : List ℕ) (end type p : ℕ) : Type 0 where
   pub whole : WholeTo list p
   pub steps : ℕ
-  pub enough : end < p + steps
-  pub same : look_up_in steps list end type p ≡ look_up list end type
+  pub enough : end ≤ p + steps
+  pub same : look_up_in (suc steps) list end type p ≡ look_up list end type
 
-pub begins : (list : List ℕ) (end type : ℕ) → Searching list end type 0
+pub search_begins : (list : List ℕ) (end type : ℕ) → Searching list end type 0
 unfolding look_up
-begins list end type = record { whole = start; steps = suc end; enough = omega arith; same = refl }
+search_begins list end type = record { whole = start; steps = end; enough = omega arith; same = refl }
 
 module _ (list : List ℕ) (end type p : ℕ) (now : Searching list end type p) where
-  pub ends : end ≤ p → Nowhere ≡ look_up list end type
-  ends l = sym (lookup-end list now.steps end type p l) ∙ now.same
+  pub search_ends : end ≤ p → None ≡ look_up list end type
+  search_ends l = sym (lookup-end list (suc now.steps) end type p l) ∙ now.same
 
-  -- a claim about the next step: before the end there is one
-  by_step : {P : Type 0} → p < end → ((k : ℕ) → end < p + suc k → look_up_in (suc k) list end type p ≡ look_up list end type → P) → P
-  by_step {P} l f = go now.steps now.enough now.same
-    where
-      go : (k : ℕ) → end < p + k → look_up_in k list end type p ≡ look_up list end type → P
-      go zero h s = absurd (omega arith)
-      go (suc k) h s = f k h s
+  -- the descriptor d is read at p, before the end
+  module _ (l : p < end) (d : Descriptor) (is : d ≡ descriptor_at list p) where
+    pub search_finds : d.ty ≡ type → Some p ≡ look_up list end type
+    search_finds e = sym (lookup-found list now.steps end type p l (rw is at e)) ∙ now.same
 
-  pub finds : p < end → type_at list p ≡ type → At p ≡ look_up list end type
-  finds l e = by_step l (λ k h s. sym (lookup-found list k end type p l e) ∙ s)
+    pub search_goes_on : WholeTo list end → (d.ty ≡ type → ⊥) → Searching list end type (p + d.length)
+    search_goes_on we n =
+        let t = step list p end now.whole we l in
+        let left : suc (now.steps - 1) ≡ now.steps = omega arith in
+        rw is
+        (record {
+          whole = t.reached;
+          steps = now.steps - 1;
+          enough = omega (arith, t.long);
+          same = rw left (sym (lookup_on list now.steps end type p l (rw is at n)) ∙ now.same);
+        })
 
-  pub turns : WholeTo list end → p < end → (type_at list p ≡ type → ⊥) → Searching list end type (p + length_at list p)
-  turns we l n =
-      let t = step list p end now.whole we l in
-      by_step l
-      (λ k h s. record { whole = t.reached; steps = k; enough = omega (arith, t.long); same = sym (lookup_on list k end type p l n) ∙ s })
+-- The fields from field k on, behind `from`, of n fields in all.
+
+module _ (list : List ℕ) (p n from k : ℕ) where
+  pub fields_end : n ≤ k → good_fields_in (n - k) list p from k ≡ true
+  unfolding good_fields_in
+  fields_end l = let z : n - k ≡ 0 = omega arith in rw z
+
+  one_left : k < n → n - k ≡ suc (n - (k + 1))
+  one_left l = omega arith
+
+  pub fields_fail : k < n → field_end list p from (field_at list p k) ≡ None → good_fields_in (n - k) list p from k ≡ false
+  fields_fail l e = rw (one_left l) (fields_bad list p (n - (k + 1)) from k e)
+
+  pub fields_go_on : (end : ℕ) → k < n → field_end list p from (field_at list p k) ≡ Some end
+      → good_fields_in (n - k) list p from k ≡ good_fields_in (n - (k + 1)) list p end (k + 1)
+  fields_go_on end l e = rw (one_left l) (fields_on list p (n - (k + 1)) from k end e ∙ rw add-one)

@@ -1,12 +1,8 @@
 -- The type descriptors of a lent list of bytes, and when a list is good: document 02, W12, row 24. Assumes nothing.
-use Rattle.std.specs.Prelude.{ℕ, zero, suc, ◌+◌, ◌-◌, ◌*◌, ◌/◌, ◌%◌, ◌≤◌, ◌<◌, ◌≡◌, Bool, true, false, cond, ◌&&◌, List, length, leb, ltb, eqb}
+use Rattle.std.specs.Prelude.{ℕ, zero, suc, ◌+◌, ◌-◌, ◌*◌, ◌/◌, ◌%◌, ◌≤◌, ◌<◌, ◌≡◌, Bool, true, false, cond, ◌&&◌, List, length, leb, ltb, eqb, None, Option, Some}
 use Rattle.block.specs.Bytes.{field}
 use Rattle.descriptors.specs.declared.descriptor.Descriptor.{Descriptor}
 use Rattle.descriptors.specs.declared.descriptor.Field.{Field}
-use Rattle.descriptors.specs.declared.descriptor.FieldEnd.{FieldEnd}
-use Rattle.descriptors.specs.declared.descriptor.FieldEnd.TheVariants.{EndsAt, BadField}
-use Rattle.descriptors.specs.declared.descriptor.Lookup.{Lookup}
-use Rattle.descriptors.specs.declared.descriptor.Lookup.TheVariants.{At, Nowhere}
 
 -- A descriptor is named by its position p in the list, that of its first byte.
 
@@ -47,43 +43,43 @@ pub data WholeTo (list : List ℕ) : ℕ → Type 0 where
       → WholeTo list (p + length_at list p)
 
 -- the first descriptor of the type from p on and before `end`, in at most so many steps
-unfoldable pub look_up_in : ℕ → List ℕ → ℕ → ℕ → ℕ → Lookup
-look_up_in zero list end type p = Nowhere
+unfoldable pub look_up_in : ℕ → List ℕ → ℕ → ℕ → ℕ → Option ℕ
+look_up_in zero list end type p = None
 look_up_in (suc steps) list end type p =
     elim (ltb p end) [
-      | false ↦ Nowhere
+      | false ↦ None
       | true ↦ elim (eqb (type_at list p) type) [
-        | true ↦ At p
+        | true ↦ Some p
         | false ↦ look_up_in steps list end type (p + length_at list p)
       ]
     ]
 
 -- the descriptor of the type among those before `end`; each has 12 bytes or more, so that the steps are never used up
-unfoldable pub look_up : List ℕ → ℕ → ℕ → Lookup
+unfoldable pub look_up : List ℕ → ℕ → ℕ → Option ℕ
 look_up list end type = look_up_in (suc end) list end type 0
 
 -- there is none
-abbrev pub is_nowhere : Lookup → Bool
-is_nowhere (At q) = false
-is_nowhere Nowhere = true
+abbrev pub is_nowhere : Option ℕ → Bool
+is_nowhere (Some q) = false
+is_nowhere None = true
 
 -- where so many bytes from `offset` on end, if they start at or after `from` and fit inside `size`
-abbrev pub end_within : ℕ → ℕ → ℕ → ℕ → FieldEnd
-end_within from size offset extent = cond (leb from offset && leb (offset + extent) size) (EndsAt (offset + extent)) BadField
+abbrev pub end_within : ℕ → ℕ → ℕ → ℕ → Option ℕ
+end_within from size offset extent = cond (leb from offset && leb (offset + extent) size) (Some (offset + extent)) None
 
 -- where a field of the descriptor at p ends, if it names an earlier type, starts at or after `from`, and fits inside its record's size
-unfoldable pub field_end : List ℕ → ℕ → ℕ → Field → FieldEnd
+unfoldable pub field_end : List ℕ → ℕ → ℕ → Field → Option ℕ
 field_end list p from d =
     elim (look_up list p d.ty) [
-      | Nowhere ↦ BadField
-      | At q ↦ end_within from (size_at list p) d.offset (size_at list q)
+      | None ↦ None
+      | Some q ↦ end_within from (size_at list p) d.offset (size_at list q)
     ]
 
 -- n fields, from field k on, are good: the first starts at or after `from`, and each other one at or after the end of the field before it
 unfoldable pub good_fields_in : ℕ → List ℕ → ℕ → ℕ → ℕ → Bool
 good_fields_in zero list p from k = true
 good_fields_in (suc n) list p from k =
-    elim (field_end list p from (field_at list p k)) [ BadField ↦ false | EndsAt end ↦ good_fields_in n list p end (suc k) ]
+    elim (field_end list p from (field_at list p k)) [ None ↦ false | Some end ↦ good_fields_in n list p end (suc k) ]
 
 -- the length that the kind asks for: 12, or for a record 12 and whole fields
 abbrev pub good_shape : Descriptor → Bool

@@ -1,9 +1,7 @@
 -- Which type has which at an offset, as it is computed: document 02, W12. Assumes nothing.
-use Rattle.std.specs.Prelude.{ℕ, zero, suc, ◌-◌, Bool, true, false, ◌&&◌, ◌||◌, List, leb, eqb}
+use Rattle.std.specs.Prelude.{ℕ, zero, suc, ◌-◌, Bool, true, false, ◌&&◌, ◌||◌, List, leb, eqb, None, Option, Some}
 use Rattle.descriptors.specs.Descriptors.{type_at, field_count, field_at, look_up}
 use Rattle.descriptors.specs.declared.descriptor.Field.{Field}
-use Rattle.descriptors.specs.declared.descriptor.Lookup.{Lookup}
-use Rattle.descriptors.specs.declared.descriptor.Lookup.TheVariants.{At, Nowhere}
 
 -- the test holds of a number below n
 unfoldable pub any_below : (ℕ → Bool) → ℕ → Bool
@@ -16,7 +14,7 @@ unfoldable pub field_has : (ℕ → ℕ → Bool) → List ℕ → ℕ → ℕ �
 field_has has list p o d =
     elim (leb d.offset o) [
       | false ↦ false
-      | true ↦ elim (look_up list p d.ty) [ Nowhere ↦ false | At q ↦ has q (o - d.offset) ]
+      | true ↦ elim (look_up list p d.ty) [ None ↦ false | Some q ↦ has q (o - d.offset) ]
     ]
 
 -- A type reads its fields: the type described at p is the wanted one and o is 0, or a field has it, in at most so many steps.
@@ -31,6 +29,6 @@ unfoldable pub type_has : List ℕ → ℕ → ℕ → ℕ → Bool
 type_has list wanted p o = type_has_in (suc p) list wanted p o
 
 -- the last of the first n fields of the descriptor at p that starts at or before o
-unfoldable pub last_starting : List ℕ → ℕ → ℕ → ℕ → Lookup
-last_starting list p o zero = Nowhere
-last_starting list p o (suc n) = elim (leb (field_at list p n).offset o) [ true ↦ At n | false ↦ last_starting list p o n ]
+unfoldable pub last_starting : List ℕ → ℕ → ℕ → ℕ → Option ℕ
+last_starting list p o zero = None
+last_starting list p o (suc n) = elim (leb (field_at list p n).offset o) [ true ↦ Some n | false ↦ last_starting list p o n ]

@@ -5,6 +5,5 @@ pub mod Fields
 pub mod Lists
 -- which type has which
 pub mod Layouts
--- the check, test by test, and what it refuses
-pub mod Checks
+-- what the check refuses
 pub mod Bad

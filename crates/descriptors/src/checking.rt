@@ -1,73 +1,49 @@
 // Row 24: whether every descriptor of a list is good.
-ghost use Rattle.std.specs.Prelude.{◌≡◌, ◌+◌, ◌*◌, ◌≤◌, length};
-ghost use Rattle.descriptors.specs.Descriptors.{size_at, WholeTo, end_within, field_end, good_fields_in, good_shape, good_head, good_descriptor, good_list};
+ghost use Rattle.std.specs.Prelude.{◌≡◌, ◌+◌, ◌-◌, ◌/◌, ◌≤◌, length};
+ghost use Rattle.descriptors.specs.Descriptors.{descriptor_at, size_at, WholeTo, end_within, field_end, good_fields_in, good_head, good_descriptor, good_list};
 
-use super::descriptor::{Descriptor, Field, FieldEnd, Lookup};
+use super::descriptor::{Descriptor, Field};
 use super::reading::{read_descriptor, read_field};
 use super::searching::find_type;
 
-// Where `extent` bytes from `offset` on end, if they start at or after `from` and fit inside `size`. No sum is made before it is known to fit.
-fn end_within(from: u64, size: u64, offset: u64, extent: u64) -> FieldEnd
+// The offset at which `extent` bytes from `offset` on end, if they start at or after `from` and fit inside `size`. No sum is made before it is known to fit.
+fn end_within(from: u64, size: u64, offset: u64, extent: u64) -> Option<u64>
     ensures { result ≡ end_within from size offset extent }
 {
-    if offset < from {
-        return FieldEnd::BadField;
+    if offset < from || size < offset || size - offset < extent {
+        return None;
     }
-    if size < offset {
-        return FieldEnd::BadField;
-    }
-    if size - offset < extent {
-        return FieldEnd::BadField;
-    }
-    FieldEnd::EndsAt(offset + extent)
+    Some(offset + extent)
 }
 
 // Where a field of the descriptor at p, of a record of `size` bytes, ends, if it is good behind `from`.
-fn field_end(list: &[u8], p: usize, from: u64, size: u64, field: Field) -> FieldEnd
-    requires { (WholeTo list.now p) × (size ≡ size_at list.now p) }
+#[tactic(auto, using(crate::specs::laws::Lookups::found_head, crate::specs::laws::Fields::unnamed_ends, crate::specs::laws::Fields::named_ends))]
+fn field_end(list: &[u8], p: usize, from: u64, size: u64, field: Field) -> Option<u64>
+    requires whole { WholeTo list.now p }
+    requires sized { size ≡ size_at list.now p }
     ensures { result ≡ field_end list.now p from field }
 {
-    let Lookup::At(q) = find_type(list, p, field.ty) else {
-        return FieldEnd::BadField;
-    };
-    let d = read_descriptor(list, q as usize);
-    end_within(from, size, field.offset, d.size)
+    let q = find_type(list, p, field.ty)?;
+    end_within(from, size, field.offset, read_descriptor(list, q).size)
 }
 
-// Whether the n fields of the descriptor at p, of a record of `size` bytes, are good.
-fn good_fields(list: &[u8], p: usize, n: usize, size: u64) -> bool
-    requires { (WholeTo list.now p) × (size ≡ size_at list.now p) × (p + 12 + 6 * n ≤ length list.now) }
-    ensures { result ≡ good_fields_in n list.now p 0 0 }
+// Whether the fields of the descriptor d at p are good.
+#[tactic(auto, using(crate::proofs::Turns::fields_end, crate::proofs::Turns::fields_fail, crate::proofs::Turns::fields_go_on))]
+fn good_fields(list: &[u8], p: usize, d: Descriptor) -> bool
+    requires whole { WholeTo list.now p }
+    requires here { d ≡ descriptor_at list.now p }
+    requires long { 12 ≤ d.length }
+    requires inside { p + d.length ≤ length list.now }
+    ensures { result ≡ good_fields_in ((d.length - 12) / 6) list.now p 0 0 }
 {
     let mut from: u64 = 0;
-    let mut k = 0;
-    loop {
-        if k == n {
-            break true;
-        }
-        let field = read_field(list, p, k);
-        let FieldEnd::EndsAt(end) = field_end(list, p, from, size, field) else {
-            break false;
+    for k in 0..d.field_count() {
+        let Some(end) = field_end(list, p, from, d.size, read_field(list, p, k)) else {
+            return false;
         };
         from = end;
-        k = k + 1;
     }
-}
-
-// Whether the length is what the kind asks for.
-fn good_shape(d: Descriptor) -> bool
-    ensures { result ≡ good_shape d }
-{
-    if d.kind == 4 {
-        return d.length == 12;
-    }
-    if d.kind != 5 {
-        return false;
-    }
-    if d.length < 12 {
-        return false;
-    }
-    (d.length - 12) % 6 == 0
+    true
 }
 
 // Whether the descriptor at p is not cut short, of a good shape, and of a size that is not 0.
@@ -80,16 +56,11 @@ fn good_head(list: &[u8], p: usize) -> bool
         return false;
     }
     let d = read_descriptor(list, p);
-    if (left as u64) < d.length {
-        return false;
-    }
-    if !good_shape(d) {
-        return false;
-    }
-    0 < d.size
+    d.length <= left && d.has_good_shape() && 0 < d.size
 }
 
 // Whether the descriptor at p is good: its head, its type, which no descriptor before it has, and its fields.
+#[tactic(auto, unfolding(crate::specs::Descriptors::good_descriptor))]
 fn good_descriptor(list: &[u8], p: usize) -> bool
     requires { WholeTo list.now p }
     ensures { result ≡ good_descriptor list.now p }
@@ -98,11 +69,7 @@ fn good_descriptor(list: &[u8], p: usize) -> bool
         return false;
     }
     let d = read_descriptor(list, p);
-    let n = ((d.length - 12) / 6) as usize;
-    match find_type(list, p, d.ty) {
-        Lookup::At(_) => false,
-        Lookup::Nowhere => good_fields(list, p, n, d.size),
-    }
+    find_type(list, p, d.ty).is_none() && good_fields(list, p, d)
 }
 
 // Whether every descriptor of the list is good.
@@ -110,14 +77,11 @@ pub fn good_list(list: &[u8]) -> bool
     ensures { result ≡ good_list list.now }
 {
     let mut p = 0;
-    loop {
-        if p == list.len() {
-            break true;
-        }
+    while p < list.len() {
         if !good_descriptor(list, p) {
-            break false;
+            return false;
         }
-        let d = read_descriptor(list, p);
-        p = p + d.length as usize;
+        p += read_descriptor(list, p).length;
     }
+    true
 }

@@ -1,22 +1,11 @@
 // Which type has which at an offset: a type reads its fields, and a field reads its type. A field's type is described before its record, so that the
-// descriptor's position falls. The recursion comes last and passes one slice: a level takes 32 bytes of stack.
-ghost use Rattle.std.specs.Prelude.{◌≡◌, ◌&&◌, ◌≤◌, ◌<◌, eqb};
+// descriptor's position falls. Each calls the other last and passes the same slice on, so that LLVM makes a loop of them, whose stack does not grow.
+ghost use Rattle.std.specs.Prelude.{◌≡◌, ◌≤◌, ◌<◌};
 ghost use Rattle.descriptors.specs.Descriptors.{field_count, field_at, Stands};
 ghost use Rattle.descriptors.specs.Layouts.{field_has, type_has};
 
-use super::descriptor::Lookup;
 use super::reading::{read_descriptor, read_field};
 use super::searching::{find_type, last_field};
-
-// Whether a type is the wanted one, at its own start.
-fn is_wanted(ty: u64, wanted: u64, o: u64) -> bool
-    ensures { result ≡ (eqb ty wanted && eqb o 0) }
-{
-    if ty != wanted {
-        return false;
-    }
-    o == 0
-}
 
 // Whether the type described at p has `wanted` at o. Only the last field that starts at or before o can: those before it end there at the latest.
 #[cycle(field_has_type_has)]
@@ -25,25 +14,26 @@ pub fn type_has(list: &[u8], wanted: u64, p: usize, o: u64) -> bool
     ensures { result ≡ type_has list.now wanted p o }
 {
     let d = read_descriptor(list, p);
-    if is_wanted(d.ty, wanted, o) {
+    if d.ty == wanted && o == 0 {
         return true;
     }
-    let n = (d.length - 12) / 6;
-    match last_field(list, p, n as usize, o) {
-        Lookup::Nowhere => false,
-        Lookup::At(k) => field_has(list, wanted, p, k as usize, o),
+    match last_field(list, p, d.field_count(), o) {
+        None => false,
+        Some(k) => field_has(list, wanted, p, k, o),
     }
 }
 
 // Whether field k of the record described at p, which starts at or before o, has `wanted` there.
 #[cycle(field_has_type_has)]
 fn field_has(list: &[u8], wanted: u64, p: usize, k: usize, o: u64) -> bool
-    requires { (Stands list.now p) × (k < field_count list.now p) × ((field_at list.now p k).offset ≤ o) }
+    requires stands { Stands list.now p }
+    requires below { k < field_count list.now p }
+    requires starts { (field_at list.now p k).offset ≤ o }
     ensures { result ≡ field_has (type_has list.now wanted) list.now p o (field_at list.now p k) }
 {
     let f = read_field(list, p, k);
     match find_type(list, p, f.ty) {
-        Lookup::Nowhere => false,
-        Lookup::At(q) => type_has(list, wanted, q as usize, o - f.offset),
+        None => false,
+        Some(q) => type_has(list, wanted, q, o - f.offset),
     }
 }

@@ -3,41 +3,35 @@ ghost use Rattle.std.specs.Prelude.{◌≡◌, ◌+◌, ◌*◌, ◌≤◌, leng
 ghost use Rattle.descriptors.specs.Descriptors.{WholeTo, look_up};
 ghost use Rattle.descriptors.specs.Layouts.{last_starting};
 
-use super::descriptor::Lookup;
 use super::reading::{read_descriptor, read_field};
 
-// The descriptor of the type among those before `end`.
-pub fn find_type(list: &[u8], end: usize, ty: u64) -> Lookup
+// The position of the descriptor of the type among those before `end`.
+#[tactic(auto, using(crate::specs::laws::Lookups::step))]
+pub fn find_type(list: &[u8], end: usize, ty: u64) -> Option<usize>
     requires { WholeTo list.now end }
     ensures { result ≡ look_up list.now end ty }
 {
     let mut p = 0;
-    loop {
-        if end <= p {
-            break Lookup::Nowhere;
-        }
+    while p < end {
         let d = read_descriptor(list, p);
         if d.ty == ty {
-            break Lookup::At(p as u64);
+            return Some(p);
         }
-        p = p + d.length as usize;
+        p += d.length;
     }
+    None
 }
 
-// The last of the first n fields of the descriptor at p that starts at or before o.
-pub fn last_field(list: &[u8], p: usize, n: usize, o: u64) -> Lookup
+// The index of the last of the first n fields of the descriptor at p that starts at or before o.
+#[tactic(auto, using(crate::specs::laws::Layouts::last_ended, crate::specs::laws::Layouts::last_found, crate::specs::laws::Layouts::last_on))]
+pub fn last_field(list: &[u8], p: usize, n: usize, o: u64) -> Option<usize>
     requires { p + 12 + 6 * n ≤ length list.now }
     ensures { result ≡ last_starting list.now p o n }
 {
-    let mut k = n;
-    loop {
-        if k == 0 {
-            break Lookup::Nowhere;
-        }
-        k = k - 1;
-        let f = read_field(list, p, k);
-        if f.offset <= o {
-            break Lookup::At(k as u64);
+    for k in (0..n).rev() {
+        if read_field(list, p, k).offset <= o {
+            return Some(k);
         }
     }
+    None
 }

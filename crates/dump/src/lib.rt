@@ -1,20 +1,41 @@
-// A dump of the frame table, as bytes. An image is bytes already.
+// A dump of a program's store: image and frame table as bytes, and the files that arguments name for them.
 #![tactic(auto)]
+
+mod file;
 
 ghost use Rattle.std.specs.Prelude.{◌≡◌, ◌*◌, length};
 ghost use Rattle.dump.specs.Dump.{table_bytes};
 
 use block::bytes::write8;
+pub use file::names_dump;
+
+// The image and the table's entries, 8 bytes for each.
+#[derive(Drop)]
+pub struct Dump {
+    pub image: [u8; 8192],
+    pub entries: [u8; 6144],
+    ghost image_long: { length image ≡ 8192 },
+    ghost entries_long: { length entries ≡ 6144 },
+}
+
+impl Dump {
+    // The dump of an image and its table.
+    pub fn new(image: [u8; 8192], table: &[u64; 768]) -> Dump
+        ensures image_value { result.image ≡ image }
+        ensures entries_value { result.entries ≡ table_bytes table.now }
+    {
+        let mut entries = [0u8; 6144];
+        put_entries(&mut entries, table);
+        Dump { image, entries }
+    }
+}
 
 // Puts the table's entries into `bytes`, 8 bytes each.
 pub fn put_entries(bytes: &mut [u8], table: &[u64])
     requires { length bytes.old ≡ 8 * length table.now }
     ensures { bytes.new ≡ table_bytes table.now }
 {
-    let mut i = 0;
-    while i < table.len() {
-        let entry = table[i];
+    for (i, &entry) in table.iter().enumerate() {
         write8(bytes, 8 * i, entry);
-        i += 1;
     }
 }

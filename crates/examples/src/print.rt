@@ -1,291 +1,265 @@
-// What the program writes.
-use crate::labels::LABELS;
-use overhead::{Fraction, Report};
-use placement::Placement;
-use std::rt::Stdout;
-use store::{Answer, Comparison, Measurement, Usage};
-use workload::Traffic;
+// What the calls answer, as the program writes it.
+use std::cmp::Ordering;
+use std::fmt;
+use std::fmt::Display;
+use store::Refusal;
 
-// Text.
-pub fn text(out: Stdout, t: &[u8]) {
-    let _ = out.write_all(t);
+// A refusal, by its number in docs/FORMAT.md.
+#[derive(Clone, Copy, PartialEq, Eq)]
+pub struct Refused(pub u32);
+
+impl Refused {
+    // Why a call was refused. No call here gives 17 to 19, which are a call log's.
+    fn reason(self) -> &'static str {
+        match self.0 {
+            1 => "slot exponent outside 6 to 15",
+            2 => "image length outside 64 to 2^30",
+            3 => "table too short to set up",
+            4 => "superblock not as laid out",
+            5 => "table shorter than the used entries",
+            6 => "length 0",
+            7 => "walk meets an unsound header",
+            8 => "no free block fits",
+            9 => "table entry not zero",
+            10 => "tag number out of range",
+            11 => "tag leads to no live object",
+            12 => "move leaves slot, frame or 48 bits",
+            13 => "bytes not all inside the body",
+            14 => "width outside 1 to 8",
+            15 => "address is not the base",
+            16 => "value too large for the width",
+            20 => "no zero byte up to the body's end",
+            21 => "table entry does not hold its header",
+            22 => "free total below 0 or above L - 16",
+            23 => "log has no space for the next record",
+            24 => "bad type descriptor",
+            25 => "object not described",
+            26 => "sizes or slot exponent out of range",
+            27 => "budget of orders is 0",
+            28 => "more than 65,536 sizes",
+            29 => "size outside 1 to 65,536",
+            _ => "no reason known",
+        }
+    }
 }
 
-// A number.
-pub fn decimal(out: Stdout, n: u64) {
-    let _ = out.print(n);
+impl From<Refusal> for Refused {
+    fn from(refusal: Refusal) -> Refused {
+        Refused(refusal.number())
+    }
 }
 
-// A signed number.
-fn signed(out: Stdout, n: i64) {
-    let _ = out.print(n);
+impl Display for Refused {
+    fn fmt<W: fmt::Write>(&self, f: &mut fmt::Formatter<W>) -> fmt::Result {
+        let reason = self.reason();
+        write!(f, "refused {}: {reason}", self.0)
+    }
+}
+
+// That a call is accepted which has no value to give: it is 0.
+#[derive(PartialEq, Drop)]
+pub struct Done(pub u64);
+
+impl Display for Done {
+    fn fmt<W: fmt::Write>(&self, f: &mut fmt::Formatter<W>) -> fmt::Result {
+        write!(f, "accepted")
+    }
 }
 
 // A pointer, or the bytes of a load, in 16 digits.
-fn hex(out: Stdout, n: u64) {
-    let _ = print!(out; "0x{n:016x}");
-}
+#[derive(PartialEq, Drop)]
+pub struct Bytes(pub u64);
 
-// A heading.
-pub fn heading(out: Stdout, t: &[u8]) {
-    text(out, b"\n");
-    text(out, t);
-    text(out, b"\n");
-}
-
-// The label of the call with this number, 0 the first.
-pub fn label(out: Stdout, call: u64) {
-    text(out, b"  ");
-    if call < 230 {
-        let at = 32 * call as usize;
-        let end = at + 32;
-        text(out, &LABELS[at..end]);
+impl Display for Bytes {
+    fn fmt<W: fmt::Write>(&self, f: &mut fmt::Formatter<W>) -> fmt::Result {
+        write!(f, "0x{:016x}", self.0)
     }
 }
 
-// Why a call was declined, by its number; 17 to 19 are a call log's.
-const REASONS: [u8; 1080] = *b"no reason known                     \
-slot exponent outside 6 to 15       \
-image length outside 64 to 2^30     \
-table too short to set up           \
-superblock not as laid out          \
-table shorter than the used entries \
-length 0                            \
-walk meets an unsound header        \
-no free block fits                  \
-table entry not zero                \
-tag number out of range             \
-tag leads to no live object         \
-move leaves slot, frame or 48 bits  \
-bytes not all inside the body       \
-width outside 1 to 8                \
-address is not the base             \
-value too large for the width       \
-no reason known                     \
-no reason known                     \
-no reason known                     \
-no zero byte up to the body's end   \
-table entry does not hold its header\
-free total below 0 or above L - 16  \
-log has no space for the next record\
-bad type descriptor                 \
-object not described                \
-sizes or slot exponent out of range \
-budget of orders is 0               \
-more than 65,536 sizes              \
-size outside 1 to 65,536            ";
+// What a type check says: 1 is yes.
+#[derive(PartialEq, Drop)]
+pub struct Verdict(pub u64);
 
-// Text without the blanks at its end.
-fn trimmed(out: Stdout, t: &[u8]) {
-    let mut n = t.len();
-    while 0 < n {
-        if t[n - 1] != b' ' {
-            break;
+impl Display for Verdict {
+    fn fmt<W: fmt::Write>(&self, f: &mut fmt::Formatter<W>) -> fmt::Result {
+        f.write_str(if self.0 == 1 { "yes" } else { "no" })
+    }
+}
+
+// How the left bytes stand to the right ones.
+#[derive(PartialEq, Drop)]
+pub struct Side(pub Ordering);
+
+impl Display for Side {
+    fn fmt<W: fmt::Write>(&self, f: &mut fmt::Formatter<W>) -> fmt::Result {
+        f.write_str(match self.0 {
+            Ordering::Less => "-1: the left is below",
+            Ordering::Equal => "0: none differs",
+            Ordering::Greater => "1: the left is above",
+        })
+    }
+}
+
+// The bytes from a body's start, and those to its end.
+#[derive(PartialEq, Drop)]
+pub struct Distances(pub i64, pub i64);
+
+impl Display for Distances {
+    fn fmt<W: fmt::Write>(&self, f: &mut fmt::Formatter<W>) -> fmt::Result {
+        write!(f, "{} from the start, {} to the end", self.0, self.1)
+    }
+}
+
+// A tally: live objects and their bytes, free bytes, and overhead.
+#[derive(PartialEq, Drop)]
+pub struct Counts(pub u64, pub u64, pub u64, pub u64);
+
+impl Display for Counts {
+    fn fmt<W: fmt::Write>(&self, f: &mut fmt::Formatter<W>) -> fmt::Result {
+        let Counts(objects, live, free, overhead) = self;
+        write!(
+            f,
+            "live objects {objects}, live bytes {live}, free bytes {free}, overhead bytes {overhead}"
+        )
+    }
+}
+
+// The generator's state after the last recorded draw, and the bytes of log: all draws are recorded, or the log is full.
+#[derive(PartialEq, Drop)]
+pub enum Drawn {
+    All(u64, u64),
+    LogFull(u64, u64),
+}
+
+impl Display for Drawn {
+    fn fmt<W: fmt::Write>(&self, f: &mut fmt::Formatter<W>) -> fmt::Result {
+        if let Drawn::LogFull(..) = self {
+            write!(f, "{}; ", Refused(23))?;
         }
-        n -= 1;
-    }
-    text(out, &t[..n]);
-}
-
-// A refusal.
-fn refused(out: Stdout, number: u32) {
-    text(out, b"refused ");
-    decimal(out, number as u64);
-    text(out, b": ");
-    if number < 30 {
-        let at = 36 * number as usize;
-        let end = at + 36;
-        trimmed(out, &REASONS[at..end]);
+        let (Drawn::All(state, written) | Drawn::LogFull(state, written)) = self;
+        write!(f, "state {}, bytes of log {written}", Bytes(*state))
     }
 }
 
-// The answer of a compare.
-pub fn order(out: Stdout, c: Comparison) {
-    let number = c.returned();
-    if number != 0 {
-        refused(out, number);
-    } else if c.value() < 0 {
-        text(out, b"-1: the left is below");
-    } else if c.value() == 0 {
-        text(out, b"0: none differs");
-    } else {
-        text(out, b"1: the left is above");
-    }
+// The first best order of so many objects, its large-framed objects, the orders tried, and the floor. Unused places are 0.
+#[derive(PartialEq, Drop)]
+pub struct Order {
+    pub places: [u64; 8],
+    pub count: usize,
+    pub large: u64,
+    pub tried: u64,
+    pub floor: u64,
 }
 
-// The answer of distances.
-pub fn ends(out: Stdout, m: Measurement) {
-    match m {
-        Measurement::Distances(from_start, to_end) => {
-            signed(out, from_start);
-            text(out, b" from the start, ");
-            signed(out, to_end);
-            text(out, b" to the end");
+impl Order {
+    // An order of these places, at most eight.
+    pub fn new(order: &[u64], large: u64, tried: u64, floor: u64) -> Order {
+        let mut places = [0; 8];
+        for (place, position) in places.iter_mut().zip(order) {
+            *place = *position;
         }
-        Measurement::Refused(r) => refused(out, r.number()),
-    }
-}
-
-// The state and the bytes of log that a load gives.
-fn given(out: Stdout, state: u64, written: u64) {
-    text(out, b"state ");
-    hex(out, state);
-    text(out, b", bytes of log ");
-    decimal(out, written);
-}
-
-// The answer of traffic.
-pub fn load(out: Stdout, t: Traffic) {
-    match t {
-        Traffic::Done(state, written) => given(out, state, written),
-        Traffic::LogFull(state, written) => {
-            refused(out, 23);
-            text(out, b"; ");
-            given(out, state, written);
-        }
-        Traffic::Refused(r) => refused(out, r.number()),
-    }
-}
-
-// The first so many places of an order.
-fn places(out: Stdout, order: [u64; 8], count: usize) {
-    let mut i = 0;
-    while i < 8 {
-        if i < count {
-            text(out, b" ");
-            decimal(out, order[i]);
-        }
-        i += 1;
-    }
-}
-
-// The answer of a search for an order of so many sizes.
-pub fn placed(out: Stdout, p: Placement, count: usize) {
-    if p.row != 0 {
-        refused(out, p.row);
-    } else {
-        let order = p.order;
-        text(out, b"order");
-        places(out, order, count);
-        text(out, b", large-framed ");
-        decimal(out, p.large);
-        text(out, b", tried ");
-        decimal(out, p.tried);
-        text(out, b", floor ");
-        decimal(out, p.floor);
-    }
-}
-
-// A fraction, as it is.
-fn over(out: Stdout, f: Fraction) {
-    decimal(out, f.extra);
-    text(out, b"/");
-    decimal(out, f.over);
-}
-
-// The answer of a report.
-pub fn reported(out: Stdout, r: Report) {
-    if r.row != 0 {
-        refused(out, r.row);
-    } else {
-        text(out, b"raw ");
-        decimal(out, r.raw);
-        text(out, b", headed ");
-        decimal(out, r.headed);
-        text(out, b", padded ");
-        decimal(out, r.padded);
-        text(out, b", end ");
-        decimal(out, r.end);
-        text(out, b", overheads ");
-        over(out, r.headers);
-        text(out, b" and ");
-        over(out, r.padding);
-    }
-}
-
-// The answer of a tally.
-pub fn usage(out: Stdout, u: Usage) {
-    match u {
-        Usage::Counts(objects, live, free, overhead) => {
-            text(out, b"live objects ");
-            decimal(out, objects);
-            text(out, b", live bytes ");
-            decimal(out, live);
-            text(out, b", free bytes ");
-            decimal(out, free);
-            text(out, b", overhead bytes ");
-            decimal(out, overhead);
-        }
-        Usage::Refused(r) => refused(out, r.number()),
-    }
-}
-
-// What a table entry holds.
-pub fn entry(out: Stdout, at: u64, value: u64) {
-    text(out, b"entry ");
-    decimal(out, at);
-    text(out, b" holds ");
-    decimal(out, value);
-}
-
-// The table entry of a large-framed pointer to the first two slots.
-fn framed(out: Stdout, flag: u64, tag: u64, table: &[u64]) {
-    if flag == 1 {
-        text(out, b"no table entry");
-    } else if tag >= 7 {
-        let at = (tag - 7) as usize;
-        if at < table.len() {
-            entry(out, tag - 7, table[at]);
+        Order {
+            places,
+            count: order.len(),
+            large,
+            tried,
+            floor,
         }
     }
 }
 
-// A pointer, its parts, and its table entry.
-fn parts(out: Stdout, pointer: u64, table: &[u64]) {
-    let flag = pointer >> 63;
-    let tag = (pointer >> 48) & 0x7fff;
-    text(out, b"pointer ");
-    hex(out, pointer);
-    text(out, b", flag ");
-    decimal(out, flag);
-    text(out, b", tag ");
-    decimal(out, tag);
-    text(out, b", body at ");
-    decimal(out, pointer & 0xffff_ffff_ffff);
-    text(out, b", ");
-    framed(out, flag, tag, table);
-}
-
-// How a value is shown: not at all, as bytes, as a number, as a pointer with its parts, as yes or no.
-pub const DONE: u32 = 0;
-
-pub const BYTES: u32 = 1;
-
-pub const NUMBER: u32 = 2;
-
-pub const PARTS: u32 = 3;
-
-pub const YES: u32 = 4;
-
-// Whether a type check says yes.
-fn yes(out: Stdout, v: u64) {
-    if v == 1 {
-        text(out, b"yes");
-    } else {
-        text(out, b"no");
+impl Display for Order {
+    fn fmt<W: fmt::Write>(&self, f: &mut fmt::Formatter<W>) -> fmt::Result {
+        write!(f, "order")?;
+        for place in self.places.iter().take(self.count) {
+            write!(f, " {place}")?;
+        }
+        let Order {
+            large,
+            tried,
+            floor,
+            ..
+        } = self;
+        write!(f, ", large-framed {large}, tried {tried}, floor {floor}")
     }
 }
 
-// An answer.
-pub fn answer(out: Stdout, a: Answer, form: u32, table: &[u64]) {
-    match a {
-        Answer::Refused(r) => refused(out, r.number()),
-        Answer::Accepted(v) => match form {
-            DONE => text(out, b"accepted"),
-            BYTES => hex(out, v),
-            NUMBER => decimal(out, v),
-            YES => yes(out, v),
-            _ => parts(out, v, table),
-        },
+// Extra bytes over raw bytes, left unreduced.
+#[derive(PartialEq, Drop)]
+pub struct Fraction(pub u64, pub u64);
+
+impl Display for Fraction {
+    fn fmt<W: fmt::Write>(&self, f: &mut fmt::Formatter<W>) -> fmt::Result {
+        write!(f, "{}/{}", self.0, self.1)
+    }
+}
+
+// Sums over a list of sizes, in bytes: raw, with headers, padded, and the end that padded blocks reach; the overheads of headers and of padding.
+#[derive(PartialEq, Drop)]
+pub struct Overheads {
+    pub raw: u64,
+    pub headed: u64,
+    pub padded: u64,
+    pub end: u64,
+    pub headers: Fraction,
+    pub padding: Fraction,
+}
+
+impl Display for Overheads {
+    fn fmt<W: fmt::Write>(&self, f: &mut fmt::Formatter<W>) -> fmt::Result {
+        let Overheads {
+            raw,
+            headed,
+            padded,
+            end,
+            headers,
+            padding,
+        } = self;
+        write!(
+            f,
+            "raw {raw}, headed {headed}, padded {padded}, end {end}, "
+        )?;
+        write!(f, "overheads {headers} and {padding}")
+    }
+}
+
+// A table entry, by its number.
+#[derive(Drop)]
+pub struct Entry<'a> {
+    pub table: &'a [u64],
+    pub at: usize,
+}
+
+impl Display for Entry<'_> {
+    fn fmt<W: fmt::Write>(&self, f: &mut fmt::Formatter<W>) -> fmt::Result {
+        match self.table.get(self.at) {
+            Some(value) => write!(f, "entry {} holds {value}", self.at),
+            None => write!(f, "no table entry"),
+        }
+    }
+}
+
+// A pointer to the first two slots in its parts, with its entry in this table.
+#[derive(PartialEq, Drop)]
+pub struct Parts<'a> {
+    pub pointer: u64,
+    pub table: &'a [u64],
+}
+
+impl Display for Parts<'_> {
+    fn fmt<W: fmt::Write>(&self, f: &mut fmt::Formatter<W>) -> fmt::Result {
+        let flag = self.pointer >> 63;
+        let tag = (self.pointer >> 48) & 0x7fff;
+        let body = self.pointer & 0xffff_ffff_ffff;
+        write!(f, "pointer {}, ", Bytes(self.pointer))?;
+        write!(f, "flag {flag}, tag {tag}, body at {body}, ")?;
+        if flag == 1 || tag < 7 {
+            return write!(f, "no table entry");
+        }
+        let entry = Entry {
+            table: self.table,
+            at: (tag - 7) as usize,
+        };
+        write!(f, "{entry}")
     }
 }

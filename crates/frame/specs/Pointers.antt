@@ -1,9 +1,7 @@
 -- Tagged pointers: document 01, "Frame arithmetic" and the move of "Calls", after document 003, section 3.2. Assumes nothing.
-use Rattle.std.specs.Prelude.{ℕ, ◌+◌, ◌*◌, ◌/◌, ◌%◌, ◌^◌, ◌<◌, Bool, true, false, cond, ◌&&◌, leb, ltb, eqb, ℤ, pos, negsuc, ◌+ℤ◌}
+use Rattle.std.specs.Prelude.{ℕ, ◌+◌, ◌*◌, ◌/◌, ◌%◌, ◌^◌, ◌<◌, Bool, true, false, cond, ◌&&◌, leb, ltb, eqb, ℤ, pos, negsuc, ◌+ℤ◌, None, Option, Some}
 use Rattle.frame.specs.Frame.{same_frame}
 use Rattle.frame.specs.declared.parts.Pointer.{Pointer}
-use Rattle.frame.specs.declared.parts.Moved.{Moved}
-use Rattle.frame.specs.declared.parts.Moved.TheVariants.{To, Outside}
 
 -- the flag as a bit: 1 for a small-framed object, 0 for a large-framed one
 abbrev pub bit : Bool → ℕ
@@ -36,10 +34,10 @@ abbrev pub at : Pointer → ℕ → Pointer
 at p a = record { flag = p.flag; tag = p.tag; address = a }
 
 -- the pointer at the address that a move comes to: one of 48 bits, in the same frame of 2^n bytes
-unfoldable pub landed : Pointer → ℕ → ℤ → Moved
-landed p n (pos a) = cond (ltb a (2 ^ 48) && same_frame n a p.address) (To (at p a)) Outside
-landed p n (negsuc a) = Outside
+unfoldable pub landed : Pointer → ℕ → ℤ → Option Pointer
+landed p n (pos a) = cond (ltb a (2 ^ 48) && same_frame n a p.address) (Some (at p a)) None
+landed p n (negsuc a) = None
 
 -- the pointer moved by the distance d
-unfoldable pub moved : Pointer → ℕ → ℤ → Moved
+unfoldable pub moved : Pointer → ℕ → ℤ → Option Pointer
 moved p n d = landed p n (pos p.address +ℤ d)

@@ -6,5 +6,5 @@ mod parts;
 mod tag;
 
 pub use number::{frame_number, frame_start, same_frame};
-pub use parts::{Moved, Pointer, Reach};
+pub use parts::Pointer;
 pub use tag::{Tagged, entry_index, tag_object, used_entries};

@@ -12,20 +12,6 @@ pub struct Pointer {
     pub address: u64,
 }
 
-// Where a move leads.
-#[derive(Clone, Copy)]
-pub enum Moved {
-    To(Pointer),
-    Outside,
-}
-
-// The exponent of the slot or frame that a pointer may move in, where its tag number is in range.
-#[derive(Clone, Copy)]
-pub enum Reach {
-    Within(u32),
-    BadTag,
-}
-
 impl Pointer {
     // The parts of a 64-bit pointer.
     pub fn unpack(word: u64) -> Self
@@ -73,48 +59,44 @@ impl Pointer {
         self.tag <= 31
     }
 
-    // The slot or frame that the pointer may move in, for the slot exponent s.
-    pub fn reach(self, s: u32) -> Reach
+    // The exponent of the slot or frame that the pointer may move in, for the slot exponent s; none where the tag number is out of range.
+    pub fn reach(self, s: u32) -> Option<u32>
         requires { s < 16 }
         ensures { result ≡ reach_of s self }
     {
         if self.flag {
-            if !self.slot_tag_good(s) {
-                return Reach::BadTag;
-            }
-            return Reach::Within(s);
+            self.slot_tag_good(s).then_some(s)
+        } else if self.frame_tag_good(s) {
+            Some(self.tag as u32)
+        } else {
+            None
         }
-        if !self.frame_tag_good(s) {
-            return Reach::BadTag;
-        }
-        Reach::Within(self.tag as u32)
     }
 
-    // The pointer moved by a signed distance, inside its frame of 2^n bytes.
-    pub fn moved(self, n: u32, distance: i64) -> Moved
+    // The pointer moved by a signed distance; none where that leaves its frame of 2^n bytes.
+    pub fn moved(self, n: u32, distance: i64) -> Option<Pointer>
         requires { (InRange self) × (n < 64) }
         ensures { result ≡ moved self n distance }
     {
         let from = self.address;
         if distance > 0xffff_ffff_ffff {
-            return Moved::Outside;
+            return None;
         }
         let sum = from as i64 + distance;
         if sum < 0 {
-            return Moved::Outside;
+            return None;
         }
         let to = sum as u64;
         if to > 0xffff_ffff_ffff {
-            return Moved::Outside;
+            return None;
         }
         if to >> n == from >> n {
-            Moved::To(Pointer {
-                flag: self.flag,
-                tag: self.tag,
+            Some(Pointer {
                 address: to,
+                ..self
             })
         } else {
-            Moved::Outside
+            None
         }
     }
 }

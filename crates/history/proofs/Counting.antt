@@ -1,4 +1,5 @@
 -- What a count of the blocks finds on an image with a layout. Assumes nothing.
+use Rattle.std.specs.Prelude.{Some}
 use Prim.Native.Nat.{ℕ, ◌+◌}
 use mathlib.Core.Path.{◌≡◌, refl, sym, ap, ◌∙◌}
 use mathlib.Core.List.{List}
@@ -8,7 +9,6 @@ use Rattle.block.specs.Walk.{ended, walk_from, no_counts, with_live, with_free, 
 use Rattle.block.specs.laws.Walks.{walk_begins, walk_ended}
 use Rattle.block.specs.laws.Counting.{same-counts, count_is}
 use Rattle.block.specs.declared.walk.Counts.{Counts}
-use Rattle.block.specs.declared.walk.Counted.TheVariants as counted
 use Rattle.history.proofs.Gaps.{extent, headed, Layout, last, item, counts, Placed}
 use Rattle.history.proofs.Looks.{gap}
 use Rattle.history.proofs.Rendered.{Part, part_next}
@@ -39,7 +39,7 @@ count_from image h (item g b l) a p =
     ∙ ap ended (same-counts (omega arith) (omega arith) (omega arith) (omega arith))
 
 -- a count of an image gives the counts of its layout
-pub count_layout : (image : List ℕ) (l : Layout) → Placed image l → count_blocks image ≡ counted.Counts (counts l)
+pub count_layout : (image : List ℕ) (l : Layout) → Placed image l → count_blocks image ≡ Some (counts l)
 count_layout image l p =
     count_is image (counts l)
     (sym (walk_begins counting image no_counts)

@@ -1,11 +1,11 @@
 -- A new block in a gap that has room for it, and what first fit finds.
 -- In order: the layout with the new block; its bytes; the carved image; first fit. Assumes nothing.
+use Rattle.std.specs.Prelude.{None, Some}
 use Prim.Native.Nat.{ℕ, ◌+◌, ◌-◌, ◌^◌, ◌≤◌, ◌<◌}
 use mathlib.Core.Path.{◌≡◌, refl, sym, ap, ◌∙◌}
 use mathlib.Core.Bool.{cond}
 use mathlib.Core.List.{List, ◌++◌, append_assoc}
 use mathlib.Core.Logic.{⊎_elim, inl, inr}
-use mathlib.Core.Option.{none, some}
 use native.Mathlib.Omega.{arith}
 use native.Mathlib.Nat.{add-zero}
 use lib.ListN.{length, take, length-append, length-replicate, take-append-drop, replicate-append-replicate}
@@ -162,7 +162,7 @@ module _ (image : List ℕ) (l : Layout) (k : ℕ) (m : Layout) (f : Focus image
   carve_taken =
       omega (arith, f.free_bytes_lem (placed_in n type cue m), regap-gaps (left n (gap m)) m, over-left n (gap m) le, taken_is)
 
-  pub carve_looks : (j : ℕ) → lookup k (placed_in n type cue m) j ≡ cond (eqb j k) (some (new n type cue (gap m))) (lookup k m j)
+  pub carve_looks : (j : ℕ) → lookup k (placed_in n type cue m) j ≡ cond (eqb j k) (Some (new n type cue (gap m))) (lookup k m j)
   unfolding lookup
   carve_looks j =
       rw (
@@ -171,7 +171,7 @@ module _ (image : List ℕ) (l : Layout) (k : ℕ) (m : Layout) (f : Focus image
       )
 
   -- no block stood at that place
-  pub carve_vacant : block_at l k ≡ none
+  pub carve_vacant : block_at l k ≡ None
   carve_vacant = f.looked k (omega arith) ∙ look_before k m k (omega arith)
 
   -- the gap is clear of every block

@@ -1,10 +1,10 @@
 -- A place of a layout in its image: a gap's start, seen with the layout from there on.
 -- In order: the walk past a gap and a block; the view itself, the whole, the next one, another rest; what stands at a place. Assumes nothing.
+use Rattle.std.specs.Prelude.{Option, Some}
 use Prim.Native.Nat.{ℕ, zero, suc, ◌+◌, ◌≤◌, ◌<◌}
 use mathlib.Core.Path.{◌≡◌, refl, sym, ap, ◌∙◌, subst}
 use mathlib.Core.Bool.{true, false, cond, ◌&&◌, and-false}
 use mathlib.Core.List.{List, ◌++◌}
-use mathlib.Core.Option.{Option, some}
 use native.Mathlib.Omega.{arith}
 use native.Mathlib.Nat.{add-zero}
 use lib.ListN.{length, take, drop, length-append}
@@ -80,7 +80,7 @@ pub record Focus (image : List ℕ) (l : Layout) (k : ℕ) (m : Layout) : Type 0
   pub looks : (n : Layout) (t : ℕ) (x : Option Block) → k ≤ t → ((j : ℕ) → lookup k n j ≡ cond (eqb j t) x (lookup k m j))
       → (j : ℕ) → block_at (fill n) j ≡ cond (eqb j t) x (block_at l j)
   pub looked : (j : ℕ) → k ≤ j → block_at l j ≡ lookup k m j
-  pub earlier : (j : ℕ) (c : Block) → j < k → block_at l j ≡ some c → j + extent c ≤ k
+  pub earlier : (j : ℕ) (c : Block) → j < k → block_at l j ≡ Some c → j + extent c ≤ k
 
 -- the whole
 pub focus_whole : (image : List ℕ) (l : Layout) → Placed image l → Focus image l 16 l
@@ -155,7 +155,7 @@ pub data Found (image : List ℕ) (l : Layout) (b : Block) : ℕ → Type 0 wher
   found : (k g : ℕ) (m : Layout) → Focus image l k (item g b m) → Found image l b (k + g)
 
 -- by the layout from k on
-find-from : (image : List ℕ) (l : Layout) (k : ℕ) (m : Layout) (h : ℕ) (b : Block) → Focus image l k m → lookup k m h ≡ some b → Found image l b h
+find-from : (image : List ℕ) (l : Layout) (k : ℕ) (m : Layout) (h : ℕ) (b : Block) → Focus image l k m → lookup k m h ≡ Some b → Found image l b h
 unfolding lookup
 find-from image l k (last g) h b f e = absurd (clash b e)
 find-from image l k (item g a m) h b f e =
@@ -165,7 +165,7 @@ find-from image l k (item g a m) h b f e =
     (λ p. find-from image l (k + g + extent a) m h b (focus_next image l k g a m f) (rw p at e))
 
 -- every block of the layout comes into view
-pub find : (image : List ℕ) (l : Layout) (h : ℕ) (b : Block) → Placed image l → block_at l h ≡ some b → Found image l b h
+pub find : (image : List ℕ) (l : Layout) (h : ℕ) (b : Block) → Placed image l → block_at l h ≡ Some b → Found image l b h
 find image l h b p e = find-from image l 16 l h b (focus_whole image l p) e
 
 -- what stands at a place of the walk

@@ -1,9 +1,10 @@
 -- A block of the layout is freed: its gap, its own bytes and the next gap become one gap. Assumes nothing.
+use Rattle.store.specs.Calls.{merge_of}
+use Rattle.std.specs.Prelude.{Some, None}
 use Prim.Native.Nat.{ℕ, zero, suc, ◌+◌, ◌-◌, ◌≤◌}
 use mathlib.Core.Path.{◌≡◌, refl, sym, ap, ◌∙◌}
 use mathlib.Core.Bool.{Bool, true, false, cond, ◌||◌}
 use mathlib.Core.List.{List, ◌++◌}
-use mathlib.Core.Option.{none}
 use native.Mathlib.Omega.{arith}
 use lib.ListN.{length, take, drop}
 use lib.Dec.{leb, eqb}
@@ -13,10 +14,8 @@ use Rattle.block.specs.Layout.{free_header, sound, is_free, extent_at}
 use Rattle.block.specs.Walk.{stopped, walk, reaching, walk_to}
 use Rattle.block.specs.laws.Walks.{walk_stopped}
 use Rattle.block.specs.laws.WalkTo.{walk_to_stopped}
-use Rattle.block.specs.declared.walk.Met.TheVariants as met
 use Rattle.store.specs.Calls.{released, merge_start, merge_end, merged}
 use Rattle.store.specs.laws.Free.{merge_start_here, merge_start-free, merge_end_last, merge_end-free, merge_end_live, released_merges, merged_parts}
-use Rattle.store.specs.declared.release.Release.TheVariants as release
 use Rattle.history.proofs.Gaps.{Block, extent, Layout, last, item, zeros, render, gaps, lookup, Remade}
 use Rattle.history.proofs.Looks.{gap, regap, gap_ok, gap_le, regap_ok, regap-size, regap-gaps, look_regap, look_before}
 use Rattle.history.proofs.Rendered.{Part, part_after, part_next, gap_some, gap-free, gap-extent, render-regap, block_sound, block_not_free, block_extent}
@@ -59,7 +58,7 @@ module _ (image : List ℕ) (l : Layout) (k g : ℕ) (b : Block) (m : Layout) (f
       ∙ walk_stopped (reaching (k + g)) image crossed.latest (k + g) (block_sound image k g b m f.part) (le-leb (k + g) (k + g) (omega arith))
 
   -- and so meets it
-  meets : walk_to image (k + g) ≡ met.After crossed.latest
+  meets : walk_to image (k + g) ≡ Some crossed.latest
   meets = walk_to_stopped image (k + g) crossed.latest walked
 
   -- the merging starts with the block's gap
@@ -79,7 +78,7 @@ module _ (image : List ℕ) (l : Layout) (k g : ℕ) (b : Block) (m : Layout) (f
 
   -- what free answers, what it leaves, and which blocks are left
 
-  pub free_merges : released image (k + g) (walk_to image (k + g)) ≡ release.Merges (k + g) k (k + joined)
+  pub free_merges : released image (k + g) (walk_to image (k + g)) ≡ merge_of (k + g) k (k + joined)
   free_merges =
       let n : Focus image l (k + g + extent b) m = focus_next image l k g b m f in
       let e : k + g + extent b + gap m ≡ k + joined = omega arith in
@@ -108,7 +107,7 @@ module _ (image : List ℕ) (l : Layout) (k g : ℕ) (b : Block) (m : Layout) (f
   pub free-given : gaps (f.fill (regap joined m)) ≡ gaps l + extent_at image (k + g)
   free-given = omega (arith, f.free_bytes_lem (regap joined m), regap-gaps joined m, block_extent image k g b m f.part)
 
-  pub free_looks : (j : ℕ) → lookup k (regap joined m) j ≡ cond (eqb j (k + g)) none (lookup k (item g b m) j)
+  pub free_looks : (j : ℕ) → lookup k (regap joined m) j ≡ cond (eqb j (k + g)) None (lookup k (item g b m) j)
   unfolding lookup
   free_looks j =
       rw (look_regap (k + g + extent b) k joined m j (omega arith))

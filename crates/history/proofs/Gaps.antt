@@ -1,10 +1,10 @@
 -- The layout of an image's blocks: gaps and live blocks, in the order of their places. Assumes nothing.
+use Rattle.std.specs.Prelude.{Option, None, Some}
 use Prim.Native.Nat.{ℕ, zero, suc, ◌+◌, ◌-◌, ◌^◌, ◌≤◌, ◌<◌}
 use mathlib.Core.Path.{◌≡◌}
 use mathlib.Core.Bool.{cond}
 use mathlib.Core.List.{List, [], ◌++◌}
 use mathlib.Core.Logic.{◌⊎◌}
-use mathlib.Core.Option.{Option, none, some}
 use lib.ListN.{length, take, drop, replicate}
 use lib.Dec.{eqb}
 use Rattle.block.specs.Bytes.{put}
@@ -92,8 +92,8 @@ Ok (item g b l) = GapOk g × BlockOk b × Ok l
 
 -- the live block at place k of a layout that starts at h
 unfoldable pub lookup : ℕ → Layout → ℕ → Option Block
-lookup h (last g) k = none
-lookup h (item g b l) k = cond (eqb k (h + g)) (some b) (lookup (h + g + extent b) l k)
+lookup h (last g) k = None
+lookup h (item g b l) k = cond (eqb k (h + g)) (Some b) (lookup (h + g + extent b) l k)
 
 -- the live block at place k of an image
 abbrev pub block_at : Layout → ℕ → Option Block
@@ -116,7 +116,7 @@ pub record Remade (image after : List ℕ) (next : Layout) : Type 0 where
 pub record Clear (image : List ℕ) (l : Layout) (a n : ℕ) : Type 0 where
   pub low : 16 ≤ a
   pub high : a + n ≤ length image
-  pub apart : (h : ℕ) (b : Block) → block_at l h ≡ some b → (h + extent b ≤ a) ⊎ (a + n ≤ h)
+  pub apart : (h : ℕ) (b : Block) → block_at l h ≡ Some b → (h + extent b ≤ a) ⊎ (a + n ≤ h)
 
 -- the block with bytes of its body replaced
 abbrev pub patched : Block → ℕ → List ℕ → Block

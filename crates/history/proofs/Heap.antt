@@ -1,13 +1,13 @@
 -- Laws of the abstract heap, by header places.
 -- In order: the object at a place; owners; one object more, changed, less; the objects that pass a test; how many there are. Not here: image and table.
 -- Assumes nothing.
+use Rattle.std.specs.Prelude.{Option, None, Some}
 use Prim.Native.Nat.{ℕ, zero, suc, ◌<◌}
 use mathlib.Core.Path.{◌≡◌, refl, sym, ap, ◌∙◌}
 use mathlib.Core.Bool.{Bool, true, false, cond}
 use mathlib.Core.List.Memᴰ
 use mathlib.Core.List.{[], ◌∷◌, ◌++◌}
 use mathlib.Core.Logic.{⊎_elim}
-use mathlib.Core.Option.{Option, none, some}
 use native.Mathlib.Omega.{arith}
 use lib.ListN.{length, get_or}
 use lib.Dec.{eqb}
@@ -20,22 +20,22 @@ use Rattle.history.proofs.Looks.{two_tests}
 
 -- the first object with its header at k
 unfoldable pub find : Heap → ℕ → Option Object
-find [] k = none
-find (o ∷ os) k = cond (eqb k (header_of o)) (some o) (find os k)
+find [] k = None
+find (o ∷ os) k = cond (eqb k (header_of o)) (Some o) (find os k)
 
 -- no two objects have one header place
 abbrev pub Distinct : Heap → Type 0
 Distinct [] = Unit {0}
-Distinct (o ∷ os) = (find os (header_of o) ≡ none) × Distinct os
+Distinct (o ∷ os) = (find os (header_of o) ≡ None) × Distinct os
 
 -- nothing is found and not found
-pub none_some : {r : Option Object} {o : Object} → r ≡ none → r ≡ some o → ⊥
+pub none_some : {r : Option Object} {o : Object} → r ≡ None → r ≡ Some o → ⊥
 none_some e f = let z : ◌≡◌ {A = ℕ} 0 1 = cc in omega arith
 
-pub some_same : {r : Option Object} {o o' : Object} → r ≡ some o → r ≡ some o' → o ≡ o'
+pub some_same : {r : Option Object} {o o' : Object} → r ≡ Some o → r ≡ Some o' → o ≡ o'
 some_same e f = cc
 
-pub find_here : (o : Object) (os : Heap) (k : ℕ) → k ≡ header_of o → find (o ∷ os) k ≡ some o
+pub find_here : (o : Object) (os : Heap) (k : ℕ) → k ≡ header_of o → find (o ∷ os) k ≡ Some o
 unfolding find
 find_here o os k e = rw (eq-eqb k (header_of o) e)
 
@@ -44,14 +44,14 @@ unfolding find
 find_there o os k n = rw (ne_eqb k (header_of o) n)
 
 -- what stands behind a first object is what stands elsewhere in the whole list
-pub find_rest : (o : Object) (os : Heap) (k : ℕ) → Distinct (o ∷ os) → find os k ≡ cond (eqb k (header_of o)) none (find (o ∷ os) k)
+pub find_rest : (o : Object) (os : Heap) (k : ℕ) → Distinct (o ∷ os) → find os k ≡ cond (eqb k (header_of o)) None (find (o ∷ os) k)
 find_rest o os k d =
     by_bool (eqb k (header_of o))
     (λ t. rw t (ap (find os) (eqb-true k (header_of o) t) ∙ d.0))
     (λ t. rw t (sym (find_there o os k (eqb-false k (header_of o) t))))
 
 -- what is found has its header there
-pub find-place : (heap : Heap) (k : ℕ) (o : Object) → find heap k ≡ some o → header_of o ≡ k
+pub find-place : (heap : Heap) (k : ℕ) (o : Object) → find heap k ≡ Some o → header_of o ≡ k
 unfolding find
 find-place [] k o e = absurd (let z : ◌≡◌ {A = ℕ} 0 1 = cc in omega arith)
 find-place (x ∷ xs) k o e =
@@ -60,7 +60,7 @@ find-place (x ∷ xs) k o e =
     (λ t. find-place xs k o (rw t at e))
 
 -- and lives
-pub find_in : (heap : Heap) (k : ℕ) (o : Object) → find heap k ≡ some o → In o heap
+pub find_in : (heap : Heap) (k : ℕ) (o : Object) → find heap k ≡ Some o → In o heap
 unfolding find
 find_in [] k o e = absurd (let z : ◌≡◌ {A = ℕ} 0 1 = cc in omega arith)
 find_in (x ∷ xs) k o e =
@@ -69,11 +69,11 @@ find_in (x ∷ xs) k o e =
     (λ t. Memᴰ.tail (find_in xs k o (rw t at e)))
 
 -- an object found behind a first one is found all the same
-pub found-behind : (x : Object) (xs : Heap) (k : ℕ) (o : Object) → find xs (header_of x) ≡ none → find xs k ≡ some o → find (x ∷ xs) k ≡ some o
+pub found-behind : (x : Object) (xs : Heap) (k : ℕ) (o : Object) → find xs (header_of x) ≡ None → find xs k ≡ Some o → find (x ∷ xs) k ≡ Some o
 found-behind x xs k o d e = find_there x xs k (λ t. none_some d (ap (find xs) (sym t) ∙ e)) ∙ e
 
 -- a live object is found at its header place
-pub in_find : (heap : Heap) (o : Object) → Distinct heap → In o heap → find heap (header_of o) ≡ some o
+pub in_find : (heap : Heap) (o : Object) → Distinct heap → In o heap → find heap (header_of o) ≡ Some o
 in_find [] o d m = absurd (Memᴰ.not-nil m)
 in_find (x ∷ xs) o d m =
     ⊎_elim
@@ -118,7 +118,7 @@ places_apart heap c = pairwise _ heap (go heap c)
 
 -- so what holds of any two live objects with two header places holds of any two places of the list
 pub two_places : (heap : Heap) (P : Object → Object → Type 0) → Distinct heap
-    → ((o o' : Object) → find heap (header_of o) ≡ some o → find heap (header_of o') ≡ some o' → (header_of o ≡ header_of o' → ⊥) → P o o') → Pairwise heap P
+    → ((o o' : Object) → find heap (header_of o) ≡ Some o → find heap (header_of o') ≡ Some o' → (header_of o ≡ header_of o' → ⊥) → P o o') → Pairwise heap P
 two_places heap P c f i j d l u =
     f (get_or heap i d) (get_or heap j d) (in_find heap (get_or heap i d) c (get_or_in heap i d (omega arith)))
     (in_find heap (get_or heap j d) c (get_or_in heap j d u)) (places_apart heap c i j d l u)
@@ -127,10 +127,10 @@ two_places heap P c f i j d l u =
 
 -- a pointer's owner is live and holds it
 pub record Owned (heap : Heap) (p : ℕ) (o : Object) : Type 0 where
-  pub found : find heap (header_of o) ≡ some o
+  pub found : find heap (header_of o) ≡ Some o
   pub mine : holds o p ≡ true
 
-pub owned : (heap : Heap) (p : ℕ) (o : Object) → Distinct heap → owner_of heap p ≡ some o → Owned heap p o
+pub owned : (heap : Heap) (p : ℕ) (o : Object) → Distinct heap → owner_of heap p ≡ Some o → Owned heap p o
 unfolding owner_of
 owned [] p o d e = absurd (let z : ◌≡◌ {A = ℕ} 0 1 = cc in omega arith)
 owned (x ∷ xs) p o d e =
@@ -140,7 +140,7 @@ owned (x ∷ xs) p o d e =
     record { found = found-behind x xs (header_of o) o d.0 i.found; mine = i.mine })
 
 -- a known pointer has an owner
-pub known_owner : (heap : Heap) (p : ℕ) → known heap p ≡ true → (o : Object) × (owner_of heap p ≡ some o)
+pub known_owner : (heap : Heap) (p : ℕ) → known heap p ≡ true → (o : Object) × (owner_of heap p ≡ Some o)
 unfolding known owner_of
 known_owner [] p e = absurd (let z : ◌≡◌ {A = ℕ} 0 1 = cc in omega arith)
 known_owner (x ∷ xs) p e =
@@ -155,16 +155,16 @@ again : {A : Type 0} (b : Bool) (x y z : A) → cond b x z ≡ cond b x (cond b 
 again true x y z = refl
 again false x y z = refl
 
-pub find-append : (heap : Heap) (o : Object) (k : ℕ) → find heap (header_of o) ≡ none → find (heap ++ (o ∷ [])) k ≡ cond (eqb k (header_of o)) (some o) (find heap k)
+pub find-append : (heap : Heap) (o : Object) (k : ℕ) → find heap (header_of o) ≡ None → find (heap ++ (o ∷ [])) k ≡ cond (eqb k (header_of o)) (Some o) (find heap k)
 unfolding find
 find-append [] o k e = refl
 find-append (x ∷ xs) o k e =
     by_bool (eqb (header_of o) (header_of x))
     (λ t. absurd (none_some {o = x} e (rw t)))
     (λ t. rw (find-append xs o k (rw t at e))
-    (two_tests k (header_of x) (header_of o) (some x) (some o) (find xs k) (λ u. eqb-false (header_of o) (header_of x) t (sym u))))
+    (two_tests k (header_of x) (header_of o) (Some x) (Some o) (find xs k) (λ u. eqb-false (header_of o) (header_of x) t (sym u))))
 
-pub distinct_append : (heap : Heap) (o : Object) → Distinct heap → find heap (header_of o) ≡ none → Distinct (heap ++ (o ∷ []))
+pub distinct_append : (heap : Heap) (o : Object) → Distinct heap → find heap (header_of o) ≡ None → Distinct (heap ++ (o ∷ []))
 unfolding find
 distinct_append [] o d e = (refl, tt)
 distinct_append (x ∷ xs) o d e =
@@ -179,7 +179,7 @@ distinct_append (x ∷ xs) o d e =
 -- One object changed, at its header place.
 
 module _ (f : Object → Object) (same : (o : Object) → header_of (f o) ≡ header_of o) where
-  change_none : (heap : Heap) (p k : ℕ) → find heap k ≡ none → find (change f heap p) k ≡ none
+  change_none : (heap : Heap) (p k : ℕ) → find heap k ≡ None → find (change f heap p) k ≡ None
   unfolding find change
   change_none [] p k e = refl
   change_none (x ∷ xs) p k e =
@@ -195,20 +195,20 @@ module _ (f : Object → Object) (same : (o : Object) → header_of (f o) ≡ he
       (λ u. rw u (rw (same x) d.0, d.1))
       (λ u. rw u (change_none xs p (header_of x) d.0, distinct_change xs p d.1))
 
-  pub find-change : (heap : Heap) (p : ℕ) (o : Object) (k : ℕ) → Distinct heap → owner_of heap p ≡ some o
-      → find (change f heap p) k ≡ cond (eqb k (header_of o)) (some (f o)) (find heap k)
+  pub find-change : (heap : Heap) (p : ℕ) (o : Object) (k : ℕ) → Distinct heap → owner_of heap p ≡ Some o
+      → find (change f heap p) k ≡ cond (eqb k (header_of o)) (Some (f o)) (find heap k)
   unfolding find change owner_of
   find-change [] p o k d e = absurd (let z : ◌≡◌ {A = ℕ} 0 1 = cc in omega arith)
   find-change (x ∷ xs) p o k d e =
       by_bool (holds x p)
-      (λ u. let w : x ≡ o = cc in rw (u, same x, ← w) (again (eqb k (header_of x)) (some (f x)) (some x) (find xs k)))
-      (λ u. let e' : owner_of xs p ≡ some o = rw u at e in
+      (λ u. let w : x ≡ o = cc in rw (u, same x, ← w) (again (eqb k (header_of x)) (Some (f x)) (Some x) (find xs k)))
+      (λ u. let e' : owner_of xs p ≡ Some o = rw u at e in
       rw (u, find-change xs p o k d.1 e')
-      (two_tests k (header_of x) (header_of o) (some x) (some (f o)) (find xs k)
+      (two_tests k (header_of x) (header_of o) (Some x) (Some (f o)) (find xs k)
       (λ w. none_some d.0 (ap (find xs) w ∙ (owned xs p o d.1 e').found))))
 
 -- nobody's pointer changes nothing
-pub change_nobody : (f : Object → Object) (heap : Heap) (p : ℕ) → owner_of heap p ≡ none → change f heap p ≡ heap
+pub change_nobody : (f : Object → Object) (heap : Heap) (p : ℕ) → owner_of heap p ≡ None → change f heap p ≡ heap
 unfolding change owner_of
 change_nobody f [] p e = refl
 change_nobody f (x ∷ xs) p e =
@@ -218,8 +218,8 @@ change_nobody f (x ∷ xs) p e =
 
 -- One object less.
 
-pub find-without : (heap : Heap) (o : Object) (k : ℕ) → Distinct heap → find heap (header_of o) ≡ some o
-    → find (without heap o.answer) k ≡ cond (eqb k (header_of o)) none (find heap k)
+pub find-without : (heap : Heap) (o : Object) (k : ℕ) → Distinct heap → find heap (header_of o) ≡ Some o
+    → find (without heap o.answer) k ≡ cond (eqb k (header_of o)) None (find heap k)
 unfolding find without
 find-without [] o k d e = absurd (let z : ◌≡◌ {A = ℕ} 0 1 = cc in omega arith)
 find-without (x ∷ xs) o k d e =
@@ -231,9 +231,9 @@ find-without (x ∷ xs) o k d e =
     (λ t. by_bool (eqb (header_of o) (header_of x))
     (λ u. let w : x ≡ o = cc in absurd (eqb-false x.answer o.answer t (ap (λ (z : Object). z.answer) w)))
     (λ u. rw (t, find-without xs o k d.1 (rw u at e))
-    (two_tests k (header_of x) (header_of o) (some x) none (find xs k) (λ w. eqb-false (header_of o) (header_of x) u (sym w)))))
+    (two_tests k (header_of x) (header_of o) (Some x) None (find xs k) (λ w. eqb-false (header_of o) (header_of x) u (sym w)))))
 
-without_none : (heap : Heap) (p k : ℕ) → find heap k ≡ none → find (without heap p) k ≡ none
+without_none : (heap : Heap) (p k : ℕ) → find heap k ≡ None → find (without heap p) k ≡ None
 unfolding find without
 without_none [] p k e = refl
 without_none (x ∷ xs) p k e =
@@ -261,10 +261,10 @@ without_nobody (x ∷ xs) p n =
 
 -- whether an object that was found is one of them
 abbrev pub passes : (Object → Bool) → Option Object → Bool
-passes test none = false
-passes test (some o) = test o
+passes test None = false
+passes test (Some o) = test o
 
-find-passing : (test : Object → Bool) (heap : Heap) (k : ℕ) → Distinct heap → find (passing test heap) k ≡ cond (passes test (find heap k)) (find heap k) none
+find-passing : (test : Object → Bool) (heap : Heap) (k : ℕ) → Distinct heap → find (passing test heap) k ≡ cond (passes test (find heap k)) (find heap k) None
 unfolding find passing
 find-passing test [] k d = refl
 find-passing test (x ∷ xs) k d =
@@ -276,8 +276,8 @@ find-passing test (x ∷ xs) k d =
 
 -- the same, for what was found
 pub found-passing : (test : Object → Bool) (heap : Heap) (k : ℕ) (r : Option Object) → Distinct heap → find heap k ≡ r
-    → find (passing test heap) k ≡ cond (passes test r) r none
-found-passing test heap k r d e = find-passing test heap k d ∙ ap (λ (q : Option Object). cond (passes test q) q none) e
+    → find (passing test heap) k ≡ cond (passes test r) r None
+found-passing test heap k r d e = find-passing test heap k d ∙ ap (λ (q : Option Object). cond (passes test q) q None) e
 
 pub distinct_passing : (test : Object → Bool) (heap : Heap) → Distinct heap → Distinct (passing test heap)
 unfolding passing
@@ -302,7 +302,7 @@ passing-within test wider (x ∷ xs) e =
 -- Two lists of the same objects are of one length.
 
 -- one object less
-length_without : (heap : Heap) (o : Object) → find heap (header_of o) ≡ some o → length heap ≡ suc (length (without heap o.answer))
+length_without : (heap : Heap) (o : Object) → find heap (header_of o) ≡ Some o → length heap ≡ suc (length (without heap o.answer))
 unfolding find without
 length_without [] o e = absurd (none_some {o = o} refl e)
 length_without (x ∷ xs) o e =
@@ -317,8 +317,8 @@ unfolding find
 same_count [] [] d d' e = refl
 same_count [] (x ∷ xs) d d' e = absurd (none_some {o = x} refl (e (header_of x) ∙ find_here x xs (header_of x) refl))
 same_count (o ∷ os) new d d' e =
-    let there : find new (header_of o) ≡ some o = sym (e (header_of o)) ∙ find_here o os (header_of o) refl in
+    let there : find new (header_of o) ≡ Some o = sym (e (header_of o)) ∙ find_here o os (header_of o) refl in
     let rest : (k : ℕ) → find os k ≡ find (without new o.answer) k =
-    λ k. find_rest o os k d ∙ ap (λ (r : Option Object). cond (eqb k (header_of o)) none r) (e k) ∙ sym (find-without new o k d' there)
+    λ k. find_rest o os k d ∙ ap (λ (r : Option Object). cond (eqb k (header_of o)) None r) (e k) ∙ sym (find-without new o k d' there)
     in
     ap suc (same_count os (without new o.answer) d.1 (distinct_without new o.answer d') rest) ∙ sym (length_without new o there)

@@ -1,9 +1,10 @@
 -- What the definitions over bytes come to on an image with a layout. Assumes nothing.
+use Rattle.store.specs.Calls.{merge_of}
+use Rattle.std.specs.Prelude.{Some, Err, None}
 use Prim.Native.Nat.{ℕ, ◌+◌, ◌-◌, ◌^◌, ◌≤◌, ◌<◌}
 use mathlib.Core.Path.{◌≡◌, refl}
 use mathlib.Core.Bool.{true, false, cond}
 use mathlib.Core.List.{List}
-use mathlib.Core.Option.{none, some}
 use native.Mathlib.Omega.{arith}
 use lib.ListN.{length, take, drop, replicate, get_or}
 use lib.Dec.{eqb}
@@ -11,10 +12,8 @@ use Rattle.block.specs.Bytes.{put}
 use Rattle.block.specs.Layout.{header_at, sound, is_free, is_live, extent_at, size_at}
 use Rattle.block.specs.Walk.{first_fit, walk_to, count_blocks, OnWalk}
 use Rattle.block.specs.declared.walk.Fit.TheVariants as fit
-use Rattle.block.specs.declared.walk.Counted.TheVariants as counted
 use Rattle.store.specs.Calls.{fresh, taken_extent, carved, released, merged}
 use Rattle.store.specs.declared.answer.Refusal.TheVariants.{Unsound}
-use Rattle.store.specs.declared.release.Release.TheVariants as release
 use Rattle.history.proofs.Gaps.{Block, extent, headed, Layout, last, item, gaps, block_at, BlockOk, counts, Placed, Remade, Clear, patched}
 use Rattle.history.proofs.Looks.{gap, regap, gaps_le, look_apart, look_swap}
 use Rattle.history.proofs.Rendered.{block_header, block_sound}
@@ -34,7 +33,7 @@ pub record LiveAt (image : List ℕ) (h : ℕ) (b : Block) : Type 0 where
   pub high : h + extent b ≤ length image
   pub okay : BlockOk b
 
-pub live_at : (image : List ℕ) (l : Layout) (h : ℕ) (b : Block) → Placed image l → block_at l h ≡ some b → LiveAt image h b
+pub live_at : (image : List ℕ) (l : Layout) (h : ℕ) (b : Block) → Placed image l → block_at l h ≡ Some b → LiveAt image h b
 live_at image l h b p e = go h (find image l h b p e)
   where
     go : (h : ℕ) → Found image l b h → LiveAt image h b
@@ -48,11 +47,11 @@ live_at image l h b p e = go h (find image l h b p e)
         }
 
 -- two live blocks do not overlap
-pub apart : (l : Layout) (h k : ℕ) (b c : Block) → block_at l h ≡ some b → block_at l k ≡ some c → h < k → h + extent b ≤ k
+pub apart : (l : Layout) (h k : ℕ) (b c : Block) → block_at l h ≡ Some b → block_at l k ≡ Some c → h < k → h + extent b ≤ k
 apart l h k b c e f lt = look_apart 16 l h k b c e f lt
 
 -- a read gives bytes of the body
-pub read_body : (image : List ℕ) (l : Layout) (h : ℕ) (b : Block) → Placed image l → block_at l h ≡ some b
+pub read_body : (image : List ℕ) (l : Layout) (h : ℕ) (b : Block) → Placed image l → block_at l h ≡ Some b
     → (i n : ℕ) → i + n ≤ length b.body → take n (drop (h + 16 + i) image) ≡ take n (drop i b.body)
 read_body image l h b p e i n f = go h (find image l h b p e)
   where
@@ -64,9 +63,9 @@ pub record Rewritten (image : List ℕ) (l : Layout) (h : ℕ) (b after : Block)
   pub next : Layout
   pub remade : Remade image image' next
   pub same_gaps : gaps next ≡ gaps l
-  pub looks : (k : ℕ) → block_at next k ≡ cond (eqb k h) (some after) (block_at l k)
+  pub looks : (k : ℕ) → block_at next k ≡ cond (eqb k h) (Some after) (block_at l k)
 
-pub write_body : (image : List ℕ) (l : Layout) (h : ℕ) (b : Block) → Placed image l → block_at l h ≡ some b
+pub write_body : (image : List ℕ) (l : Layout) (h : ℕ) (b : Block) → Placed image l → block_at l h ≡ Some b
     → (i : ℕ) (bytes : List ℕ) → i + length bytes ≤ length b.body → Rewritten image l h b (patched b i bytes) (put image (h + 16 + i) bytes)
 write_body image l h b p e i bytes f = go h (find image l h b p e)
   where
@@ -76,7 +75,7 @@ write_body image l h b p e i bytes f = go h (find image l h b p e)
           next = r.fill (item g (patched b i bytes) m);
           remade = write_remade image l k g b m r i bytes f;
           same_gaps = omega (arith, r.free_bytes_lem (item g (patched b i bytes) m));
-          looks = r.looks (item g (patched b i bytes) m) (k + g) (some (patched b i bytes)) (omega arith)
+          looks = r.looks (item g (patched b i bytes) m) (k + g) (Some (patched b i bytes)) (omega arith)
               (look_swap k g b (patched b i bytes) m (omega (arith, patched-length b i bytes f)));
         }
 
@@ -84,14 +83,14 @@ write_body image l h b p e i bytes f = go h (find image l h b p e)
 pub record Carved (image : List ℕ) (l : Layout) (n type cue h : ℕ) : Type 0 where
   pub found : first_fit image (16 + n) ≡ fit.At h
   pub clear : Clear image l h (16 + n)
-  pub vacant : block_at l h ≡ none
+  pub vacant : block_at l h ≡ None
   pub block : Block
   pub zeroed : block.body ≡ replicate n 0
   pub for_cue : block.cue ≡ cue
   pub next : Layout
   pub remade : Remade image (carved image h n type cue) next
   pub taken : gaps next + taken_extent image h n ≡ gaps l
-  pub looks : (k : ℕ) → block_at next k ≡ cond (eqb k h) (some block) (block_at l k)
+  pub looks : (k : ℕ) → block_at next k ≡ cond (eqb k h) (Some block) (block_at l k)
 
 pub data Fitted (image : List ℕ) (l : Layout) (n type cue : ℕ) : Type 0 where
   room : (h : ℕ) → Carved image l n type cue h → Fitted image l n type cue
@@ -115,7 +114,7 @@ fitted image l p n type cue fits cue_fits = go (first_fit_lem image l p (16 + n)
           next = f.fill (placed_in n type cue m);
           remade = carve_remade image l h m f n type cue r.room fits cue_fits;
           taken = carve_taken image l h m f n type cue r.room;
-          looks = f.looks (placed_in n type cue m) h (some (new n type cue (gap m))) (omega arith) (carve_looks image l h m f n type cue r.room);
+          looks = f.looks (placed_in n type cue m) h (Some (new n type cue (gap m))) (omega arith) (carve_looks image l h m f n type cue r.room);
         })
     go (nowhere e c) = full e c
 
@@ -123,13 +122,13 @@ fitted image l p n type cue fits cue_fits = go (first_fit_lem image l p (16 + n)
 pub record Freed (image : List ℕ) (l : Layout) (h : ℕ) (b : Block) : Type 0 where
   pub from : ℕ
   pub to : ℕ
-  pub merges : released image h (walk_to image h) ≡ release.Merges h from to
+  pub merges : released image h (walk_to image h) ≡ merge_of h from to
   pub next : Layout
   pub remade : Remade image (merged image from to) next
   pub given : gaps next ≡ gaps l + extent_at image h
-  pub looks : (k : ℕ) → block_at next k ≡ cond (eqb k h) none (block_at l k)
+  pub looks : (k : ℕ) → block_at next k ≡ cond (eqb k h) None (block_at l k)
 
-pub freed : (image : List ℕ) (l : Layout) (h : ℕ) (b : Block) → Placed image l → block_at l h ≡ some b → Freed image l h b
+pub freed : (image : List ℕ) (l : Layout) (h : ℕ) (b : Block) → Placed image l → block_at l h ≡ Some b → Freed image l h b
 freed image l h b p e = go h (find image l h b p e)
   where
     go : (h : ℕ) → Found image l b h → Freed image l h b
@@ -141,12 +140,12 @@ freed image l h b p e = go h (find image l h b p e)
           next = f.fill (regap (joined image l k g b m f) m);
           remade = free_remade image l k g b m f;
           given = free-given image l k g b m f;
-          looks = f.looks (regap (joined image l k g b m f) m) (k + g) none (omega arith) (free_looks image l k g b m f);
+          looks = f.looks (regap (joined image l k g b m f) m) (k + g) None (omega arith) (free_looks image l k g b m f);
         }
 
 -- a free of any other place where a live header stands, as one forged inside a body: the walk does not meet it
-pub not-freed : (image : List ℕ) (l : Layout) (h : ℕ) → Placed image l → block_at l h ≡ none → is_live image h ≡ true → sound image h ≡ true
-    → released image h (walk_to image h) ≡ release.Refused Unsound
+pub not-freed : (image : List ℕ) (l : Layout) (h : ℕ) → Placed image l → block_at l h ≡ None → is_live image h ≡ true → sound image h ≡ true
+    → released image h (walk_to image h) ≡ Err Unsound
 not-freed image l h p e live so = not_met image l p h e live (walk_to image h) refl
 
 -- a fresh image is one gap
@@ -154,7 +153,7 @@ pub placed-fresh : (s L : ℕ) → 64 ≤ L → L ≤ 2 ^ 30 → Placed (fresh s
 placed-fresh s L low high = fresh-placed s L low high
 
 -- a count of the blocks gives the layout's counts
-pub counted_as : (image : List ℕ) (l : Layout) → Placed image l → count_blocks image ≡ counted.Counts (counts l)
+pub counted_as : (image : List ℕ) (l : Layout) → Placed image l → count_blocks image ≡ Some (counts l)
 counted_as image l p = count_layout image l p
 
 -- the gaps lie behind the superblock

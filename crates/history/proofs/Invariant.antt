@@ -1,11 +1,12 @@
 -- What holds of image, table and abstract heap between any two calls of a list.
 -- In order: the invariant; a live object in the image; what decides the image; what pointers lead to; another list of the objects; set-up. Not here: that each
 -- call keeps it (`Steps`). Assumes nothing.
+use Rattle.store.specs.State.{measured_as}
+use Rattle.std.specs.Prelude.{Ok, Option, None, Some}
 use Prim.Native.Nat.{ℕ, ◌+◌, ◌-◌, ◌^◌, ◌≤◌}
 use mathlib.Core.Path.{◌≡◌, refl, sym, ap, ◌∙◌, subst}
 use mathlib.Core.Bool.{Bool, true, false, cond}
 use mathlib.Core.List.{List, [], ◌++◌}
-use mathlib.Core.Option.{Option, none, some}
 use native.Mathlib.Omega.{arith}
 use lib.IntN.{sub_ℕ}
 use lib.ListN.{length, take, drop, replicate, take-append-drop, length-append, length-drop, length-replicate, get_or-replicate, get_or-append}
@@ -25,9 +26,7 @@ use Rattle.store.specs.laws.Opening.{opening-passes}
 use Rattle.store.specs.laws.TagReading.{Stands, Located, located_object, located_leads, located-at}
 use Rattle.store.specs.laws.Access.{accessed-at}
 use Rattle.store.specs.laws.Distances.{distances-located}
-use Rattle.store.specs.declared.answer.Answer.TheVariants.{Accepted}
 use Rattle.store.specs.declared.answer.Refusal.TheVariants.{OutOfBounds}
-use Rattle.store.specs.declared.measuring.Measurement.TheVariants.{Distances}
 use Rattle.history.specs.Heap.{Object, Heap, start, holds, owner_of, inside}
 use Rattle.history.specs.History.{header_of}
 use Rattle.history.proofs.Gaps.{Block, extent, Layout, last, render, size, gaps, lookup, block_at, Placed, Remade}
@@ -54,12 +53,12 @@ pub data Content : Type 0 where
   content : (cue : ℕ) (bytes : List ℕ) → Content
 
 abbrev pub block_content : Option Block → Option Content
-block_content none = none
-block_content (some b) = some (content b.cue b.body)
+block_content None = None
+block_content (Some b) = Some (content b.cue b.body)
 
 abbrev pub object_content : Option Object → Option Content
-object_content none = none
-object_content (some o) = some (content o.cue o.bytes)
+object_content None = None
+object_content (Some o) = Some (content o.cue o.bytes)
 
 -- an image of L bytes: a superblock, with the layout's gaps as its free total, and the layout
 pub record Formatted (s L : ℕ) (image : List ℕ) (next : Layout) : Type 0 where
@@ -75,7 +74,7 @@ pub record Laid (s L : ℕ) (image : List ℕ) (heap : Heap) : Type 0 where
   pub front : take 16 image ≡ superblock s L (gaps layout)
   pub placed : Placed image layout
   pub agree : (k : ℕ) → block_content (block_at layout k) ≡ object_content (find heap k)
-  pub fine : (k : ℕ) (o : Object) → find heap k ≡ some o → Fine s k o
+  pub fine : (k : ℕ) (o : Object) → find heap k ≡ Some o → Fine s k o
   pub distinct : Distinct heap
 
 -- and the table has its large-framed ones
@@ -88,7 +87,7 @@ pub record Invariant (s L : ℕ) (x : State) (heap : Heap) : Type 0 where
 -- its block there, its size, cue and extent, and that it lies in the image
 pub record Known (s L : ℕ) (image : List ℕ) (heap : Heap) (i : Laid s L image heap) (k : ℕ) (o : Object) : Type 0 where
   pub block : Block
-  pub there : block_at i.layout k ≡ some block
+  pub there : block_at i.layout k ≡ Some block
   pub body : block.body ≡ o.bytes
   pub cue : block.cue ≡ o.cue
   pub live : LiveAt image k block
@@ -101,12 +100,12 @@ pub record Known (s L : ℕ) (image : List ℕ) (heap : Heap) (i : Laid s L imag
   pub begins : start o ≡ k + 16
 
 module _ {s L : ℕ} {image : List ℕ} {heap : Heap} (i : Laid s L image heap) where
-  pub known : (k : ℕ) (o : Object) → find heap k ≡ some o → Known s L image heap i k o
+  pub known : (k : ℕ) (o : Object) → find heap k ≡ Some o → Known s L image heap i k o
   known k o e = go (block_at i.layout k) refl
     where
       go : (r : Option Block) → block_at i.layout k ≡ r → Known s L image heap i k o
-      go none f = let z : ◌≡◌ {A = ℕ} 0 1 = cc (i.agree k) in absurd (omega arith)
-      go (some b) f =
+      go None f = let z : ◌≡◌ {A = ℕ} 0 1 = cc (i.agree k) in absurd (omega arith)
+      go (Some b) f =
           let body : b.body ≡ o.bytes = cc (i.agree k) in
           let cue : b.cue ≡ o.cue = cc (i.agree k) in
           let live : LiveAt image k b = live_at image i.layout k b i.placed f in
@@ -129,20 +128,20 @@ module _ {s L : ℕ} {image : List ℕ} {heap : Heap} (i : Laid s L image heap) 
           }
 
   -- a live block of the layout is an object
-  pub object_of : (k : ℕ) (b : Block) → block_at i.layout k ≡ some b → (o : Object) × (find heap k ≡ some o) × (o.cue ≡ b.cue) × (o.bytes ≡ b.body)
+  pub object_of : (k : ℕ) (b : Block) → block_at i.layout k ≡ Some b → (o : Object) × (find heap k ≡ Some o) × (o.cue ≡ b.cue) × (o.bytes ≡ b.body)
   object_of k b e = go (find heap k) refl
     where
-      go : (r : Option Object) → find heap k ≡ r → (o : Object) × (find heap k ≡ some o) × (o.cue ≡ b.cue) × (o.bytes ≡ b.body)
-      go none f = let z : ◌≡◌ {A = ℕ} 0 1 = cc (i.agree k) in absurd (omega arith)
-      go (some o) f = (o, f, cc (i.agree k), cc (i.agree k))
+      go : (r : Option Object) → find heap k ≡ r → (o : Object) × (find heap k ≡ Some o) × (o.cue ≡ b.cue) × (o.bytes ≡ b.body)
+      go None f = let z : ◌≡◌ {A = ℕ} 0 1 = cc (i.agree k) in absurd (omega arith)
+      go (Some o) f = (o, f, cc (i.agree k), cc (i.agree k))
 
   -- where no block stands, no object does
-  pub no_object : (k : ℕ) → block_at i.layout k ≡ none → find heap k ≡ none
+  pub no_object : (k : ℕ) → block_at i.layout k ≡ None → find heap k ≡ None
   no_object k e = go (find heap k) refl
     where
-      go : (r : Option Object) → find heap k ≡ r → find heap k ≡ none
-      go none f = f
-      go (some o) f = let z : ◌≡◌ {A = ℕ} 0 1 = cc (i.agree k) in absurd (omega arith)
+      go : (r : Option Object) → find heap k ≡ r → find heap k ≡ None
+      go None f = f
+      go (Some o) f = let z : ◌≡◌ {A = ℕ} 0 1 = cc (i.agree k) in absurd (omega arith)
 
   -- objects lie in the image, and apart
   pub ranged : Ranged L heap
@@ -205,7 +204,7 @@ module _ {s L : ℕ} {image : List ℕ} {heap : Heap} (i : Laid s L image heap) 
 
   -- for another heap
   unfoldable pub relaid : {image' : List ℕ} {next : Layout} (new : Heap) → Formatted s L image' next
-      → ((k : ℕ) → block_content (block_at next k) ≡ object_content (find new k)) → ((k : ℕ) (o : Object) → find new k ≡ some o → Fine s k o) → Distinct new
+      → ((k : ℕ) → block_content (block_at next k) ≡ object_content (find new k)) → ((k : ℕ) (o : Object) → find new k ≡ Some o → Fine s k o) → Distinct new
       → Laid s L image' new
   relaid {next = next} new m a f d =
       record {
@@ -240,20 +239,20 @@ same-image {s} {L} {image} {image'} {l} {l'} f f' looks =
 
 module _ {s L : ℕ} {x : State} {heap : Heap} (i : Invariant s L x heap) where
   -- rows 4 and 5 let every call pass
-  pub opens : opening x ≡ Accepted s
+  pub opens : opening x ≡ Ok s
   opens =
       let e : slot_exponent x.image ≡ s = exponent_is i.laid in
-      opening-passes x (superblock_is_good i.laid) (rw (e, i.laid.long) i.tabled.long) ∙ ap Accepted e
+      opening-passes x (superblock_is_good i.laid) (rw (e, i.laid.long) i.tabled.long) ∙ ap Ok e
 
   -- reading the pointer's tag finds the header at k
   pub record Leads (k p : ℕ) : Type 0 where
     pub tag : good_tag s (unpack p) ≡ true
     pub back : leads_back s (unpack p) x ≡ true
     pub place : header_place s (unpack p) x.table ≡ k
-    pub found : located s (unpack p) x ≡ Accepted k
+    pub found : located s (unpack p) x ≡ Ok k
 
   -- each pointer of a live object leads to its header
-  pub leads : (k : ℕ) (o : Object) (p : ℕ) → find heap k ≡ some o → PointerOf s k o.size p → Leads k p
+  pub leads : (k : ℕ) (o : Object) (p : ℕ) → find heap k ≡ Some o → PointerOf s k o.size p → Leads k p
   leads k o p e g =
       let n = known i.laid k o e in
       let stands : Stands s x k o.size =
@@ -271,29 +270,29 @@ module _ {s L : ℕ} {x : State} {heap : Heap} (i : Invariant s L x heap) where
       record { tag = l.good; back = located_leads s (unpack p) x k l; place = sym l.place; found = located-at s (unpack p) x k l }
 
   -- allocate's answer leads to its object
-  pub answer_leads : (k : ℕ) (o : Object) → find heap k ≡ some o → located s (unpack o.answer) x ≡ Accepted k
+  pub answer_leads : (k : ℕ) (o : Object) → find heap k ≡ Some o → located s (unpack o.answer) x ≡ Ok k
   answer_leads k o e =
       let n = known i.laid k o e in
       (leads k o o.answer e
       (rw (i.laid.fine k o e).answered (own_pointer s k o.size i.laid.shape.exponent_high n.fits))).found
 
   -- each pointer leads to its owner
-  pub owner_leads : (p : ℕ) (o : Object) → owner_of heap p ≡ some o → located s (unpack p) x ≡ Accepted (header_of o)
+  pub owner_leads : (p : ℕ) (o : Object) → owner_of heap p ≡ Some o → located s (unpack p) x ≡ Ok (header_of o)
   owner_leads p o e =
       let w : Owned heap p o = owned heap p o i.laid.distinct e in
       (leads (header_of o) o p w.found ((i.laid.fine (header_of o) o w.found).good p w.mine)).found
 
   -- n bytes through a pointer: refused exactly where they are not all inside its object
-  pub accesses : (p : ℕ) (o : Object) (n : ℕ) → owner_of heap p ≡ some o
-      → accessed s (unpack p) n x ≡ demand (inside o p n) OutOfBounds (Accepted (unpack p).address)
+  pub accesses : (p : ℕ) (o : Object) (n : ℕ) → owner_of heap p ≡ Some o
+      → accessed s (unpack p) n x ≡ demand (inside o p n) OutOfBounds (Ok (unpack p).address)
   unfolding inside
   accesses p o n e =
       let q = known i.laid (header_of o) o (owned heap p o i.laid.distinct e).found in
       accessed-at s (unpack p) n x (header_of o) (owner_leads p o e) ∙ rw (q.size, ← q.begins) refl
 
   -- the distances of a pointer are those from both ends of its object
-  pub measures : (p : ℕ) (o : Object) → owner_of heap p ≡ some o
-      → distances p x ≡ Distances (sub_ℕ (unpack p).address (start o)) (sub_ℕ (start o + o.size) (unpack p).address)
+  pub measures : (p : ℕ) (o : Object) → owner_of heap p ≡ Some o
+      → distances p x ≡ measured_as (sub_ℕ (unpack p).address (start o)) (sub_ℕ (start o + o.size) (unpack p).address)
   measures p o e =
       let q = known i.laid (header_of o) o (owned heap p o i.laid.distinct e).found in
       distances-located x s opens p (header_of o) (owner_leads p o e) ∙ rw (q.size, ← q.begins) refl

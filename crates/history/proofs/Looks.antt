@@ -1,8 +1,8 @@
 -- Layouts alone: the first gap, which block stands where, and that this and the size decide the layout. Assumes nothing.
+use Rattle.std.specs.Prelude.{Option, None, Some}
 use Prim.Native.Nat.{ℕ, zero, suc, ◌+◌, ◌≤◌, ◌<◌}
 use mathlib.Core.Path.{◌≡◌, refl, sym, ap, ◌∙◌}
 use mathlib.Core.Bool.{cond}
-use mathlib.Core.Option.{Option, none, some}
 use native.Mathlib.Omega.{arith}
 use lib.Dec.{eqb}
 use borrow.Author.Tests.{eq-eqb, ne_eqb, eqb-true, eqb-false}
@@ -56,11 +56,11 @@ gap_le (item g b l) = omega arith
 -- lookups
 
 -- no lookup both fails and succeeds
-pub clash : {A : Type 0} (x : A) → ◌≡◌ {A = Option A} none (some x) → ⊥
+pub clash : {A : Type 0} (x : A) → ◌≡◌ {A = Option A} None (Some x) → ⊥
 clash x e = let z : ◌≡◌ {A = ℕ} 0 1 = cc in omega arith
 
 -- behind the first gap stands the first block
-pub look_first : (h g : ℕ) (b : Block) (l : Layout) → lookup h (item g b l) (h + g) ≡ some b
+pub look_first : (h g : ℕ) (b : Block) (l : Layout) → lookup h (item g b l) (h + g) ≡ Some b
 unfolding lookup
 look_first h g b l = rw (eq-eqb (h + g) (h + g) refl)
 
@@ -80,7 +80,7 @@ pub record Inside (h : ℕ) (l : Layout) (k : ℕ) (b : Block) : Type 0 where
   pub from : h + gap l ≤ k
   pub upto : k + extent b ≤ h + size l
 
-pub look_inside : (h : ℕ) (l : Layout) (k : ℕ) (b : Block) → lookup h l k ≡ some b → Inside h l k b
+pub look_inside : (h : ℕ) (l : Layout) (k : ℕ) (b : Block) → lookup h l k ≡ Some b → Inside h l k b
 unfolding lookup
 look_inside h (last g) k b e = absurd (clash b e)
 look_inside h (item g a l) k b e =
@@ -93,15 +93,15 @@ look_inside h (item g a l) k b e =
     record { from = omega arith; upto = omega arith })
 
 -- nothing stands before the end of the first gap
-pub look_before : (h : ℕ) (l : Layout) (k : ℕ) → k < h + gap l → lookup h l k ≡ none
+pub look_before : (h : ℕ) (l : Layout) (k : ℕ) → k < h + gap l → lookup h l k ≡ None
 look_before h l k lt = go (lookup h l k) refl
   where
-    go : (r : Option Block) → lookup h l k ≡ r → r ≡ none
-    go none e = refl
-    go (some b) e = absurd (omega (arith, look_inside h l k b e))
+    go : (r : Option Block) → lookup h l k ≡ r → r ≡ None
+    go None e = refl
+    go (Some b) e = absurd (omega (arith, look_inside h l k b e))
 
 -- two blocks do not overlap
-pub look_apart : (h : ℕ) (l : Layout) (k j : ℕ) (b c : Block) → lookup h l k ≡ some b → lookup h l j ≡ some c → k < j → k + extent b ≤ j
+pub look_apart : (h : ℕ) (l : Layout) (k j : ℕ) (b c : Block) → lookup h l k ≡ Some b → lookup h l j ≡ Some c → k < j → k + extent b ≤ j
 unfolding lookup
 look_apart h (last g) k j b c e f lt = absurd (clash b e)
 look_apart h (item g a l) k j b c e f lt =
@@ -109,12 +109,12 @@ look_apart h (item g a l) k j b c e f lt =
     (λ p. let q : k ≡ h + g = eqb-true k (h + g) p in
     let r : extent a ≡ extent b = ap extent (let w : a ≡ b = cc in w) in
     omega (arith, look_inside (h + g + extent a) l j c (rw (ne_eqb j (h + g) (λ z. omega arith)) at f)))
-    (λ p. let e' : lookup (h + g + extent a) l k ≡ some b = rw p at e in
+    (λ p. let e' : lookup (h + g + extent a) l k ≡ Some b = rw p at e in
     let i : Inside (h + g + extent a) l k b = look_inside (h + g + extent a) l k b e' in
     look_apart (h + g + extent a) l k j b c e' (rw (ne_eqb j (h + g) (λ z. omega arith)) at f) lt)
 
 -- before the end of the first block stands that block alone
-pub look_early : (h g : ℕ) (b : Block) (l : Layout) (k : ℕ) (c : Block) → k < h + g + extent b → lookup h (item g b l) k ≡ some c → k + extent c ≤ h + g + extent b
+pub look_early : (h g : ℕ) (b : Block) (l : Layout) (k : ℕ) (c : Block) → k < h + g + extent b → lookup h (item g b l) k ≡ Some c → k + extent c ≤ h + g + extent b
 unfolding lookup
 look_early h g b l k c lt e =
     by_bool (eqb k (h + g))
@@ -133,11 +133,11 @@ pub look_under : (h g : ℕ) (b : Block) (l m : Layout) (t : ℕ) (x : Option Bl
     → ((k : ℕ) → lookup (h + g + extent b) m k ≡ cond (eqb k t) x (lookup (h + g + extent b) l k))
     → (k : ℕ) → lookup h (item g b m) k ≡ cond (eqb k t) x (lookup h (item g b l) k)
 unfolding lookup
-look_under h g b l m t x lt e k = rw (e k) (two_tests k (h + g) t (some b) x (lookup (h + g + extent b) l k) (λ q. omega arith))
+look_under h g b l m t x lt e k = rw (e k) (two_tests k (h + g) t (Some b) x (lookup (h + g + extent b) l k) (λ q. omega arith))
 
 -- another block of the same extent is seen in its place, and nowhere else
 pub look_swap : (h g : ℕ) (b c : Block) (l : Layout) → extent c ≡ extent b
-    → (k : ℕ) → lookup h (item g c l) k ≡ cond (eqb k (h + g)) (some c) (lookup h (item g b l) k)
+    → (k : ℕ) → lookup h (item g c l) k ≡ cond (eqb k (h + g)) (Some c) (lookup h (item g b l) k)
 unfolding lookup
 look_swap h g b c l e k = rw e (by_bool (eqb k (h + g)) (λ p. rw p) (λ p. rw p))
 
@@ -159,10 +159,10 @@ same_layout h (last g) (last f) z e = ap last z
 same_layout h (last g) (item f c m) z e = absurd (clash c (e (h + f) ∙ look_first h f c m))
 same_layout h (item g b l) (last f) z e = absurd (clash b (sym (e (h + g)) ∙ look_first h g b l))
 same_layout h (item g b l) (item f c m) z e =
-    let there : lookup h (item f c m) (h + g) ≡ some b = sym (e (h + g)) ∙ look_first h g b l in
-    let here : lookup h (item g b l) (h + f) ≡ some c = e (h + f) ∙ look_first h f c m in
+    let there : lookup h (item f c m) (h + g) ≡ Some b = sym (e (h + g)) ∙ look_first h g b l in
+    let here : lookup h (item g b l) (h + f) ≡ Some c = e (h + f) ∙ look_first h f c m in
     let p : g ≡ f = omega (arith, look_inside h (item f c m) (h + g) b there, look_inside h (item g b l) (h + f) c here) in
-    let both : ◌≡◌ {A = Option Block} (some b) (some c) = sym there ∙ ap (λ (n : ℕ). lookup h (item f c m) (h + n)) p ∙ look_first h f c m in
+    let both : ◌≡◌ {A = Option Block} (Some b) (Some c) = sym there ∙ ap (λ (n : ℕ). lookup h (item f c m) (h + n)) p ∙ look_first h f c m in
     let q : b ≡ c = cc in
     let x : extent b ≡ extent c = ap extent q in
     let r : l ≡ m =

@@ -1,11 +1,11 @@
 -- Frees and releases in either order, on an image and table with the invariant.
 -- In order: two live objects; an object and a list of others; two lists; two cues. Assumes nothing.
+use Rattle.std.specs.Prelude.{Ok, Option, None, Some}
 use Prim.Native.Nat.{ℕ}
 use mathlib.Core.Path.{◌≡◌, refl, sym, ap, ◌∙◌}
 use mathlib.Core.Bool.{not, cond}
 use mathlib.Core.List.Memᴰ
 use mathlib.Core.List.{[], ◌∷◌}
-use mathlib.Core.Option.{Option, none, some}
 use lib.ListN.{length}
 use lib.Dec.{eqb}
 use borrow.Author.Tests.{ne_eqb, eqb-true}
@@ -13,7 +13,6 @@ use Rattle.store.specs.State.{State, Outcome, returned}
 use Rattle.store.specs.Calls.{noted, free, free_each, release_cue}
 use Rattle.store.specs.laws.Entries.{noted_either}
 use Rattle.store.specs.laws.Release.{free_each_none, free_each_one}
-use Rattle.store.specs.declared.answer.Answer.TheVariants.{Accepted}
 use Rattle.history.specs.Heap.{Object, Heap, of_cue, without_cue}
 use Rattle.history.specs.History.{In, header_of}
 use Rattle.history.specs.Release.{answers}
@@ -26,8 +25,8 @@ use Rattle.history.proofs.Steps.{Emptied, free_live}
 use Rattle.history.proofs.Releases.{sorted_same, Live, first_lives, live_on, rest_live, mine, released, mine_found, mine_live, release_counts, release_left}
 
 -- Two live objects: the same blocks are left, so the image is; the same entries are cleared, so the table is.
-pub frees_commute : {s L : ℕ} {x : State} {heap : Heap} (i : Invariant s L x heap) (o o' : Object) → find heap (header_of o) ≡ some o
-    → find heap (header_of o') ≡ some o' → (header_of o ≡ header_of o' → ⊥) → Commute (free_of o) (free_of o') x
+pub frees_commute : {s L : ℕ} {x : State} {heap : Heap} (i : Invariant s L x heap) (o o' : Object) → find heap (header_of o) ≡ Some o
+    → find heap (header_of o') ≡ Some o' → (header_of o ≡ header_of o' → ⊥) → Commute (free_of o) (free_of o') x
 frees_commute {s} {L} {x} {heap} i o o' e e' n =
     let h : ℕ = header_of o in
     let h' : ℕ = header_of o' in
@@ -38,9 +37,9 @@ frees_commute {s} {L} {x} {heap} i o o' e e' n =
     let b-a = free_live b.left h o (b.finds h ∙ rw (ne_eqb h h' n) e) in
     let looks : (k : ℕ) → block_at a-b.left.laid.layout k ≡ block_at b-a.left.laid.layout k =
     λ k.
-    a-b.looks k ∙ ap (λ (r : Option Block). cond (eqb k h') none r) (a.looks k)
-    ∙ two_tests k h' h none none (block_at i.laid.layout k) n'
-    ∙ sym (b-a.looks k ∙ ap (λ (r : Option Block). cond (eqb k h) none r) (b.looks k))
+    a-b.looks k ∙ ap (λ (r : Option Block). cond (eqb k h') None r) (a.looks k)
+    ∙ two_tests k h' h None None (block_at i.laid.layout k) n'
+    ∙ sym (b-a.looks k ∙ ap (λ (r : Option Block). cond (eqb k h) None r) (b.looks k))
     in
     let table : (free o'.answer (free o.answer x).after).after.table ≡ (free o.answer (free o'.answer x).after).after.table =
     a-b.cleared ∙ ap (noted s h' o'.size 0) a.cleared
@@ -56,7 +55,7 @@ frees_commute {s} {L} {x} {heap} i o o' e e' n =
     }
 
 -- An object and a list of others: it is freed before them or behind them.
-one_past : {s L : ℕ} {x : State} {heap : Heap} (i : Invariant s L x heap) (o : Object) (os : Heap) → find heap (header_of o) ≡ some o → Live heap os
+one_past : {s L : ℕ} {x : State} {heap : Heap} (i : Invariant s L x heap) (o : Object) (os : Heap) → find heap (header_of o) ≡ Some o → Live heap os
     → Apart o os → free_each (answers os) (free o.answer x).after ≡ (free o.answer (free_each (answers os) x)).after
 unfolding answers
 one_past {x = x} i o [] e l n = free_each_none _ ∙ ap (λ (y : State). (free o.answer y).after) (sym (free_each_none x))
@@ -106,7 +105,7 @@ module _ {s L : ℕ} {x : State} {heap : Heap} (i : Invariant s L x heap) where
       released (release_left i c) d
       ∙ (λ k.
       record {
-        answer = (ap (λ (os : Heap). Accepted (length os)) (objects_stay c d n) ∙ sym (ap (λ (r : Outcome). r.answer) (released i d))) k;
+        answer = (ap (λ (os : Heap). Ok (length os)) (objects_stay c d n) ∙ sym (ap (λ (r : Outcome). r.answer) (released i d))) k;
         after = free_each (answers (objects_stay c d n k)) (released i c k).after;
       })
 

@@ -1,9 +1,9 @@
 -- What holds at every place that the walk over a layout's image comes to. Assumes nothing.
+use Rattle.std.specs.Prelude.{None, Option, Some, Err}
 use Prim.Native.Nat.{ℕ, ◌+◌, ◌-◌, ◌≤◌, ◌<◌}
 use mathlib.Core.Path.{◌≡◌, sym, ap, ◌∙◌}
 use mathlib.Core.Bool.{true, false}
 use mathlib.Core.List.{List, ◌++◌}
-use mathlib.Core.Option.{none}
 use native.Mathlib.Omega.{arith}
 use lib.ListN.{length, drop, get_or, length-replicate, get_or-replicate, get_or-append}
 use lib.Seq.{get_or-drop, drop-length}
@@ -13,12 +13,9 @@ use Rattle.block.specs.laws.Headers.{length-header}
 use Rattle.block.specs.laws.Soundness.{sound_in}
 use Rattle.block.specs.Walk.{walk_to}
 use Rattle.block.specs.laws.WalkTo.{MeetsBlock, walk_to_meets}
-use Rattle.block.specs.declared.walk.Met.{Met}
-use Rattle.block.specs.declared.walk.Met.TheVariants as met
 use Rattle.store.specs.Calls.{released}
 use Rattle.store.specs.laws.Free.{released_lost}
 use Rattle.store.specs.declared.answer.Refusal.TheVariants.{Unsound}
-use Rattle.store.specs.declared.release.Release.TheVariants as release
 use Rattle.history.proofs.Gaps.{Block, extent, Layout, last, item, zeros, render, block_at, Placed}
 use Rattle.history.proofs.Looks.{gap, look_first, clash}
 use Rattle.history.proofs.Rendered.{Part, after, step-drop, gap_cut, gap-not_live, gap-extent, block_not_free, block_extent, block_size}
@@ -79,15 +76,15 @@ module _ (image : List ℕ) (l : Layout) where
   standing_tail_zero _ the_end lt r i low high = absurd (omega arith)
 
   -- a live header on the walk is a block of the layout
-  pub standing_looked : (h : ℕ) → Standing image l h → block_at l h ≡ none → sound image h ≡ true → is_live image h ≡ true → ⊥
+  pub standing_looked : (h : ℕ) → Standing image l h → block_at l h ≡ None → sound image h ≡ true → is_live image h ≡ true → ⊥
   standing_looked _ (a_gap k m f wide) e o r = true_false r (gap-not_live image k m f.part wide)
   standing_looked _ (a_block k g b m f) e o r = clash b (sym e ∙ f.looked (k + g) (omega arith) ∙ look_first k g b m)
   standing_looked _ the_end e o r = omega (arith, sound_in image (length image) o)
 
   -- where the layout has no block, a live header is not met, and a free of it is refused
-  pub not_met : Placed image l → (h : ℕ) → block_at l h ≡ none → is_live image h ≡ true → (w : Met) → walk_to image h ≡ w
-      → released image h w ≡ release.Refused Unsound
-  not_met p h e r (met.After before) q =
+  pub not_met : Placed image l → (h : ℕ) → block_at l h ≡ None → is_live image h ≡ true → (w : Option ℕ) → walk_to image h ≡ w
+      → released image h w ≡ Err Unsound
+  not_met p h e r (Some before) q =
       let m : MeetsBlock image h before = walk_to_meets image h before q in
       absurd (standing_looked h (standing image l p h m.on_walk) e m.is_sound r)
-  not_met p h e r met.Lost q = released_lost image h
+  not_met p h e r None q = released_lost image h

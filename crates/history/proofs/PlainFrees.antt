@@ -1,7 +1,7 @@
 -- What a free does to a heap of plain objects (`specs/laws/Plain`). Assumes nothing.
 use Rattle.std.specs.Prelude.{ℕ, ◌+◌, ◌<◌, ◌≡◌, ◌++◌, length, take, drop, get_or}
 use Rattle.store.specs.Step.{frees}
-use Rattle.store.specs.declared.answer.Answer.{Answer}
+use Rattle.store.specs.State.{Answer}
 use Rattle.history.specs.Heap.{Heap, hear}
 use Rattle.history.specs.History.{Pairwise, header_of}
 use Rattle.history.specs.Release.{answers}

@@ -1,12 +1,12 @@
 -- A release on an image and table with the invariant.
 -- In order: lists in the order of addresses; the cue's objects, so ordered; freeing live objects singly; what a release comes to. Assumes nothing.
+use Rattle.std.specs.Prelude.{Ok, Option, None, Some}
 use Prim.Native.Nat.{ℕ, suc, ◌+◌, ◌≤◌, ◌<◌}
 use mathlib.Core.Path.{◌≡◌, refl, sym, ap, ◌∙◌, subst}
 use mathlib.Core.Bool.{Bool, true, not, cond}
 use mathlib.Core.List.Memᴰ
 use mathlib.Core.List.{List, [], ◌∷◌}
 use mathlib.Core.Logic.{◌↔◌, ⊎_elim}
-use mathlib.Core.Option.{Option, none, some}
 use native.Mathlib.Omega.{arith}
 use lib.ListN.{length}
 use lib.Dec.{eqb}
@@ -22,7 +22,6 @@ use Rattle.store.specs.Step.{releases}
 use Rattle.store.specs.Claims.{EachFreed, none_left, one_freed}
 use Rattle.store.specs.laws.Entries.{entry_holds_lem}
 use Rattle.store.specs.laws.Release.{all_held_none, all_held_one, extents_none, extents_one, pointers_to_none, pointers_to_one, free_each_none, free_each_one, release_is}
-use Rattle.store.specs.declared.answer.Answer.TheVariants.{Accepted}
 use Rattle.history.specs.Heap.{Object, Heap, without, of_cue, without_cue, hear}
 use Rattle.history.specs.History.{Configuration, In, header_of}
 use Rattle.history.specs.Release.{answers, FreedSingly}
@@ -43,12 +42,12 @@ sorted_distinct : (os : Heap) → Sorted os → Distinct os
 sorted_distinct [] c = tt
 sorted_distinct (o ∷ os) c = (go (find os (header_of o)) refl, sorted_distinct os c.1)
   where
-    go : (r : Option Object) → find os (header_of o) ≡ r → r ≡ none
-    go none e = refl
-    go (some o') e = absurd (omega (arith, c.0 o' (find_in os (header_of o) o' e), find-place os (header_of o) o' e))
+    go : (r : Option Object) → find os (header_of o) ≡ r → r ≡ None
+    go None e = refl
+    go (Some o') e = absurd (omega (arith, c.0 o' (find_in os (header_of o) o' e), find-place os (header_of o) o' e))
 
 -- the first is the lowest
-first_lowest : (o : Object) (os : Heap) → Sorted (o ∷ os) → (p : Object) → find (o ∷ os) (header_of p) ≡ some p → header_of o ≤ header_of p
+first_lowest : (o : Object) (os : Heap) → Sorted (o ∷ os) → (p : Object) → find (o ∷ os) (header_of p) ≡ Some p → header_of o ≤ header_of p
 first_lowest o os c p e =
     ⊎_elim
     (λ (q : p ≡ o). omega (arith, ap (λ (z : Object). header_of z) q))
@@ -62,14 +61,14 @@ sorted_same [] [] c d e = refl
 sorted_same [] (p ∷ ps) c d e = absurd (none_some {o = p} refl (e (header_of p) ∙ find_here p ps (header_of p) refl))
 sorted_same (o ∷ os) [] c d e = absurd (none_some {o = o} refl (sym (e (header_of o)) ∙ find_here o os (header_of o) refl))
 sorted_same (o ∷ os) (p ∷ ps) c d e =
-    let o-there : find (p ∷ ps) (header_of o) ≡ some o = sym (e (header_of o)) ∙ find_here o os (header_of o) refl in
-    let p-here : find (o ∷ os) (header_of p) ≡ some p = e (header_of p) ∙ find_here p ps (header_of p) refl in
+    let o-there : find (p ∷ ps) (header_of o) ≡ Some o = sym (e (header_of o)) ∙ find_here o os (header_of o) refl in
+    let p-here : find (o ∷ os) (header_of p) ≡ Some p = e (header_of p) ∙ find_here p ps (header_of p) refl in
     let place : header_of o ≡ header_of p = omega (arith, first_lowest o os c p p-here, first_lowest p ps d o o-there) in
     let first : o ≡ p = some_same o-there (find_here p ps (header_of o) place) in
     let rest : os ≡ ps =
     sorted_same os ps c.1 d.1
     (λ k.
-    find_rest o os k (sorted_distinct (o ∷ os) c) ∙ (λ i. cond (eqb k (header_of (first i))) none (e k i))
+    find_rest o os k (sorted_distinct (o ∷ os) c) ∙ (λ i. cond (eqb k (header_of (first i))) None (e k i))
     ∙ sym (find_rest p ps k (sorted_distinct (p ∷ ps) d)))
     in
     λ i. first i ∷ rest i
@@ -79,8 +78,8 @@ pub record Gathered (s cue : ℕ) (x : State) (heap : Heap) (h : ℕ) (l : Layou
   pub objects : Heap
   pub sorted : Sorted objects
   pub low : (o : Object) → In o objects → h ≤ header_of o
-  pub live : (o : Object) → In o objects → (find heap (header_of o) ≡ some o) × (o.cue ≡ cue)
-  pub all : (o : Object) → find heap (header_of o) ≡ some o → h ≤ header_of o → o.cue ≡ cue → In o objects
+  pub live : (o : Object) → In o objects → (find heap (header_of o) ≡ Some o) × (o.cue ≡ cue)
+  pub all : (o : Object) → find heap (header_of o) ≡ Some o → h ≤ header_of o → o.cue ≡ cue → In o objects
   pub pointers : pointers_to s x.image places ≡ answers objects
   pub count : length places ≡ length objects
   pub held : all_held s places x ≡ true
@@ -91,7 +90,7 @@ record Freed (s L : ℕ) (x : State) (heap os : Heap) : Type 0 where
   pub each : EachFreed (answers os) x
   pub new : Heap
   pub left : Invariant s L (free_each (answers os) x) new
-  pub gone : (o : Object) → In o os → find new (header_of o) ≡ none
+  pub gone : (o : Object) → In o os → find new (header_of o) ≡ None
   pub stays : (k : ℕ) → ((o : Object) → In o os → header_of o ≡ k → ⊥) → find new k ≡ find heap k
 
 -- an object in a list that has one more in front
@@ -100,11 +99,11 @@ in_cons {P} o os p q o' m = ⊎_elim (λ (e : o' ≡ o). subst P (sym e) p) (q o
 
 module _ {s L : ℕ} {x : State} {heap : Heap} (i : Invariant s L x heap) where
   -- row 21 of a live object is passed
-  entry_kept : (k : ℕ) (o : Object) → find heap k ≡ some o → entry_holds s k (size_at x.image k) k x.table ≡ true
+  entry_kept : (k : ℕ) (o : Object) → find heap k ≡ Some o → entry_holds s k (size_at x.image k) k x.table ≡ true
   entry_kept k o e = rw (known i.laid k o e).size (entry_holds_lem s k o.size k x.table (i.tabled.placed k o e))
 
   -- the pointer to it is allocate's answer
-  pointer_kept : (k : ℕ) (o : Object) → find heap k ≡ some o → pack (pointer_to s k (size_at x.image k)) ≡ o.answer
+  pointer_kept : (k : ℕ) (o : Object) → find heap k ≡ Some o → pack (pointer_to s k (size_at x.image k)) ≡ o.answer
   pointer_kept k o e = ap (λ (n : ℕ). pack (pointer_to s k n)) (known i.laid k o e).size ∙ sym (i.laid.fine k o e).answered
 
   -- the layout from h on
@@ -131,7 +130,7 @@ module _ {s L : ℕ} {x : State} {heap : Heap} (i : Invariant s L x heap) where
       let long : extent_at x.image k ≡ extent b =
       ap (λ (d : Header). d.extent) (live_at x.image i.laid.layout k b i.laid.placed (looked k (omega arith) ∙ look_first h g b l)).header
       in
-      let behind : (p : Object) → find heap (header_of p) ≡ some p → h ≤ header_of p → (header_of p ≡ k → ⊥) → end ≤ header_of p =
+      let behind : (p : Object) → find heap (header_of p) ≡ Some p → h ≤ header_of p → (header_of p ≡ k → ⊥) → end ≤ header_of p =
       λ p f u n.
       let there = known i.laid (header_of p) p f in
       omega (arith, (look_inside end l (header_of p) there.block (sym (look_rest h g b l (header_of p) n) ∙ sym (looked (header_of p) u) ∙ there.there)).from)
@@ -144,7 +143,7 @@ module _ {s L : ℕ} {x : State} {heap : Heap} (i : Invariant s L x heap) where
         sorted = ((λ p m. omega (arith, rest.low p m)), rest.sorted);
         low = in_cons {P = λ p. h ≤ header_of p} o rest.objects (omega arith) (λ p m. omega (arith, rest.low p m));
         live =
-            in_cons {P = λ p. (find heap (header_of p) ≡ some p) × (p.cue ≡ cue)} o rest.objects
+            in_cons {P = λ p. (find heap (header_of p) ≡ Some p) × (p.cue ≡ cue)} o rest.objects
             (ap (find heap) at-k ∙ e, c ∙ eqb-true b.cue cue t) rest.live;
         all =
             λ p f u d.
@@ -179,10 +178,10 @@ module _ {s L : ℕ} {x : State} {heap : Heap} (i : Invariant s L x heap) where
 -- live objects, no two of them at one header place
 pub record Live (heap os : Heap) : Type 0 where
   pub distinct : Distinct os
-  pub lives : (o : Object) → In o os → find heap (header_of o) ≡ some o
+  pub lives : (o : Object) → In o os → find heap (header_of o) ≡ Some o
 
 -- the first one lives, and the rest do not stand there
-pub first_lives : {heap : Heap} {o : Object} {os : Heap} → Live heap (o ∷ os) → find heap (header_of o) ≡ some o
+pub first_lives : {heap : Heap} {o : Object} {os : Heap} → Live heap (o ∷ os) → find heap (header_of o) ≡ Some o
 first_lives {o = o} l = l.lives o (Memᴰ.head refl)
 
 pub rest_apart : {heap : Heap} {o : Object} {os : Heap} → Live heap (o ∷ os) → Apart o os
@@ -221,7 +220,7 @@ free_all {s = s} {L = L} {x = x} {heap = heap} i (o ∷ os) l =
       new = r.new;
       left = subst (λ (y : State). Invariant s L y r.new) (sym (free_each_one o.answer (answers os) x)) r.left;
       gone =
-          in_cons {P = λ p. find r.new (header_of p) ≡ none} o os
+          in_cons {P = λ p. find r.new (header_of p) ≡ None} o os
           (r.stays h (λ p m e. rest_apart l p m (sym e)) ∙ f.finds h ∙ rw (eq-eqb h h refl)) r.gone;
       stays = λ k n. r.stays k (λ p m. n p (Memᴰ.tail m)) ∙ f.finds k ∙ rw (ne_eqb k h (λ e. n o (Memᴰ.head refl) (sym e)));
     }
@@ -242,12 +241,12 @@ module _ {s L : ℕ} {x : State} {heap : Heap} (i : Invariant s L x heap) (cue :
   )
 
   -- it frees them
-  pub released : release_cue cue x ≡ record { answer = Accepted (length mine.objects); after = free_each (answers mine.objects) x }
+  pub released : release_cue cue x ≡ record { answer = Ok (length mine.objects); after = free_each (answers mine.objects) x }
   released =
       release_is s cue x (places_in cue 16 i.laid.layout) (opens i) (exponent_is i.laid)
       (gather_layout cue x.image i.laid.layout i.laid.placed) mine.held
       (omega (arith, mine.extents, total_is i.laid, i.laid.placed.whole))
-      ∙ (λ n. record { answer = Accepted (mine.count n); after = free_each (mine.pointers n) x })
+      ∙ (λ n. record { answer = Ok (mine.count n); after = free_each (mine.pointers n) x })
 
   -- the heap's tests of its objects
   abbrev is_mine : Object → Bool
@@ -260,21 +259,21 @@ module _ {s L : ℕ} {x : State} {heap : Heap} (i : Invariant s L x heap) (cue :
   pub mine_found : (k : ℕ) → find mine.objects k ≡ find (of_cue heap cue) k
   mine_found k = go (find mine.objects k) refl (find heap k) refl
     where
-      there : (o : Object) → find heap k ≡ some o → o.cue ≡ cue → find mine.objects k ≡ some o
+      there : (o : Object) → find heap k ≡ Some o → o.cue ≡ cue → find mine.objects k ≡ Some o
       there o f c =
           ap (find mine.objects) (sym (find-place heap k o f))
           ∙ in_find mine.objects o (sorted_distinct mine.objects mine.sorted) ((of_cue_lem o).1 (find_in heap k o f, c))
 
       go : (r : Option Object) → find mine.objects k ≡ r → (t : Option Object) → find heap k ≡ t → r ≡ find (of_cue heap cue) k
-      go (some o) e t f =
+      go (Some o) e t f =
           let l = mine.live o (find_in mine.objects k o e) in
-          let g : find heap k ≡ some o = ap (find heap) (sym (find-place mine.objects k o e)) ∙ l.0 in
-          sym (found-passing is_mine heap k (some o) i.laid.distinct g ∙ rw (eq-eqb o.cue cue l.1))
-      go none e none f = sym (found-passing is_mine heap k none i.laid.distinct f)
-      go none e (some o) f =
+          let g : find heap k ≡ Some o = ap (find heap) (sym (find-place mine.objects k o e)) ∙ l.0 in
+          sym (found-passing is_mine heap k (Some o) i.laid.distinct g ∙ rw (eq-eqb o.cue cue l.1))
+      go None e None f = sym (found-passing is_mine heap k None i.laid.distinct f)
+      go None e (Some o) f =
           by_bool (eqb o.cue cue)
           (λ c. absurd (none_some e (there o f (eqb-true o.cue cue c))))
-          (λ c. sym (found-passing is_mine heap k (some o) i.laid.distinct f ∙ rw c))
+          (λ c. sym (found-passing is_mine heap k (Some o) i.laid.distinct f ∙ rw c))
 
   -- it is accepted, and gives how many they are
   pub release_counts : IsAccepted (release_cue cue x) × (value (release_cue cue x).answer ≡ length (of_cue heap cue))
@@ -295,20 +294,20 @@ module _ {s L : ℕ} {x : State} {heap : Heap} (i : Invariant s L x heap) (cue :
   others_left k = go (find heap k) refl
     where
       go : (r : Option Object) → find heap k ≡ r → find singly.new k ≡ find (without_cue heap cue) k
-      go none e =
+      go None e =
           singly.stays k (λ o m q. none_some e (ap (find heap) (sym q) ∙ (mine.live o m).0)) ∙ e
-          ∙ sym (found-passing is_other heap k none i.laid.distinct e)
-      go (some o) e =
+          ∙ sym (found-passing is_other heap k None i.laid.distinct e)
+      go (Some o) e =
           by_bool (eqb o.cue cue)
           (λ c.
           ap (find singly.new) (sym (find-place heap k o e)) ∙ singly.gone o ((of_cue_lem o).1 (find_in heap k o e, eqb-true o.cue cue c))
-          ∙ sym (found-passing is_other heap k (some o) i.laid.distinct e ∙ rw c))
+          ∙ sym (found-passing is_other heap k (Some o) i.laid.distinct e ∙ rw c))
           (λ c.
           singly.stays k
           (λ p m q.
           let l = mine.live p m in
           eqb-false o.cue cue c (ap (λ (z : Object). z.cue) (some_same e (ap (find heap) (sym q) ∙ l.0)) ∙ l.1))
-          ∙ e ∙ sym (found-passing is_other heap k (some o) i.laid.distinct e ∙ rw c))
+          ∙ e ∙ sym (found-passing is_other heap k (Some o) i.laid.distinct e ∙ rw c))
 
   -- and the invariant
   pub release_left : Invariant s L (release_cue cue x).after (without_cue heap cue)

@@ -1,11 +1,11 @@
 -- Each call keeps the invariant, and what it answers.
 -- In order: bytes inside an object; allocate; free; a changed object; move; load; store, fill and copy; text copy. Not here: what follows for a list
 -- (`Theorem`). Assumes nothing.
+use Rattle.std.specs.Prelude.{Err, None, Ok, Option, Some}
 use Prim.Native.Nat.{ℕ, ◌+◌, ◌-◌, ◌^◌, ◌≤◌, ◌<◌}
 use mathlib.Core.Path.{◌≡◌, refl, sym, ap, ◌∙◌, subst}
 use mathlib.Core.Bool.{true, false, cond, ◌&&◌, and-true, and-false}
 use mathlib.Core.List.{List, [], ◌∷◌, ◌++◌}
-use mathlib.Core.Option.{Option, none, some}
 use native.Mathlib.Omega.{arith}
 use lib.ListN.{length, take, drop, replicate, length-replicate, length-drop}
 use lib.Seq.{length-take-le, take_all}
@@ -17,16 +17,12 @@ use Rattle.frame.specs.Tags.{pointer_to}
 use Rattle.frame.specs.laws.Objects.{unpack_address, moved_pointer, own_again}
 use Rattle.frame.proofs.Objects.{own_pointer}
 use Rattle.frame.specs.declared.parts.Pointer.{Pointer}
-use Rattle.frame.specs.declared.parts.Moved.{Moved}
-use Rattle.frame.specs.declared.parts.Moved.TheVariants.{To, Outside}
 use Rattle.block.specs.laws.Booleans.{by_bool, refuted, true_false, and_left, and_right, and_both}
 use Rattle.block.specs.Bytes.{encode, put}
 use Rattle.block.specs.laws.Fields.{length-encode}
 use Rattle.block.specs.laws.Writes.{length-put}
 use Rattle.block.specs.Text.{text_of}
 use Rattle.block.specs.laws.Text.{text_bound}
-use Rattle.block.specs.declared.text.Text.{Text}
-use Rattle.block.specs.declared.text.Text.TheVariants.{Ends, Endless}
 use Rattle.block.specs.Layout.{stored_total, extent_at, size_at}
 use Rattle.store.specs.State.{State, state, Outcome, outcome, refusal_number, returned, demand, refuse}
 use Rattle.store.specs.Calls.{entry_holds, taken_extent, allotted, noted, given_back, located, moved_by, good_width, total_fits, allocate_for, move, load, store, fill, copy, text_answer, text_at, copy_text, free}
@@ -45,8 +41,7 @@ use Rattle.store.specs.laws.CopyText.{text_ended, text_endless, text_located, co
 use Rattle.store.specs.laws.Free.{free_unread, free_refuses_base, free_lost, free_merges}
 use Rattle.store.specs.declared.answer.Refusal.{Refusal}
 use Rattle.store.specs.declared.answer.Refusal.TheVariants.{Unsound, NoSpace, NotBase, OutOfBounds, Unterminated}
-use Rattle.store.specs.declared.answer.Answer.{Answer}
-use Rattle.store.specs.declared.answer.Answer.TheVariants.{Accepted, Refused}
+use Rattle.store.specs.State.{Answer}
 use Rattle.history.specs.Heap.{Object, Heap, start, member, owner_of, offset, inside, bytes_at, written, pointed, new_object, change, without, write, copied, text_in, copied_text, text_copied, hear}
 use Rattle.history.specs.History.{In, header_of}
 use Rattle.history.proofs.Gaps.{Block, Layout, block_at, Clear, patched}
@@ -56,8 +51,8 @@ use Rattle.history.proofs.Table.{Tabled, added, entry_zero, gone, same-table}
 use Rattle.history.proofs.Invariant.{Fine, content, Formatted, Laid, Invariant, block_content, object_content, known, object_of, no_object, ranged, exponent_is, total_is, formatted, remade, retotalled, relaid, agree_cond, opens, answer_leads, owner_leads, accesses}
 
 -- every object is fine after one is put in or changed
-fine_cond : (s : ℕ) (heap new : Heap) (h : ℕ) (o : Object) → ((k : ℕ) → find new k ≡ cond (eqb k h) (some o) (find heap k)) → Fine s h o
-    → ((k : ℕ) (y : Object) → find heap k ≡ some y → Fine s k y) → (k : ℕ) (y : Object) → find new k ≡ some y → Fine s k y
+fine_cond : (s : ℕ) (heap new : Heap) (h : ℕ) (o : Object) → ((k : ℕ) → find new k ≡ cond (eqb k h) (Some o) (find heap k)) → Fine s h o
+    → ((k : ℕ) (y : Object) → find heap k ≡ Some y → Fine s k y) → (k : ℕ) (y : Object) → find new k ≡ Some y → Fine s k y
 fine_cond s heap new h o law f g k y e =
     by_bool (eqb k h)
     (λ t. let v : o ≡ y = some_same (rw t at (law k)) e in rw (eqb-true k h t, ← v) f)
@@ -85,7 +80,7 @@ pub data Allocated (s L : ℕ) (x : State) (heap : Heap) (i : Invariant s L x he
       → Allocated s L x heap i size type cue
   given :
       (h : ℕ) → Clear x.image i.laid.layout h (16 + size)
-      → allocate_for size type cue x ≡ outcome (Accepted (pack (pointer_to s h size))) (allotted x.image h size type cue) (noted s h size h x.table)
+      → allocate_for size type cue x ≡ outcome (Ok (pack (pointer_to s h size))) (allotted x.image h size type cue) (noted s h size h x.table)
       → Invariant s L (state (allotted x.image h size type cue) (noted s h size h x.table)) (heap ++ (new_object (pack (pointer_to s h size)) size cue ∷ []))
       → Allocated s L x heap i size type cue
 
@@ -97,10 +92,10 @@ Nobody heap p = (o : Object) → In o heap → o.answer ≡ p → ⊥
 
 -- what the free of the live object at h answers, and leaves
 pub record Emptied {s L : ℕ} {x : State} {heap : Heap} (i : Invariant s L x heap) (h : ℕ) (o : Object) (r : Outcome) : Type 0 where
-  pub answers : r.answer ≡ Accepted 0
+  pub answers : r.answer ≡ Ok 0
   pub left : Invariant s L r.after (without heap o.answer)
-  pub finds : (k : ℕ) → find (without heap o.answer) k ≡ cond (eqb k h) none (find heap k)
-  pub looks : (k : ℕ) → block_at left.laid.layout k ≡ cond (eqb k h) none (block_at i.laid.layout k)
+  pub finds : (k : ℕ) → find (without heap o.answer) k ≡ cond (eqb k h) None (find heap k)
+  pub looks : (k : ℕ) → block_at left.laid.layout k ≡ cond (eqb k h) None (block_at i.laid.layout k)
   pub cleared : r.after.table ≡ noted s h o.size 0 x.table
 
 -- how free ends: an object is taken out, or the refusal, not by 22, of a number that is nobody's
@@ -123,12 +118,12 @@ module _ {s L : ℕ} {x : State} {heap : Heap} (i : Invariant s L x heap) where
     unfolding new
     new-place = omega (arith, unpack_address s h size i.laid.shape.exponent_high new_fits)
 
-    new_vacant : find heap h ≡ none
+    new_vacant : find heap h ≡ None
     new_vacant = no_object i.laid h c.vacant
 
-    new_law : (k : ℕ) → find (heap ++ (new ∷ [])) k ≡ cond (eqb k h) (some new) (find heap k)
+    new_law : (k : ℕ) → find (heap ++ (new ∷ [])) k ≡ cond (eqb k h) (Some new) (find heap k)
     new_law k =
-        find-append heap new k (ap (find heap) new-place ∙ new_vacant) ∙ ap (λ (z : ℕ). cond (eqb k z) (some new) (find heap k)) new-place
+        find-append heap new k (ap (find heap) new-place ∙ new_vacant) ∙ ap (λ (z : ℕ). cond (eqb k z) (Some new) (find heap k)) new-place
 
     new_fine : Fine s h new
     unfolding new member
@@ -153,7 +148,7 @@ module _ {s L : ℕ} {x : State} {heap : Heap} (i : Invariant s L x heap) where
         relaid i.laid (heap ++ (new ∷ [])) (retotalled i.laid _ c.remade (omega (arith, c.taken, total_is i.laid)))
         (λ k.
         ap block_content (c.looks k)
-        ∙ agree_cond (eqb k h) (some c.block) (block_at i.laid.layout k) (some new) (find heap k) (λ n. some (content (c.for_cue n) (c.zeroed n))) (i.laid.agree k)
+        ∙ agree_cond (eqb k h) (Some c.block) (block_at i.laid.layout k) (Some new) (find heap k) (λ n. Some (content (c.for_cue n) (c.zeroed n))) (i.laid.agree k)
         ∙ ap object_content (sym (new_law k)))
         (fine_cond s heap (heap ++ (new ∷ [])) h new new_law new_fine i.laid.fine)
         (distinct_append heap new i.laid.distinct (ap (find heap) new-place ∙ new_vacant))
@@ -192,28 +187,28 @@ module _ {s L : ℕ} {x : State} {heap : Heap} (i : Invariant s L x heap) where
   -- Free.
 
   -- allocate's answer for a live object, at its header place
-  answer_found : (p : ℕ) (o : Object) → In o heap → o.answer ≡ p → (located s (unpack p) x ≡ Accepted (header_of o)) × ((unpack p).address ≡ header_of o + 16)
+  answer_found : (p : ℕ) (o : Object) → In o heap → o.answer ≡ p → (located s (unpack p) x ≡ Ok (header_of o)) × ((unpack p).address ≡ header_of o + 16)
   answer_found p o m a =
-      let f : find heap (header_of o) ≡ some o = in_find heap o i.laid.distinct m in (
+      let f : find heap (header_of o) ≡ Some o = in_find heap o i.laid.distinct m in (
         ap (λ (q : ℕ). located s (unpack q) x) (sym a) ∙ answer_leads i (header_of o) o f,
         ap (λ (q : ℕ). (unpack q).address) (sym a) ∙ (known i.laid (header_of o) o f).begins,
       )
 
   -- it leads nowhere else
-  answer_only : (p h : ℕ) (o : Object) → In o heap → o.answer ≡ p → located s (unpack p) x ≡ Accepted h → header_of o ≡ h
-  answer_only p h o m a e = let f : located s (unpack p) x ≡ Accepted (header_of o) = (answer_found p o m a).0 in cc
+  answer_only : (p h : ℕ) (o : Object) → In o heap → o.answer ≡ p → located s (unpack p) x ≡ Ok h → header_of o ≡ h
+  answer_only p h o m a e = let f : located s (unpack p) x ≡ Ok (header_of o) = (answer_found p o m a).0 in cc
 
-  module _ (h : ℕ) (b : Block) (o : Object) (e : find heap h ≡ some o) (f : Freed x.image i.laid.layout h b) where
-    gone_law : (k : ℕ) → find (without heap o.answer) k ≡ cond (eqb k h) none (find heap k)
+  module _ (h : ℕ) (b : Block) (o : Object) (e : find heap h ≡ Some o) (f : Freed x.image i.laid.layout h b) where
+    gone_law : (k : ℕ) → find (without heap o.answer) k ≡ cond (eqb k h) None (find heap k)
     gone_law k =
         let q : header_of o ≡ h = find-place heap h o e in
-        find-without heap o k i.laid.distinct (ap (find heap) q ∙ e) ∙ ap (λ (z : ℕ). cond (eqb k z) none (find heap k)) q
+        find-without heap o k i.laid.distinct (ap (find heap) q ∙ e) ∙ ap (λ (z : ℕ). cond (eqb k z) None (find heap k)) q
 
     unfoldable gone_laid : Laid s L (given_back x.image h f.from f.to) (without heap o.answer)
     gone_laid =
         relaid i.laid (without heap o.answer) (retotalled i.laid _ f.remade (omega (arith, f.given, total_is i.laid)))
         (λ k.
-        ap block_content (f.looks k) ∙ agree_cond (eqb k h) none (block_at i.laid.layout k) none (find heap k) refl (i.laid.agree k)
+        ap block_content (f.looks k) ∙ agree_cond (eqb k h) None (block_at i.laid.layout k) None (find heap k) refl (i.laid.agree k)
         ∙ ap object_content (sym (gone_law k)))
         (λ k y g.
         by_bool (eqb k h)
@@ -224,7 +219,7 @@ module _ {s L : ℕ} {x : State} {heap : Heap} (i : Invariant s L x heap) where
     gone_table : noted s h (size_at x.image h) 0 x.table ≡ noted s h o.size 0 x.table
     gone_table = ap (λ (n : ℕ). noted s h n 0 x.table) (known i.laid h o e).size
 
-    gone_emptied : Emptied i h o (outcome (Accepted 0) (given_back x.image h f.from f.to) (noted s h (size_at x.image h) 0 x.table))
+    gone_emptied : Emptied i h o (outcome (Ok 0) (given_back x.image h f.from f.to) (noted s h (size_at x.image h) 0 x.table))
     unfolding gone_laid relaid
     gone_emptied =
         record {
@@ -245,7 +240,7 @@ module _ {s L : ℕ} {x : State} {heap : Heap} (i : Invariant s L x heap) where
       (omega (arith, f.given, total_is i.laid, gaps_in _ f.next f.remade.placed, f.remade.same_length))
 
   -- a live object is freed by allocate's answer
-  pub free_live : (h : ℕ) (o : Object) → find heap h ≡ some o → Emptied i h o (free o.answer x)
+  pub free_live : (h : ℕ) (o : Object) → find heap h ≡ Some o → Emptied i h o (free o.answer x)
   free_live h o e =
       let n = known i.laid h o e in
       let f = freed x.image i.laid.layout h n.block i.laid.placed n.there in
@@ -258,7 +253,7 @@ module _ {s L : ℕ} {x : State} {heap : Heap} (i : Invariant s L x heap) where
   pub freeing : (p : ℕ) → p < 2 ^ 64 → Freeing s L x heap p
   freeing p fits = read (located s (unpack p) x) refl
     where
-      found : (h : ℕ) (o : Object) → located s (unpack p) x ≡ Accepted h → eqb (unpack p).address (h + 16) ≡ true → find heap h ≡ some o
+      found : (h : ℕ) (o : Object) → located s (unpack p) x ≡ Ok h → eqb (unpack p).address (h + 16) ≡ true → find heap h ≡ Some o
           → Freeing s L x heap p
       found h o e t g =
           let r : Located s (unpack p) x h = located_parts s (unpack p) x h e in
@@ -270,23 +265,23 @@ module _ {s L : ℕ} {x : State} {heap : Heap} (i : Invariant s L x heap) where
           taken o (find_in heap h o g) a (subst (λ (z : ℕ). returned (free z x).answer ≡ 0) a (ap returned f.answers))
           (subst (λ (z : ℕ). Invariant s L (free z x).after (without heap z)) a f.left)
 
-      base : (h : ℕ) → located s (unpack p) x ≡ Accepted h → eqb (unpack p).address (h + 16) ≡ true → (r : Option Block) → block_at i.laid.layout h ≡ r
+      base : (h : ℕ) → located s (unpack p) x ≡ Ok h → eqb (unpack p).address (h + 16) ≡ true → (r : Option Block) → block_at i.laid.layout h ≡ r
           → Freeing s L x heap p
-      base h e t none g =
+      base h e t None g =
           let r : Located s (unpack p) x h = located_parts s (unpack p) x h e in
           declined Unsound
           (free_lost s x (opens i) p h e t Unsound (not-freed x.image i.laid.layout h i.laid.placed g r.header.is_live_lem r.header.is_sound))
           (λ z. omega arith)
           (λ o m a. none_some (no_object i.laid h g) (ap (find heap) (sym (answer_only p h o m a e)) ∙ in_find heap o i.laid.distinct m))
-      base h e t (some b) g =
+      base h e t (Some b) g =
           let o = object_of i.laid h b g in
           found h o.0 e t o.1
 
       read : (r : Answer) → located s (unpack p) x ≡ r → Freeing s L x heap p
-      read (Refused r) e =
+      read (Err r) e =
           declined r (free_unread s x (opens i) p r e) (λ z. omega (arith, (located_refusal s (unpack p) x r e).1))
-          (λ o m a. let f : located s (unpack p) x ≡ Accepted (header_of o) = (answer_found p o m a).0 in let z : ◌≡◌ {A = ℕ} 0 1 = cc in omega arith)
-      read (Accepted h) e =
+          (λ o m a. let f : located s (unpack p) x ≡ Ok (header_of o) = (answer_found p o m a).0 in let z : ◌≡◌ {A = ℕ} 0 1 = cc in omega arith)
+      read (Ok h) e =
           by_bool (eqb (unpack p).address (h + 16))
           (λ t. base h e t (block_at i.laid.layout h) refl)
           (λ t. declined NotBase (free_refuses_base s x (opens i) p h e t) (λ z. omega arith)
@@ -302,13 +297,13 @@ module _ {s L : ℕ} {x : State} {heap : Heap} (i : Invariant s L x heap) where
 
   -- An object changes, and neither its answer nor its size.
 
-  module _ (p : ℕ) (o : Object) (e : owner_of heap p ≡ some o) (f : Object → Object) (same : (y : Object) → header_of (f y) ≡ header_of y)
+  module _ (p : ℕ) (o : Object) (e : owner_of heap p ≡ Some o) (f : Object → Object) (same : (y : Object) → header_of (f y) ≡ header_of y)
       (size : (f o).size ≡ o.size) (fine : Fine s (header_of o) (f o)) where
-    change_law : (k : ℕ) → find (change f heap p) k ≡ cond (eqb k (header_of o)) (some (f o)) (find heap k)
+    change_law : (k : ℕ) → find (change f heap p) k ≡ cond (eqb k (header_of o)) (Some (f o)) (find heap k)
     change_law k = find-change f same heap p o k i.laid.distinct e
 
     changed : (image' : List ℕ) (next : Layout) (b : Block) → Formatted s L image' next → b.cue ≡ (f o).cue → b.body ≡ (f o).bytes
-        → ((k : ℕ) → block_at next k ≡ cond (eqb k (header_of o)) (some b) (block_at i.laid.layout k))
+        → ((k : ℕ) → block_at next k ≡ cond (eqb k (header_of o)) (Some b) (block_at i.laid.layout k))
         → Invariant s L (state image' x.table) (change f heap p)
     changed image' next b m cue body looks =
         record {
@@ -316,7 +311,7 @@ module _ {s L : ℕ} {x : State} {heap : Heap} (i : Invariant s L x heap) where
               relaid i.laid (change f heap p) m
               (λ k.
               ap block_content (looks k)
-              ∙ agree_cond (eqb k (header_of o)) (some b) (block_at i.laid.layout k) (some (f o)) (find heap k) (λ n. some (content (cue n) (body n))) (i.laid.agree k)
+              ∙ agree_cond (eqb k (header_of o)) (Some b) (block_at i.laid.layout k) (Some (f o)) (find heap k) (λ n. Some (content (cue n) (body n))) (i.laid.agree k)
               ∙ ap object_content (sym (change_law k)))
               (fine_cond s heap (change f heap p) (header_of o) (f o) change_law fine i.laid.fine)
               (distinct_change f same heap p i.laid.distinct);
@@ -327,7 +322,7 @@ module _ {s L : ℕ} {x : State} {heap : Heap} (i : Invariant s L x heap) where
   -- Move.
 
   -- the pointer's object has one pointer more
-  move_owned : (p : ℕ) (o : Object) (d : ℤ) (q : Pointer) → owner_of heap p ≡ some o → moved (unpack p) (reach s (unpack p)) d ≡ To q
+  move_owned : (p : ℕ) (o : Object) (d : ℤ) (q : Pointer) → owner_of heap p ≡ Some o → moved (unpack p) (reach s (unpack p)) d ≡ Some q
       → Invariant s L x (change (pointed (pack q)) heap p)
   unfolding member
   move_owned p o d q e m =
@@ -347,15 +342,15 @@ module _ {s L : ℕ} {x : State} {heap : Heap} (i : Invariant s L x heap) where
       x.image i.laid.layout n.block (formatted i.laid) n.cue n.body
       (λ k. by_bool (eqb k (header_of o)) (λ t. rw t (ap (block_at i.laid.layout) (eqb-true k (header_of o) t) ∙ n.there)) (λ t. rw t))
 
-  move-to : (p : ℕ) (d : ℤ) → good_tag s (unpack p) ≡ true → (r : Moved) → moved (unpack p) (reach s (unpack p)) d ≡ r
+  move-to : (p : ℕ) (d : ℤ) → good_tag s (unpack p) ≡ true → (r : Option Pointer) → moved (unpack p) (reach s (unpack p)) d ≡ r
       → Invariant s L x (hear heap (moves p d) (moved_by s (unpack p) d))
   unfolding hear
-  move-to p d t Outside m = rw (← moved_out s (unpack p) d t m) i
-  move-to p d t (To q) m = rw (← moved_in s (unpack p) d q t m) (go (owner_of heap p) refl)
+  move-to p d t None m = rw (← moved_out s (unpack p) d t m) i
+  move-to p d t (Some q) m = rw (← moved_in s (unpack p) d q t m) (go (owner_of heap p) refl)
     where
       go : (r : Option Object) → owner_of heap p ≡ r → Invariant s L x (change (pointed (pack q)) heap p)
-      go none e = rw (change_nobody (pointed (pack q)) heap p e) i
-      go (some o) e = move_owned p o d q e m
+      go None e = rw (change_nobody (pointed (pack q)) heap p e) i
+      go (Some o) e = move_owned p o d q e m
 
   move-refused : (p : ℕ) (d : ℤ) → good_tag s (unpack p) ≡ false
       → Invariant s L x (hear heap (moves p d) (moved_by s (unpack p) d))
@@ -383,7 +378,7 @@ module _ {s L : ℕ} {x : State} {heap : Heap} (i : Invariant s L x heap) where
     pub at_address : header_of o + 16 + offset o p ≡ (unpack p).address
     pub fits : offset o p + n ≤ o.size
 
-  pub span : (p : ℕ) (o : Object) (n : ℕ) → owner_of heap p ≡ some o → inside o p n ≡ true → Span p o n
+  pub span : (p : ℕ) (o : Object) (n : ℕ) → owner_of heap p ≡ Some o → inside o p n ≡ true → Span p o n
   span p o n e t =
       let w : Owned heap p o = owned heap p o i.laid.distinct e in
       let b : start o ≡ header_of o + 16 = (known i.laid (header_of o) o w.found).begins in
@@ -391,7 +386,7 @@ module _ {s L : ℕ} {x : State} {heap : Heap} (i : Invariant s L x heap) where
       record { owner = w; at_address = omega (arith, low); fits = omega (arith, low, high) }
 
   -- they are the heap's
-  pub read_through : (p : ℕ) (o : Object) (n : ℕ) → owner_of heap p ≡ some o → inside o p n ≡ true → take n (drop (unpack p).address x.image) ≡ bytes_at o p n
+  pub read_through : (p : ℕ) (o : Object) (n : ℕ) → owner_of heap p ≡ Some o → inside o p n ≡ true → take n (drop (unpack p).address x.image) ≡ bytes_at o p n
   read_through p o n e t =
       let w : Span p o n = span p o n e t in
       let q = known i.laid (header_of o) o w.owner.found in
@@ -401,7 +396,7 @@ module _ {s L : ℕ} {x : State} {heap : Heap} (i : Invariant s L x heap) where
       ∙ ap (λ (b : List ℕ). take n (drop (offset o p) b)) q.body
 
   -- a write of so many
-  pub wrote : (p : ℕ) (o : Object) (n : ℕ) (bytes : List ℕ) → owner_of heap p ≡ some o → length bytes ≡ n → inside o p n ≡ true
+  pub wrote : (p : ℕ) (o : Object) (n : ℕ) (bytes : List ℕ) → owner_of heap p ≡ Some o → length bytes ≡ n → inside o p n ≡ true
       → Invariant s L (state (put x.image (unpack p).address bytes) x.table) (change (written p bytes) heap p)
   wrote p o n bytes e l t =
       let w : Span p o n = span p o n e t in
@@ -423,15 +418,15 @@ module _ {s L : ℕ} {x : State} {heap : Heap} (i : Invariant s L x heap) where
       (ap (λ (b : List ℕ). put b (offset o p) bytes) q.body) r.looks
 
   -- so many bytes through a pointer, refused or not
-  wrote_through : (p : ℕ) (o : Object) (n : ℕ) (bytes : List ℕ) → owner_of heap p ≡ some o → length bytes ≡ n
-      → (v : ℕ) → Invariant s L (through x v (inside o p n) (unpack p).address bytes).after (write (some o) p n bytes heap)
+  wrote_through : (p : ℕ) (o : Object) (n : ℕ) (bytes : List ℕ) → owner_of heap p ≡ Some o → length bytes ≡ n
+      → (v : ℕ) → Invariant s L (through x v (inside o p n) (unpack p).address bytes).after (write (Some o) p n bytes heap)
   unfolding write
   wrote_through p o n bytes e l v =
       by_bool (inside o p n)
       (λ t. rw t (wrote p o n bytes e l t))
       (λ t. rw t i)
 
-  pub store_step : (p width v : ℕ) (o : Object) → owner_of heap p ≡ some o
+  pub store_step : (p width v : ℕ) (o : Object) → owner_of heap p ≡ Some o
       → Invariant s L (store p width v x).after (hear heap (stores p width v) (store p width v x).answer)
   unfolding hear
   store_step p width v o e =
@@ -443,7 +438,7 @@ module _ {s L : ℕ} {x : State} {heap : Heap} (i : Invariant s L x heap) where
       (λ l. rw (store_refuses_large s x (opens i) p width v g l, g, l) i))
       (λ g. rw (store_refuses_width s x (opens i) p width v g, g) i)
 
-  pub fill_step : (p n byte : ℕ) (o : Object) → owner_of heap p ≡ some o
+  pub fill_step : (p n byte : ℕ) (o : Object) → owner_of heap p ≡ Some o
       → Invariant s L (fill p n byte x).after (hear heap (fills p n byte) (fill p n byte x).answer)
   unfolding hear
   fill_step p n byte o e =
@@ -454,22 +449,22 @@ module _ {s L : ℕ} {x : State} {heap : Heap} (i : Invariant s L x heap) where
       (λ l. rw (fill_refuses_empty s x (opens i) p n byte l, l) i)
 
   -- the source's bytes are as many
-  length_bytes : (p : ℕ) (o : Object) (n : ℕ) → owner_of heap p ≡ some o → inside o p n ≡ true → length (bytes_at o p n) ≡ n
+  length_bytes : (p : ℕ) (o : Object) (n : ℕ) → owner_of heap p ≡ Some o → inside o p n ≡ true → length (bytes_at o p n) ≡ n
   length_bytes p o n e t =
       let w : Span p o n = span p o n e t in
       length-take-le n (drop (offset o p) o.bytes)
       (simp length-drop (omega (arith, (i.laid.fine (header_of o) o w.owner.found).counted, w.fits)))
 
-  copied-through : (t p : ℕ) (o o' : Object) (n : ℕ) → owner_of heap t ≡ some o → owner_of heap p ≡ some o'
+  copied-through : (t p : ℕ) (o o' : Object) (n : ℕ) → owner_of heap t ≡ Some o → owner_of heap p ≡ Some o'
       → (v : ℕ) → Invariant s L (through x v (inside o t n && inside o' p n) (unpack t).address (take n (drop (unpack p).address x.image))).after
-      (copied (some o') t p n heap)
+      (copied (Some o') t p n heap)
   unfolding copied
   copied-through t p o o' n e f v =
       by_bool (inside o' p n)
       (λ u. rw (u, e, read_through p o' n f u, and-true (inside o t n)) (wrote_through t o n (bytes_at o' p n) e (length_bytes p o' n f u) v))
       (λ u. rw (u, and-false (inside o t n)) i)
 
-  pub copy_step : (t p n : ℕ) (o o' : Object) → owner_of heap t ≡ some o → owner_of heap p ≡ some o'
+  pub copy_step : (t p n : ℕ) (o o' : Object) → owner_of heap t ≡ Some o → owner_of heap p ≡ Some o'
       → Invariant s L (copy t p n x).after (hear heap (copies t p n) (copy t p n x).answer)
   unfolding hear
   copy_step t p n o o' e f =
@@ -482,7 +477,7 @@ module _ {s L : ℕ} {x : State} {heap : Heap} (i : Invariant s L x heap) where
   -- Text copy.
 
   -- a pointer's text lies inside its object exactly where its first byte does
-  inside_text : (p : ℕ) (o : Object) (n : ℕ) → owner_of heap p ≡ some o → text_in o p ≡ Ends n → inside o p (n + 1) ≡ inside o p 1
+  inside_text : (p : ℕ) (o : Object) (n : ℕ) → owner_of heap p ≡ Some o → text_in o p ≡ Some n → inside o p (n + 1) ≡ inside o p 1
   inside_text p o n e t =
       let short : n < length (drop (offset o p) o.bytes) = text_bound (drop (offset o p) o.bytes) n t in
       by_bool (inside o p 1)
@@ -499,7 +494,7 @@ module _ {s L : ℕ} {x : State} {heap : Heap} (i : Invariant s L x heap) where
       ∙ sym u)
 
   -- from its address to the end of the body, the image has the object's bytes
-  body_through : (p : ℕ) (o : Object) → owner_of heap p ≡ some o → inside o p 1 ≡ true
+  body_through : (p : ℕ) (o : Object) → owner_of heap p ≡ Some o → inside o p 1 ≡ true
       → take (start o + o.size - (unpack p).address) (drop (unpack p).address x.image) ≡ drop (offset o p) o.bytes
   body_through p o e t =
       let n : ℕ = start o + o.size - (unpack p).address in
@@ -509,7 +504,7 @@ module _ {s L : ℕ} {x : State} {heap : Heap} (i : Invariant s L x heap) where
       ∙ take_all n (drop (offset o p) o.bytes) (simp length-drop (omega (arith, low, counted)))
 
   -- the text through a pointer is that in its object's bytes
-  text_through : (p : ℕ) (o : Object) → owner_of heap p ≡ some o → text_at s (unpack p) x ≡ demand (inside o p 1) OutOfBounds (text_answer (text_in o p))
+  text_through : (p : ℕ) (o : Object) → owner_of heap p ≡ Some o → text_at s (unpack p) x ≡ demand (inside o p 1) OutOfBounds (text_answer (text_in o p))
   unfolding inside
   text_through p o e =
       let q = known i.laid (header_of o) o (owned heap p o i.laid.distinct e).found in
@@ -519,34 +514,34 @@ module _ {s L : ℕ} {x : State} {heap : Heap} (i : Invariant s L x heap) where
       (λ t. rw t (ap (λ (l : List ℕ). text_answer (text_of l)) (body_through p o e t)))
       (λ t. rw t refl))
 
-  module _ (t p : ℕ) (o o' : Object) (e : owner_of heap t ≡ some o) (f : owner_of heap p ≡ some o') where
+  module _ (t p : ℕ) (o o' : Object) (e : owner_of heap t ≡ Some o) (f : owner_of heap p ≡ Some o') where
     -- what the search of the source gives
-    searched : (w : Text) → text_in o' p ≡ w → text_at s (unpack p) x ≡ demand (inside o' p 1) OutOfBounds (text_answer w)
-    searched w g = text_through p o' f ∙ ap (λ (v : Text). demand (inside o' p 1) OutOfBounds (text_answer v)) g
+    searched : (w : Option ℕ) → text_in o' p ≡ w → text_at s (unpack p) x ≡ demand (inside o' p 1) OutOfBounds (text_answer w)
+    searched w g = text_through p o' f ∙ ap (λ (v : Option ℕ). demand (inside o' p 1) OutOfBounds (text_answer v)) g
 
     -- a text that ends is copied where its length plus one bytes of both lie inside their objects
-    pub copies_text_lem : (n : ℕ) → text_in o' p ≡ Ends n
+    pub copies_text_lem : (n : ℕ) → text_in o' p ≡ Some n
         → copy_text t p x ≡ through x (n + 1) (inside o t (n + 1) && inside o' p (n + 1)) (unpack t).address (take (n + 1) (drop (unpack p).address x.image))
     copies_text_lem n g =
         by_bool (inside o' p 1)
         (λ u.
         rw (inside_text p o' n f g, u, and-true (inside o t (n + 1)))
-        (copy_text-through s x (opens i) t p n (inside o t (n + 1)) ((rw u at (searched (Ends n) g)) ∙ sym (text_ended n)) (accesses i t o (n + 1) e)))
+        (copy_text-through s x (opens i) t p n (inside o t (n + 1)) ((rw u at (searched (Some n) g)) ∙ sym (text_ended n)) (accesses i t o (n + 1) e)))
         (λ u.
         rw (inside_text p o' n f g, u, and-false (inside o t (n + 1)))
-        (copy_text_refuses s x (opens i) t p OutOfBounds (rw u at (searched (Ends n) g))))
+        (copy_text_refuses s x (opens i) t p OutOfBounds (rw u at (searched (Some n) g))))
 
     -- one that does not is refused, by 13 or 20
-    pub copies_no_text : text_in o' p ≡ Endless → (r : Refusal) × (copy_text t p x ≡ refuse r x)
+    pub copies_no_text : text_in o' p ≡ None → (r : Refusal) × (copy_text t p x ≡ refuse r x)
     copies_no_text g =
         by_bool (inside o' p 1)
-        (λ u. (Unterminated, copy_text_refuses s x (opens i) t p Unterminated ((rw u at (searched Endless g)) ∙ sym text_endless)))
-        (λ u. (OutOfBounds, copy_text_refuses s x (opens i) t p OutOfBounds (rw u at (searched Endless g))))
+        (λ u. (Unterminated, copy_text_refuses s x (opens i) t p Unterminated ((rw u at (searched None g)) ∙ sym text_endless)))
+        (λ u. (OutOfBounds, copy_text_refuses s x (opens i) t p OutOfBounds (rw u at (searched None g))))
 
     pub copy_text-step : Invariant s L (copy_text t p x).after (hear heap (copies_text t p) (copy_text t p x).answer)
     unfolding hear text_copied copied_text
     copy_text-step = rw f (go (text_in o' p) refl)
       where
-        go : (w : Text) → text_in o' p ≡ w → Invariant s L (copy_text t p x).after (copied_text w (some o') t p heap)
-        go (Ends n) g = rw (copies_text_lem n g) (copied-through t p o o' (n + 1) e f (n + 1))
-        go Endless g = rw (copies_no_text g).1 i
+        go : (w : Option ℕ) → text_in o' p ≡ w → Invariant s L (copy_text t p x).after (copied_text w (Some o') t p heap)
+        go (Some n) g = rw (copies_text_lem n g) (copied-through t p o o' (n + 1) e f (n + 1))
+        go None g = rw (copies_no_text g).1 i

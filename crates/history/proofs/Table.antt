@@ -1,10 +1,10 @@
 -- The table of large-framed objects, against the abstract heap.
 -- In order: what is kept of it; that entries differ; an entry noted, cleared, and left as it was; the objects listed in another way. Assumes nothing.
+use Rattle.std.specs.Prelude.{None, Some}
 use Prim.Native.Nat.{ℕ, ◌+◌, ◌^◌, ◌≤◌, ◌<◌}
 use mathlib.Core.Path.{◌≡◌, refl, sym, ap, ◌∙◌}
 use mathlib.Core.Bool.{cond}
 use mathlib.Core.List.{List}
-use mathlib.Core.Option.{none, some}
 use native.Mathlib.Omega.{arith}
 use lib.ListN.{length, get_or, set, length-set}
 use lib.Seq.{get_or-set_same, get_or-set_other}
@@ -23,22 +23,22 @@ use Rattle.history.proofs.Heap.{find, none_some, some_same}
 -- who stands in entry j with the number t
 pub data Entry (s : ℕ) (heap : Heap) (j t : ℕ) : Type 0 where
   nobody : t ≡ 0 → Entry s heap j t
-  someone : (o : Object) → find heap t ≡ some o → s < wrapper t o.size → entry_of s t o.size ≡ j → Entry s heap j t
+  someone : (o : Object) → find heap t ≡ Some o → s < wrapper t o.size → entry_of s t o.size ≡ j → Entry s heap j t
 
 -- each used entry is 0 or the place of the large-framed object whose entry it is; each large-framed object's entry has its place
 pub record Tabled (s L : ℕ) (heap : Heap) (table : List ℕ) : Type 0 where
   pub long : used_entries s L ≤ length table
-  pub placed : (k : ℕ) (o : Object) → find heap k ≡ some o → s < wrapper k o.size → get_or table (entry_of s k o.size) 0 ≡ k
+  pub placed : (k : ℕ) (o : Object) → find heap k ≡ Some o → s < wrapper k o.size → get_or table (entry_of s k o.size) 0 ≡ k
   pub entry : (j : ℕ) → j < used_entries s L → Entry s heap j (get_or table j 0)
 
 -- live objects lie in the image, and apart
 pub record Ranged (L : ℕ) (heap : Heap) : Type 0 where
   pub short : L ≤ 2 ^ 30
-  pub high : (k : ℕ) (o : Object) → find heap k ≡ some o → k + 16 + o.size ≤ L
-  pub apart : (k j : ℕ) (o o' : Object) → find heap k ≡ some o → find heap j ≡ some o' → k < j → k + 16 + o.size ≤ j
+  pub high : (k : ℕ) (o : Object) → find heap k ≡ Some o → k + 16 + o.size ≤ L
+  pub apart : (k j : ℕ) (o o' : Object) → find heap k ≡ Some o → find heap j ≡ Some o' → k < j → k + 16 + o.size ≤ j
 
 -- two live large-framed objects have two entries
-pub entries_differ : (s L : ℕ) (heap : Heap) → Ranged L heap → (k j : ℕ) (o o' : Object) → find heap k ≡ some o → find heap j ≡ some o' → (k ≡ j → ⊥)
+pub entries_differ : (s L : ℕ) (heap : Heap) → Ranged L heap → (k j : ℕ) (o o' : Object) → find heap k ≡ Some o → find heap j ≡ Some o' → (k ≡ j → ⊥)
     → s < wrapper k o.size → s < wrapper j o'.size → entry_of s k o.size ≡ entry_of s j o'.size → ⊥
 entries_differ s L heap r k j o o' e f n l m q =
     by_bool (leb k j)
@@ -50,17 +50,17 @@ entries_differ s L heap r k j o o' e f n l m q =
 module _ (s L : ℕ) (heap : Heap) (table : List ℕ) (t : Tabled s L heap table) where
   -- An object is added.
 
-  module _ (new : Heap) (r : Ranged L new) (h : ℕ) (b : Object) (fresh : find heap h ≡ none)
-      (law : (k : ℕ) → find new k ≡ cond (eqb k h) (some b) (find heap k)) where
-    at_new : find new h ≡ some b
+  module _ (new : Heap) (r : Ranged L new) (h : ℕ) (b : Object) (fresh : find heap h ≡ None)
+      (law : (k : ℕ) → find new k ≡ cond (eqb k h) (Some b) (find heap k)) where
+    at_new : find new h ≡ Some b
     at_new = rw (eq-eqb h h refl) at (law h)
 
-    at_old : (k : ℕ) (o : Object) → find heap k ≡ some o → (find new k ≡ some o) × (k ≡ h → ⊥)
+    at_old : (k : ℕ) (o : Object) → find heap k ≡ Some o → (find new k ≡ Some o) × (k ≡ h → ⊥)
     at_old k o e =
         let n : (k ≡ h → ⊥) = λ q. none_some fresh (ap (find heap) (sym q) ∙ e) in
         ((rw (ne_eqb k h n) at (law k)) ∙ e, n)
 
-    back : (k : ℕ) (o : Object) → find new k ≡ some o → (k ≡ h → ⊥) → find heap k ≡ some o
+    back : (k : ℕ) (o : Object) → find new k ≡ Some o → (k ≡ h → ⊥) → find heap k ≡ Some o
     back k o e n = sym (rw (ne_eqb k h n) at (law k)) ∙ e
 
     kept_up : {j x : ℕ} → Entry s heap j x → Entry s new j x
@@ -123,15 +123,15 @@ module _ (s L : ℕ) (heap : Heap) (table : List ℕ) (t : Tabled s L heap table
 
   -- An object is taken out.
 
-  module _ (r : Ranged L heap) (new : Heap) (h : ℕ) (b : Object) (was : find heap h ≡ some b)
-      (law : (k : ℕ) → find new k ≡ cond (eqb k h) none (find heap k)) where
-    kept : (k : ℕ) (o : Object) → find new k ≡ some o → (find heap k ≡ some o) × (k ≡ h → ⊥)
+  module _ (r : Ranged L heap) (new : Heap) (h : ℕ) (b : Object) (was : find heap h ≡ Some b)
+      (law : (k : ℕ) → find new k ≡ cond (eqb k h) None (find heap k)) where
+    kept : (k : ℕ) (o : Object) → find new k ≡ Some o → (find heap k ≡ Some o) × (k ≡ h → ⊥)
     kept k o e =
         by_bool (eqb k h)
         (λ p. absurd (none_some (rw p at (law k)) e))
         (λ p. (sym (rw p at (law k)) ∙ e, eqb-false k h p))
 
-    stays : (k : ℕ) (o : Object) → find heap k ≡ some o → (k ≡ h → ⊥) → find new k ≡ some o
+    stays : (k : ℕ) (o : Object) → find heap k ≡ Some o → (k ≡ h → ⊥) → find new k ≡ Some o
     stays k o e n = (rw (ne_eqb k h n) at (law k)) ∙ e
 
     -- an entry that is not the object's keeps its owner
@@ -180,8 +180,8 @@ module _ (s L : ℕ) (heap : Heap) (table : List ℕ) (t : Tabled s L heap table
 
   -- An object changes, but not its size.
 
-  module _ (new : Heap) (h : ℕ) (b c : Object) (was : find heap h ≡ some b) (size : c.size ≡ b.size)
-      (law : (k : ℕ) → find new k ≡ cond (eqb k h) (some c) (find heap k)) where
+  module _ (new : Heap) (h : ℕ) (b c : Object) (was : find heap h ≡ Some b) (size : c.size ≡ b.size)
+      (law : (k : ℕ) → find new k ≡ cond (eqb k h) (Some c) (find heap k)) where
     changed_entry : (j x : ℕ) → Entry s heap j x → Entry s new j x
     changed_entry j x (nobody e) = nobody e
     changed_entry j x (someone o f m q) =

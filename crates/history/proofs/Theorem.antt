@@ -1,11 +1,12 @@
 -- Demand 3, and the further claims about its lists.
 -- In order: the induction over the list; each field of `Holds` from the invariant; the claims. Not here: the steps of single calls (`Steps`). Assumes nothing.
+use Rattle.store.specs.State.{usage_of}
+use Rattle.std.specs.Prelude.{Err, None, Ok, Option, Some}
 use Prim.Native.Nat.{ℕ, ◌+◌, ◌^◌, ◌≤◌, ◌<◌}
 use mathlib.Core.Path.{◌≡◌, refl, sym, ap, ◌∙◌, subst}
 use mathlib.Core.Bool.{Bool, true, false, cond, ◌&&◌}
 use mathlib.Core.List.{List, [], ◌∷◌}
 use mathlib.Core.Logic.{◌↔◌, ◌⊎◌, inl, inr}
-use mathlib.Core.Option.{Option, some}
 use native.Mathlib.Omega.{arith}
 use lib.ListN.{length, take, drop}
 use lib.Dec.{ltb}
@@ -16,8 +17,6 @@ use Rattle.block.specs.Bytes.{decode, field}
 use Rattle.block.specs.laws.Fields.{field_bytes_lem}
 use Rattle.block.specs.Order.{compare_bytes}
 use Rattle.block.specs.declared.order.Ordering.{Ordering}
-use Rattle.block.specs.declared.text.Text.{Text}
-use Rattle.block.specs.declared.text.Text.TheVariants.{Ends, Endless}
 use Rattle.block.specs.Layout.{stored_total, extent_at}
 use Rattle.store.specs.State.{State, Outcome, IsAccepted, returned, value, comparison_number, usage_number, free_bytes}
 use Rattle.store.specs.Claims.{NoLoad, NoAccess}
@@ -34,10 +33,7 @@ use Rattle.store.specs.laws.Fill.{fill-through}
 use Rattle.store.specs.laws.Copy.{copy-through}
 use Rattle.store.specs.laws.Compare.{bytes_through, compare-through}
 use Rattle.store.specs.laws.Empty.{empty_load, empty_access}
-use Rattle.store.specs.declared.answer.Answer.TheVariants.{Accepted}
 use Rattle.store.specs.declared.answer.Refusal.TheVariants.{OutOfBounds}
-use Rattle.store.specs.declared.comparing.Comparison.TheVariants as comparison
-use Rattle.store.specs.declared.counting.Usage.TheVariants as usage
 use Rattle.history.specs.Heap.{Object, Heap, holds, owner_of, inside, text_in, hear, HearsNoOther}
 use Rattle.history.specs.History.{known, admitted, Configuration, next, after, all_admitted, begun, In, header_of, FreeRun, EntriesApart, PointersApart, PointersLead, FreesExactly, LoadsExactly, StoresExactly, FillsExactly, BothInside, CopiesExactly, ComparesExactly, TextsExactly, LoadsBytes, ComparesBytes, TextsCounted, EachAllocate, Holds, Demand3}
 use Rattle.history.specs.Release.{ReleasesSingly}
@@ -98,23 +94,23 @@ begins s x e = let (t, q) = set_up-accepted s x e in rw q (begins_with s x t)
 -- What the invariant says.
 
 module _ {s L : ℕ} (x : Configuration) (i : Invariant s L x.state x.heap) where
-  at_place : (o : Object) → In o x.heap → find x.heap (header_of o) ≡ some o
+  at_place : (o : Object) → In o x.heap → find x.heap (header_of o) ≡ Some o
   at_place o m = in_find x.heap o i.laid.distinct m
 
   about : (o : Object) (m : In o x.heap) → invariant.Known s L x.state.image x.heap i.laid (header_of o) o
   about o m = invariant.known i.laid (header_of o) o (at_place o m)
 
-  pointer_leads : (o : Object) (p : ℕ) → find x.heap (header_of o) ≡ some o → holds o p ≡ true → Leads i (header_of o) p
+  pointer_leads : (o : Object) (p : ℕ) → find x.heap (header_of o) ≡ Some o → holds o p ≡ true → Leads i (header_of o) p
   pointer_leads o p e t = leads i (header_of o) o p e ((i.laid.fine (header_of o) o e).good p t)
 
-  two_entries : (o o' : Object) → find x.heap (header_of o) ≡ some o → find x.heap (header_of o') ≡ some o' → (header_of o ≡ header_of o' → ⊥) → EntriesApart s o o'
+  two_entries : (o o' : Object) → find x.heap (header_of o) ≡ Some o → find x.heap (header_of o') ≡ Some o' → (header_of o ≡ header_of o' → ⊥) → EntriesApart s o o'
   two_entries o o' e f n l m q =
       entries_differ s L x.heap (ranged i.laid) (header_of o) (header_of o') o o' e f n (leb-false _ _ l) (leb-false _ _ m) q
 
-  two_owners : (o o' : Object) → find x.heap (header_of o) ≡ some o → find x.heap (header_of o') ≡ some o' → (header_of o ≡ header_of o' → ⊥) → PointersApart o o'
+  two_owners : (o o' : Object) → find x.heap (header_of o) ≡ Some o → find x.heap (header_of o') ≡ Some o' → (header_of o ≡ header_of o' → ⊥) → PointersApart o o'
   two_owners o o' e f n p t u =
-      let a : located s (unpack p) x.state ≡ Accepted (header_of o) = (pointer_leads o p e t).found in
-      let b : located s (unpack p) x.state ≡ Accepted (header_of o') = (pointer_leads o' p f u).found in
+      let a : located s (unpack p) x.state ≡ Ok (header_of o) = (pointer_leads o p e t).found in
+      let b : located s (unpack p) x.state ≡ Ok (header_of o') = (pointer_leads o' p f u).found in
       n cc
 
   leads_to : PointersLead s x
@@ -164,17 +160,17 @@ module _ {s L : ℕ} (x : Configuration) (i : Invariant s L x.state x.heap) wher
       (through_iff x.state 0 (inside o t n && inside o' p n) (unpack t).address _))
 
   -- two pointers' bytes, compared where both lie inside their objects
-  compares_both : (o o' : Object) (p q : ℕ) → owner_of x.heap p ≡ some o → owner_of x.heap q ≡ some o' → (n : ℕ) → 0 < n
+  compares_both : (o o' : Object) (p q : ℕ) → owner_of x.heap p ≡ Some o → owner_of x.heap q ≡ Some o' → (n : ℕ) → 0 < n
       → compare p q n x.state
-      ≡ cond (inside o p n && inside o' q n) (comparison.Ordered (compare_bytes (bytes_through x.state n p) (bytes_through x.state n q)))
-      (comparison.Refused OutOfBounds)
+      ≡ cond (inside o p n && inside o' q n) (Ok (compare_bytes (bytes_through x.state n p) (bytes_through x.state n q)))
+      (Err OutOfBounds)
   compares_both o o' p q e f n l =
       compare-through s x.state (opens i) p q n (inside o p n) (inside o' q n) (lt-ltb 0 n l) (accesses i p o n e) (accesses i q o' n f)
 
   compare_iff : ComparesExactly x
   compare_iff o o' p q e f n l u = both_iff (inside o p n) (inside o' q n) (rw (compares_both o o' p q e f n l) (decided (inside o p n && inside o' q n) _))
     where
-      decided : (b : Bool) (c : Ordering) → (comparison_number (cond b (comparison.Ordered c) (comparison.Refused OutOfBounds)) ≡ 0) ↔ (b ≡ true)
+      decided : (b : Bool) (c : Ordering) → (comparison_number (cond b (Ok c) (Err OutOfBounds)) ≡ 0) ↔ (b ≡ true)
       decided true c = ((λ e. refl), λ e. refl)
       decided false c = ((λ e. absurd (omega arith)), λ (e : false ≡ true). absurd (true_false e refl))
 
@@ -186,19 +182,19 @@ module _ {s L : ℕ} (x : Configuration) (i : Invariant s L x.state x.heap) wher
   text_iff : TextsExactly x
   text_iff o o' t p e f = go (text_in o' p) refl
     where
-      go : (w : Text) → text_in o' p ≡ w → IsAccepted (copy_text t p x.state) ↔ ((n : ℕ) × (text_in o' p ≡ Ends n) × BothInside o o' t p (n + 1))
-      go (Ends n) g =
+      go : (w : Option ℕ) → text_in o' p ≡ w → IsAccepted (copy_text t p x.state) ↔ ((n : ℕ) × (text_in o' p ≡ Some n) × BothInside o o' t p (n + 1))
+      go (Some n) g =
           let w : IsAccepted (copy_text t p x.state) ↔ BothInside o o' t p (n + 1) =
           both_iff (inside o t (n + 1)) (inside o' p (n + 1))
           (rw (copies_text_lem i t p o o' e f n g) (through_iff x.state (n + 1) (inside o t (n + 1) && inside o' p (n + 1)) (unpack t).address _))
           in (
             (λ a. (n, g, w.0 a)),
-            λ (b : (m : ℕ) × (text_in o' p ≡ Ends m) × BothInside o o' t p (m + 1)). let same : b.0 ≡ n = cc (b.1, g) in w.1 (rw same at b.2),
+            λ (b : (m : ℕ) × (text_in o' p ≡ Some m) × BothInside o o' t p (m + 1)). let same : b.0 ≡ n = cc (b.1, g) in w.1 (rw same at b.2),
           )
-      go Endless g =
+      go None g =
           let (r, q) = copies_no_text i t p o o' e f g in (
             (λ (a : IsAccepted (copy_text t p x.state)). absurd (not-accepted r (sym q) a)),
-            λ (b : (m : ℕ) × (text_in o' p ≡ Ends m) × BothInside o o' t p (m + 1)). let z : ◌≡◌ {A = ℕ} 0 1 = cc (b.1, g) in absurd (omega arith),
+            λ (b : (m : ℕ) × (text_in o' p ≡ Some m) × BothInside o o' t p (m + 1)). let z : ◌≡◌ {A = ℕ} 0 1 = cc (b.1, g) in absurd (omega arith),
           )
 
   text_value : TextsCounted x
@@ -229,7 +225,7 @@ module _ {s L : ℕ} (x : Configuration) (i : Invariant s L x.state x.heap) wher
             (subst (λ (z : ℕ). (header_of o + z ≤ a) ⊎ (a + n ≤ header_of o)) same (r.outside o m));
       }
     where
-      block_same : {r : Option Block} {b c : Block} → r ≡ some b → r ≡ some c → b ≡ c
+      block_same : {r : Option Block} {b c : Block} → r ≡ Some b → r ≡ Some c → b ≡ c
       block_same e f = cc
 
   clear_run : (a n : ℕ) → Clear x.state.image i.laid.layout a n → FreeRun x a n
@@ -318,7 +314,7 @@ module _ {s L : ℕ} (x : Configuration) (i : Invariant s L x.state x.heap) wher
       }
 
   -- tally gives the layout's counts
-  tallied : let l : Layout = i.laid.layout in tally x.state ≡ usage.Counts (blocks l) (bodies l) (gaps l) (overheads l)
+  tallied : let l : Layout = i.laid.layout in tally x.state ≡ usage_of (blocks l) (bodies l) (gaps l) (overheads l)
   tallied = sym (tally-counts x.state s (opens i) (counts i.laid.layout) (counted_as x.state.image i.laid.layout i.laid.placed))
 
   -- so that it is accepted
@@ -348,7 +344,7 @@ module _ {s L : ℕ} (x : Configuration) (i : Invariant s L x.state x.heap) wher
         releases = λ cue fits e. omega (arith, (release_counts i cue).0);
       }
     where
-      total-given : Accepted (stored_total x.state.image) ≡ free_total x.state
+      total-given : Ok (stored_total x.state.image) ≡ free_total x.state
       total-given = free_total-given x.state s (opens i)
 
       not_wrong : (p : ℕ) → returned (free p x.state).answer ≡ 22 → Freeing s L x.state x.heap p → ⊥
@@ -357,7 +353,7 @@ module _ {s L : ℕ} (x : Configuration) (i : Invariant s L x.state x.heap) wher
 
   -- nothing is read or written through a pointer of an object of no bytes
   module _ (o : Object) (m : In o x.heap) (z : o.size ≡ 0) (p : ℕ) (t : holds o p ≡ true) where
-    abbrev led : located s (unpack p) x.state ≡ Accepted (header_of o)
+    abbrev led : located s (unpack p) x.state ≡ Ok (header_of o)
     led = (pointer_leads o p (at_place o m) t).found
 
     pub no_load : NoLoad p x.state

@@ -1,5 +1,7 @@
 -- Lists of calls that demand 3 admits, and what they leave, by computation: the claims are about lists such as these. Assumes nothing.
-use Rattle.std.specs.Prelude.{ℕ, ◌≡◌, refl, true, List, [], ◌∷◌, length, replicate, get_or, pos, negsuc}
+use Rattle.store.specs.State.{usage_of}
+use Rattle.store.specs.State.{measured_as}
+use Rattle.std.specs.Prelude.{ℕ, ◌≡◌, refl, true, List, [], ◌∷◌, length, replicate, get_or, pos, negsuc, Ok}
 use Rattle.frame.specs.Frame.{frame_number, frame_number_in}
 use Rattle.frame.specs.Pointers.{unpack, pack, good_tag, reach, landed, moved}
 use Rattle.frame.specs.Tags.{wrapper, tag_number, pointer_to, tag_matches, used_entries, entry_at}
@@ -9,9 +11,6 @@ use Rattle.block.specs.Layout.{superblock, with_total, superblock_good, header, 
 use Rattle.block.specs.Walk.{walk_in, walk_from, walk, fit_of, first_fit, met_of, walk_to, count_of, count_blocks, walk_cue}
 use Rattle.store.specs.State.{State, state, IsAccepted}
 use Rattle.store.specs.Calls.{set_up_checks, fresh, set_up, opening, entry_holds, fit_answer, taken_extent, allocate_checks, carved, noted, allocate_for, header_place, verified, leads_back, located, from_start, to_end, in_body, accessed, distances_checks, distances_at, distances, moved_answer, move_answer, move, load_answer, load, store_checks, store, fill_checks, fill, copy_checks, copy, text_answer, text_at, copy_text_checks, copy_text, merge_end, merge_start, released, free_checks, released_at, total_fits, totalled, free_release, merged, freed, free, gathered_answer, places_of, all_held, extents_of, release_checks, pointers_to, cue_pointers, free_each, release_cue, free_total, tally_opened, tally_counted, tally}
-use Rattle.store.specs.declared.answer.Answer.TheVariants.{Accepted}
-use Rattle.store.specs.declared.measuring.Measurement.TheVariants.{Distances}
-use Rattle.store.specs.declared.counting.Usage.TheVariants as usage
 use Rattle.store.specs.Step.{Call, allocates, frees, moves, loads, stores, fills, copies, copies_text, allocates_for, releases}
 use Rattle.history.specs.Heap.{Object, new_object, member, owner_of, inside, change, without, passing, write, copied, copied_text, text_copied, hear}
 use Rattle.history.specs.History.{Configuration, begun, after, all_admitted, known}
@@ -64,10 +63,10 @@ calls =
 pub admitted-calls : (all_admitted calls fresh6 ≡ true)
     × ((after calls fresh6).heap ≡ record { answer = 0x802A00000000003A; size = 4; cue = 9; pointers = 0x802A000000000039 ∷ 0x802A00000000003A ∷ []; bytes = 5 ∷ 6 ∷ 7 ∷ 0 ∷ [] }
     ∷ record { answer = 0x8010000000000020; size = 0; cue = 9; pointers = 0x8010000000000025 ∷ 0x8010000000000020 ∷ []; bytes = [] } ∷ [])
-    × (tally (after calls fresh6).state ≡ usage.Counts 2 4 66 42)
-    × (free_total (after calls fresh6).state ≡ Accepted 66)
-    × (distances 0x802A000000000039 (after calls fresh6).state ≡ Distances (negsuc 0) (pos 5))
-    × (distances 0x8010000000000020 (after calls fresh6).state ≡ Distances (pos 0) (pos 0))
+    × (tally (after calls fresh6).state ≡ usage_of 2 4 66 42)
+    × (free_total (after calls fresh6).state ≡ Ok 66)
+    × (distances 0x802A000000000039 (after calls fresh6).state ≡ measured_as (negsuc 0) (pos 5))
+    × (distances 0x8010000000000020 (after calls fresh6).state ≡ measured_as (pos 0) (pos 0))
 unfolding frame_number frame_number_in unpack pack good_tag reach landed moved wrapper tag_number pointer_to tag_matches used_entries entry_at encode decode field put superblock with_total superblock_good header header_at well_formed sound walk_in walk_from walk fit_of first_fit met_of walk_to set_up_checks fresh set_up opening entry_holds fit_answer taken_extent allocate_checks carved noted allocate_for header_place verified leads_back located from_start to_end in_body accessed distances_checks distances_at distances moved_answer move_answer move load_answer load store_checks store fill_checks fill copy_checks copy text_from text_of text_answer text_at copy_text_checks copy_text merge_end merge_start released free_checks released_at total_fits totalled free_release merged freed free walk_cue gathered_answer places_of all_held extents_of release_checks pointers_to cue_pointers free_each release_cue member owner_of inside change without passing write copied copied_text text_copied hear after all_admitted known count_of count_blocks tally_opened tally_counted tally free_total
 admitted-calls = (refl, refl, refl, refl, refl, refl)
 

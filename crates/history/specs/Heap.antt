@@ -1,15 +1,12 @@
 -- The abstract heap, document 01's "book": which objects live, by the calls' arguments and the answers of allocate and move. Assumes nothing.
-use Rattle.std.specs.Prelude.{ℕ, ◌+◌, ◌-◌, ◌^◌, ◌≡◌, Bool, true, false, not, cond, ◌&&◌, ◌||◌, List, [], ◌∷◌, ◌++◌, take, drop, replicate, leb, ltb, eqb}
-use Rattle.std.proofs.Math.Option.{Option, none, some}
+use Rattle.std.specs.Prelude.{ℕ, ◌+◌, ◌-◌, ◌^◌, ◌≡◌, Bool, true, false, not, cond, ◌&&◌, ◌||◌, List, [], ◌∷◌, ◌++◌, take, drop, replicate, leb, ltb, eqb, None, Option, Some}
 use Rattle.frame.specs.Pointers.{unpack}
 use Rattle.block.specs.Bytes.{encode, put}
 use Rattle.block.specs.Text.{text_of}
-use Rattle.block.specs.declared.text.Text.{Text}
-use Rattle.block.specs.declared.text.Text.TheVariants.{Ends, Endless}
 use Rattle.store.specs.State.{returned, value}
 use Rattle.store.specs.Calls.{good_width}
 use Rattle.store.specs.Step.{Call, allocates, frees, moves, loads, stores, fills, copies, copies_text, allocates_for, releases}
-use Rattle.store.specs.declared.answer.Answer.{Answer}
+use Rattle.store.specs.State.{Answer}
 
 -- A live object: allocate's answer, the size, the cue, the set of its pointers, and as many bytes as the size.
 pub record Object : Type 0 where
@@ -38,8 +35,8 @@ holds o p = member p o.pointers
 
 -- the pointer's object (its owner): the earliest allocated one whose set holds it
 unfoldable pub owner_of : Heap → ℕ → Option Object
-owner_of [] p = none
-owner_of (o ∷ os) p = cond (holds o p) (some o) (owner_of os p)
+owner_of [] p = None
+owner_of (o ∷ os) p = cond (holds o p) (Some o) (owner_of os p)
 
 -- how far behind the object's start the pointer's address is
 abbrev pub offset : Object → ℕ → ℕ
@@ -91,27 +88,27 @@ without_cue heap cue = passing (λ o. not (eqb o.cue cue)) heap
 
 -- n bytes written through a pointer of the object, where they all lie inside it
 unfoldable pub write : Option Object → ℕ → ℕ → List ℕ → Heap → Heap
-write none p n bytes heap = heap
-write (some o) p n bytes heap = cond (inside o p n) (change (written p bytes) heap p) heap
+write None p n bytes heap = heap
+write (Some o) p n bytes heap = cond (inside o p n) (change (written p bytes) heap p) heap
 
 -- n bytes of the source's object written through the target, where both lie inside their objects
 unfoldable pub copied : Option Object → ℕ → ℕ → ℕ → Heap → Heap
-copied none t p n heap = heap
-copied (some o) t p n heap = cond (inside o p n) (write (owner_of heap t) t n (bytes_at o p n) heap) heap
+copied None t p n heap = heap
+copied (Some o) t p n heap = cond (inside o p n) (write (owner_of heap t) t n (bytes_at o p n) heap) heap
 
 -- the text in the object's bytes from the pointer's address on
-abbrev pub text_in : Object → ℕ → Text
+abbrev pub text_in : Object → ℕ → Option ℕ
 text_in o p = text_of (drop (offset o p) o.bytes)
 
 -- a text written through the target, as a copy of its length plus one bytes; no change where no zero byte ends it
-unfoldable pub copied_text : Text → Option Object → ℕ → ℕ → Heap → Heap
-copied_text (Ends n) o t p heap = copied o t p (n + 1) heap
-copied_text Endless o t p heap = heap
+unfoldable pub copied_text : Option ℕ → Option Object → ℕ → ℕ → Heap → Heap
+copied_text (Some n) o t p heap = copied o t p (n + 1) heap
+copied_text None o t p heap = heap
 
 -- the text of the source's object written through the target
 unfoldable pub text_copied : Option Object → ℕ → ℕ → Heap → Heap
-text_copied none t p heap = heap
-text_copied (some o) t p heap = copied_text (text_in o p) (some o) t p heap
+text_copied None t p heap = heap
+text_copied (Some o) t p heap = copied_text (text_in o p) (Some o) t p heap
 
 -- an answer that says accepted
 abbrev pub accepted : Answer → Bool

@@ -1,19 +1,17 @@
 -- Demand 3, one claim about every list of calls from a freshly set up image and table, and demand 2's part on such lists: document 01,
 -- "Demand 3's list and book" and "Why a call was declined", and document 02. Assumes nothing.
-use Rattle.std.specs.Prelude.{ℕ, ◌+◌, ◌-◌, ◌^◌, ◌≤◌, ◌<◌, ◌≡◌, ◌⊎◌, ◌↔◌, Bool, true, false, ◌&&◌, ◌||◌, length, get_or, ltb, ℤ, pos, negsuc}
+use Rattle.store.specs.State.{measured_as}
+use Rattle.std.specs.Prelude.{ℕ, ◌+◌, ◌-◌, ◌^◌, ◌≤◌, ◌<◌, ◌≡◌, ◌⊎◌, ◌↔◌, Bool, true, false, ◌&&◌, ◌||◌, length, get_or, ltb, ℤ, pos, negsuc, Some}
 use mathlib.Core.List.{List, [], ◌∷◌, Memᴰ}
-use Rattle.std.proofs.Math.Option.{some}
 use Rattle.std.proofs.Math.IntN.{sub_ℕ}
 use Rattle.frame.specs.Pointers.{unpack, good_tag}
 use Rattle.frame.specs.Tags.{is_small, entry_of}
 use Rattle.block.specs.Bytes.{decode}
 use Rattle.block.specs.Order.{compare_bytes, sign}
-use Rattle.block.specs.declared.text.Text.TheVariants.{Ends}
 use Rattle.block.specs.Layout.{slot_exponent, extent_at, size_at, cue_at}
 use Rattle.store.specs.State.{State, Outcome, IsAccepted, returned, value, comparison_number, comparison_value}
 use Rattle.store.specs.Calls.{set_up, allocate_for, load, store, free, fill, copy, compare, copy_text, release_cue, good_width, leads_back, header_place, distances}
 use Rattle.store.specs.Step.{Call, allocates, frees, moves, loads, stores, fills, copies, copies_text, allocates_for, releases, step}
-use Rattle.store.specs.declared.measuring.Measurement.TheVariants.{Distances}
 use Rattle.history.specs.Heap.{Object, Heap, start, holds, owner_of, inside, bytes_at, text_in, of_cue, hear}
 
 -- Lists.
@@ -121,7 +119,7 @@ ReleasesCounted x =
 
 -- through a pointer of a live object, a call is accepted exactly when all n bytes lie inside the pointer's object
 abbrev pub Exactly : Configuration → ℕ → (ℕ → State → Outcome) → Type 0
-Exactly x n call = (o : Object) (p : ℕ) → owner_of x.heap p ≡ some o → IsAccepted (call p x.state) ↔ (inside o p n ≡ true)
+Exactly x n call = (o : Object) (p : ℕ) → owner_of x.heap p ≡ Some o → IsAccepted (call p x.state) ↔ (inside o p n ≡ true)
 
 abbrev pub LoadsExactly : Configuration → Type 0
 LoadsExactly x = (width : ℕ) → good_width width ≡ true → Exactly x width (λ p. load p width)
@@ -134,7 +132,7 @@ FillsExactly x = (n byte : ℕ) → 0 < n → n < 2 ^ 32 → byte < 256 → Exac
 
 -- a claim about pointers of two live objects, which may be one
 abbrev pub EachTwo : Configuration → (Object → Object → ℕ → ℕ → Type 0) → Type 0
-EachTwo x P = (o o' : Object) (p q : ℕ) → owner_of x.heap p ≡ some o → owner_of x.heap q ≡ some o' → P o o' p q
+EachTwo x P = (o o' : Object) (p q : ℕ) → owner_of x.heap p ≡ Some o → owner_of x.heap q ≡ Some o' → P o o' p q
 
 -- n bytes from each pointer's address on lie inside its object
 abbrev pub BothInside : Object → Object → ℕ → ℕ → ℕ → Type 0
@@ -154,18 +152,18 @@ ComparesExactly x =
 abbrev pub TextsExactly : Configuration → Type 0
 TextsExactly x =
     EachTwo x λ o o' t p.
-    IsAccepted (copy_text t p x.state) ↔ ((n : ℕ) × (text_in o' p ≡ Ends n) × BothInside o o' t p (n + 1))
+    IsAccepted (copy_text t p x.state) ↔ ((n : ℕ) × (text_in o' p ≡ Some n) × BothInside o o' t p (n + 1))
 
 -- the distances of a live object's pointer, in its body or not, are those from the object's start and to its end
 abbrev pub DistancesShown : Configuration → Type 0
 DistancesShown x =
-    (o : Object) (p : ℕ) → owner_of x.heap p ≡ some o
-    → distances p x.state ≡ Distances (sub_ℕ (unpack p).address (start o)) (sub_ℕ (start o + o.size) (unpack p).address)
+    (o : Object) (p : ℕ) → owner_of x.heap p ≡ Some o
+    → distances p x.state ≡ measured_as (sub_ℕ (unpack p).address (start o)) (sub_ℕ (start o + o.size) (unpack p).address)
 
 -- an accepted load gives the heap's bytes, little-endian
 abbrev pub LoadsBytes : Configuration → Type 0
 LoadsBytes x =
-    (o : Object) (p : ℕ) → owner_of x.heap p ≡ some o → (width : ℕ) → good_width width ≡ true
+    (o : Object) (p : ℕ) → owner_of x.heap p ≡ Some o → (width : ℕ) → good_width width ≡ true
     → IsAccepted (load p width x.state) → value (load p width x.state).answer ≡ decode (bytes_at o p width)
 
 -- an accepted compare gives how the heap's bytes stand to each other
@@ -177,7 +175,7 @@ ComparesBytes x =
 -- an accepted text copy gives the length of the heap's text plus one
 abbrev pub TextsCounted : Configuration → Type 0
 TextsCounted x =
-    EachTwo x λ o o' t p. (n : ℕ) → text_in o' p ≡ Ends n → IsAccepted (copy_text t p x.state) → value (copy_text t p x.state).answer ≡ n + 1
+    EachTwo x λ o o' t p. (n : ℕ) → text_in o' p ≡ Some n → IsAccepted (copy_text t p x.state) → value (copy_text t p x.state).answer ≡ n + 1
 
 -- a claim about the number that each allocate returns, for any cue (0 for none)
 abbrev pub EachAllocate : State → (ℕ → ℕ → Type 0) → Type 0

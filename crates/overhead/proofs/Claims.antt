@@ -6,8 +6,7 @@ use mathlib.Core.List.{List, [], ◌∷◌}
 use native.Mathlib.Omega.{arith}
 use lib.ListN.{length}
 use Rattle.overhead.specs.declared.answer.Fraction.{Fraction}
-use Rattle.overhead.specs.declared.answer.Report.{Report}
-use Rattle.overhead.specs.Overhead.{good_sizes, padded, headed, total, sums, fraction, report_of, refused, report}
+use Rattle.overhead.specs.Overhead.{good_sizes, padded, headed, total, sums, fraction, report_of, refused, report, Report}
 use Rattle.overhead.specs.Claims.{BadSize, no_bytes, too_large, Zeros, Refuses, RefusesInOrder, Summed, SumsExactly, Fits, NoneOverflows, Overheads, ExtraOverRaw}
 use Rattle.overhead.specs.laws.Totals.{sums_fit, headed-total, raw_padded, raw_some, sums-ordered, all_placed, placed_once}
 use Rattle.overhead.specs.laws.Rows.{size_good, size_bad, Verdict, long, bad, good, verdict, fraction_some}

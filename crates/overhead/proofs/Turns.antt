@@ -1,146 +1,86 @@
--- Turns of the loops over the sizes, and the length in bits of a padded size. Assumes nothing.
-use Prim.Native.Nat.{ℕ, suc, ◌+◌, ◌-◌, ◌*◌, ◌%◌, ◌^◌, ◌≤◌, ◌<◌, max}
-use mathlib.Core.Path.{◌≡◌, refl, sym, ap, ◌∙◌}
-use mathlib.Core.Bool.{true, false}
-use mathlib.Core.List.{List, ◌∷◌}
-use native.Mathlib.Nat.{one-mul, div-mul-le_self}
-use native.Mathlib.Numerals.{add-one}
-use native.Mathlib.Omega.{arith}
-use lib.Count.{count_leading_zeros, leading_top}
-use lib.ListN.{length, get_or, drop, drop_of_length-le}
-use lib.Pow.{shl_exact}
-use lib.Seq.{drop-cons}
-use Rattle.overhead.specs.declared.answer.Sums.{Sums}
-use Rattle.overhead.specs.Overhead.{good_size, good_sizes, padded, block_start, block_end, end_from, headed, total, sums, report_of}
-use Rattle.overhead.specs.Claims.{LowestPower}
-use Rattle.overhead.specs.laws.Padding.{half_at_most, lowest_power, one_power, padded_some}
-use Rattle.overhead.specs.laws.Totals.{good_head_lem, good_tail, end_least, sums_fit}
+-- The definitions over the sizes in the words of `std`, and their bounds. Assumes nothing.
+use Rattle.std.proofs.Common.{◌≡◌, ℕ, zero, suc, ◌+◌, ◌-◌, ◌*◌, ◌/◌, ◌^◌, ◌≤◌, ◌<◌, max, true, ◌&&◌, List, [], ◌∷◌, refl, sym, ap, ◌∙◌, length, pow-suc, add-one, get_or, drop, drop-cons, div-mul-le_self, arith}
+use Rattle.std.specs.Int.{IsPowerOfTwo}
+use Rattle.std.specs.List.{list_all, sum_by}
+use Rattle.std.proofs.lemmas.List.Recursion.{is_sum_by}
+use Rattle.std.proofs.Math.ListN.{drop_of_length-le}
+use Rattle.overhead.specs.Overhead.{good_size, good_sizes, padded, block_start, block_end, end_from, headed, total, Sums, sums}
+use Rattle.overhead.specs.laws.Padding.{half_at_most, lowest_power, one_power, padded_most, padded_some}
+use Rattle.overhead.specs.laws.Totals.{total_most, headed-total}
+use Rattle.overhead.specs.laws.Rows.{size_good}
 
--- Padded blocks.
+-- a power of two whose half is under another is no more than that
+at_most : {p : ℕ} (m n : ℕ) → p ≡ 2 ^ m → 16 ≤ p → p / 2 < 2 ^ n → p ≤ 2 ^ n
+at_most zero n is some half = let one : 2 ^ 0 ≡ 1 = refl in absurd (omega arith)
+at_most (suc m) n is some half = let twice = pow-suc 2 m in let below : 2 ^ m < 2 ^ n = omega (arith, rw pow-suc at is) in omega (arith, half_at_most m n below)
 
--- one less than the bytes to hold has a bit
-pub some_length : (size held : ℕ) → size ≤ 65536 → held ≡ max size 16 → count_leading_zeros 32 (held - 1) < 32
-some_length size held h is = omega (arith, (leading_top 32 (held - 1) (omega arith) (omega arith)).1)
-
--- 2 to its length in bits is the lowest power that is not under the size
-pub by_length : (size held : ℕ) → size ≤ 65536 → held ≡ max size 16 → (1 * 2 ^ (32 - count_leading_zeros 32 (held - 1))) % 2 ^ 64 ≡ padded size
-by_length size held h is =
-    let (j, e, l, m) = leading_top 32 (held - 1) (omega arith) (omega arith) in
-    let length_is : 32 - count_leading_zeros 32 (held - 1) ≡ suc j = omega arith in
-    let lowest : LowestPower size (2 ^ suc j) =
-    record {
-      power = (suc j, refl);
-      least = omega arith;
-      covers = omega arith;
-      lowest = λ n a b. half_at_most j n (omega arith);
-    } in
-    ap (λ (n : ℕ). (1 * 2 ^ n) % 2 ^ 64) length_is
-    ∙ shl_exact {a = 1} 1 (suc j) 64 (omega arith) (omega arith)
-    ∙ one-mul (2 ^ suc j)
-    ∙ one_power size (2 ^ suc j) (padded size) lowest (lowest_power size)
+-- the next power of two from 16 on is the padded size
+pub next_power : (size p : ℕ) → IsPowerOfTwo p → max size 16 ≤ p → p / 2 < max 1 (max size 16) → p ≡ padded size
+next_power size p power covers next =
+    one_power size p (padded size) (record { power = power; least = omega arith; covers = omega arith; lowest = lowest }) (lowest_power size)
+  where
+    lowest : (n : ℕ) → 16 ≤ 2 ^ n → size ≤ 2 ^ n → p ≤ 2 ^ n
+    lowest n a b = at_most power.0 n power.1 (omega arith) (omega arith)
 
 -- a block starts no further than p - 1 bytes behind the previous end
 pub start_most : (p from : ℕ) → block_start p from ≤ from + (p - 1)
 start_most p from = div-mul-le_self (from + (p - 1)) p
 
--- Good sizes: what is left to look at says what the whole list says.
-
-pub good_turn :
-    (sizes : List ℕ) (i : ℕ) → i < length sizes → good_size (get_or sizes i 0) ≡ true → good_sizes (drop i sizes) ≡ good_sizes (drop (i + 1) sizes)
+pub good_all : (sizes : List ℕ) → good_sizes sizes ≡ list_all good_size sizes
 unfolding good_sizes
-good_turn sizes i h g = rw (add-one i, drop-cons sizes i 0 h, g)
+good_all [] = refl
+good_all (size ∷ sizes) = ap (λ b. good_size size && b) (good_all sizes)
 
-pub bad_turn : (sizes : List ℕ) (i : ℕ) → i < length sizes → good_size (get_or sizes i 0) ≡ false → good_sizes (drop i sizes) ≡ false
-unfolding good_sizes
-bad_turn sizes i h g = rw (drop-cons sizes i 0 h, g)
+pub total_is : (f : ℕ → ℕ) (sizes : List ℕ) → total f sizes ≡ sum_by f sizes
+unfolding total
+total_is f = is_sum_by (total f) f refl (λ size sizes. refl)
 
-pub good_end : (sizes : List ℕ) (i : ℕ) → length sizes ≤ i → good_sizes (drop i sizes) ≡ true
-unfolding good_sizes
-good_end sizes i h = rw (drop_of_length-le sizes h)
+-- a sum of at most c for each size
+pub sum_most : (f : ℕ → ℕ) (c : ℕ) → ((size : ℕ) → size ≤ 65536 → f size ≤ c) → (sizes : List ℕ) → good_sizes sizes ≡ true → sum_by f sizes ≤ length sizes * c
+sum_most f c each sizes good = rw (← total_is f sizes) (total_most f c each sizes good)
 
--- Sums.
+-- Blocks placed one behind the other.
 
--- where the loop stands: each sum, with that over the sizes from i on, is that over all
-pub record Summing (sizes : List ℕ) (raw headers blocks end i : ℕ) : Type 0 where
-  pub inside : i ≤ length sizes
-  pub raw_is : raw + total (λ size. size) (drop i sizes) ≡ total (λ size. size) sizes
-  pub headed_is : headers + total headed (drop i sizes) ≡ total headed sizes
-  pub padded_is : blocks + total padded (drop i sizes) ≡ total padded sizes
+-- where the loop stands: bytes and end, with those of the sizes from i on, are those of all; gaps are no more than blocks
+pub record Placing (sizes : List ℕ) (bytes end i : ℕ) : Type 0 where
+  pub bytes_most : bytes ≤ 65536 * i
+  pub end_most : end ≤ 2 * bytes
+  pub bytes_is : bytes + total padded (drop i sizes) ≡ total padded sizes
   pub end_is : end_from end (drop i sizes) ≡ end_from 0 sizes
-  pub good : good_sizes (drop i sizes) ≡ true
 
-pub summing_begins : (sizes : List ℕ) → good_sizes sizes ≡ true → Summing sizes 0 0 0 0 0
-summing_begins sizes g =
-    record { inside = omega arith; raw_is = omega arith; headed_is = omega arith; padded_is = omega arith; end_is = refl; good = g }
+pub placing_begins : (sizes : List ℕ) → Placing sizes 0 0 0
+placing_begins sizes = record { bytes_most = omega arith; end_most = omega arith; bytes_is = omega arith; end_is = refl }
 
--- a turn takes the size at i out of what is left
-total_turn :
-    (f : ℕ → ℕ) (sizes : List ℕ) (i : ℕ) → i < length sizes → total f (drop i sizes) ≡ f (get_or sizes i 0) + total f (drop (i + 1) sizes)
-unfolding total
-total_turn f sizes i h = rw (add-one i, drop-cons sizes i 0 h)
+pub placing_goes_on : (sizes : List ℕ) {bytes end i : ℕ} → Placing sizes bytes end i → i < length sizes → good_sizes sizes ≡ true
+    → Placing sizes (bytes + padded (get_or sizes i 0)) (block_end (padded (get_or sizes i 0)) end) (i + 1)
+unfolding total end_from
+placing_goes_on sizes {bytes} {end} {i} now h good =
+    let size : ℕ = get_or sizes i 0 in
+    let left : drop i sizes ≡ size ∷ drop (i + 1) sizes = rw (add-one i) (drop-cons sizes i 0 h) in
+    let most = padded_most size (size_good sizes good i h).1 in
+    let total_is = rw left at now.bytes_is in
+    let end_is = rw left at now.end_is in
+    record {
+      bytes_most = omega (arith, now.bytes_most, most);
+      end_most = omega (arith, now.end_most, start_most (padded size) end, padded_some size);
+      bytes_is = omega (arith, total_is);
+      end_is = end_is;
+    }
 
-end_turn :
-    (sizes : List ℕ) (i end : ℕ) → i < length sizes → end_from end (drop i sizes) ≡ end_from (block_end (padded (get_or sizes i 0)) end) (drop (i + 1) sizes)
-unfolding end_from
-end_turn sizes i end h = rw (add-one i, drop-cons sizes i 0 h)
+pub placing_ends : (sizes : List ℕ) {bytes end i : ℕ} → Placing sizes bytes end i → length sizes ≤ i
+    → (bytes ≡ total padded sizes) × (end ≡ end_from 0 sizes)
+unfolding total end_from
+placing_ends sizes {bytes} {end} {i} now h =
+    let none = drop_of_length-le sizes {i = i} h in
+    let total_is = rw none at now.bytes_is in
+    let end_is = rw none at now.end_is in
+    (omega (arith, total_is), end_is)
 
-good_left : (sizes : List ℕ) (i : ℕ) → i < length sizes → good_sizes (drop i sizes) ≡ true → good_sizes (get_or sizes i 0 ∷ drop (i + 1) sizes) ≡ true
-good_left sizes i h g = rw (drop-cons sizes i 0 h, ← add-one i) at g
-
--- what a turn knows of the size at i and its padded block of p bytes: no sum that it makes passes 2^33
-pub record Turn (size p raw headers blocks end : ℕ) : Type 0 where
-  pub most : size ≤ 65536
-  pub some : 0 < p
-  pub raw_fits : raw + size ≤ 2 ^ 33
-  pub headed_fits : headers + (size + 16) ≤ 2 ^ 33
-  pub padded_fits : blocks + p ≤ 2 ^ 33
-  pub end_fits : end + p ≤ 2 ^ 33
-
-module _ (sizes : List ℕ) (few : length sizes ≤ 65536) (good : good_sizes sizes ≡ true)
-    {raw headers blocks end i : ℕ} (now : Summing sizes raw headers blocks end i) (h : i < length sizes) where
-  pub turn : (size p : ℕ) → size ≡ get_or sizes i 0 → p ≡ padded (get_or sizes i 0) → Turn size p raw headers blocks end
-  unfolding report_of sums
-  turn size p e pads =
-      let f = sums_fit sizes few good in
-      let t = total_turn padded sizes i h in
-      record {
-        most = omega (arith, (good_head_lem (get_or sizes i 0) (drop (i + 1) sizes) (good_left sizes i h now.good)).1);
-        some = omega (arith, padded_some (get_or sizes i 0));
-        raw_fits = omega (arith, f.raw, now.raw_is, total_turn (λ size. size) sizes i h);
-        headed_fits = omega (arith, f.headed, now.headed_is, total_turn headed sizes i h);
-        padded_fits = omega (arith, f.padded, now.padded_is, t);
-        end_fits = omega (arith, f.end, now.end_is, end_least (drop i sizes) end, t);
-      }
-
-  pub summing_goes_on :
-      (size p next : ℕ) → size ≡ get_or sizes i 0 → p ≡ padded (get_or sizes i 0) → next ≡ block_end p end
-      → Summing sizes (raw + size) (headers + (size + 16)) (blocks + p) next (i + 1)
-  summing_goes_on size p next e pads ends =
-      record {
-        inside = omega arith;
-        raw_is = omega (arith, now.raw_is, total_turn (λ size. size) sizes i h);
-        headed_is = omega (arith, now.headed_is, total_turn headed sizes i h);
-        padded_is = omega (arith, now.padded_is, total_turn padded sizes i h);
-        end_is = rw (ends, pads, ← end_turn sizes i end h) now.end_is;
-        good = good_tail (get_or sizes i 0) (drop (i + 1) sizes) (good_left sizes i h now.good);
-      }
-
--- nothing is left
-total-end : (f : ℕ → ℕ) (sizes : List ℕ) (i : ℕ) → length sizes ≤ i → total f (drop i sizes) ≡ 0
-unfolding total
-total-end f sizes i h = rw (drop_of_length-le sizes h)
-
-end-end : (sizes : List ℕ) (i end : ℕ) → length sizes ≤ i → end_from end (drop i sizes) ≡ end
-unfolding end_from
-end-end sizes i end h = rw (drop_of_length-le sizes h)
-
-pub summing_ends :
-    (sizes : List ℕ) (raw headers blocks end i : ℕ) → Summing sizes raw headers blocks end i → length sizes ≤ i
-    → ◌≡◌ {A = Sums} (record { raw = raw; headed = headers; padded = blocks; end = end }) (sums sizes)
+-- the sums, one by one
+pub summed : (sizes : List ℕ) (raw blocks end : ℕ) → raw ≡ sum_by (λ size. size) sizes → blocks ≡ total padded sizes → end ≡ end_from 0 sizes
+    → ◌≡◌ {A = Sums} (record { raw = raw; headed = raw + 16 * length sizes; padded = blocks; end = end }) (sums sizes)
 unfolding sums
-summing_ends sizes raw headers blocks end i now h =
-    let a : raw ≡ total (λ size. size) sizes = omega (arith, now.raw_is, total-end (λ size. size) sizes i h) in
-    let b : headers ≡ total headed sizes = omega (arith, now.headed_is, total-end headed sizes i h) in
-    let c : blocks ≡ total padded sizes = omega (arith, now.padded_is, total-end padded sizes i h) in
-    let d : end ≡ end_from 0 sizes = sym (end-end sizes i end h) ∙ now.end_is in
-    λ k. record { raw = a k; headed = b k; padded = c k; end = d k }
+summed sizes raw blocks end r b e =
+    let raw_is : raw ≡ total (λ size. size) sizes = r ∙ sym (total_is (λ size. size) sizes) in
+    let headed_is : raw + 16 * length sizes ≡ total headed sizes = omega (arith, raw_is, headed-total sizes) in
+    λ k. record { raw = raw_is k; headed = headed_is k; padded = b k; end = e k }

@@ -1,7 +1,6 @@
 -- What the overhead report promises: document 02, W14. Assumes nothing.
 use Rattle.std.specs.Prelude.{ℕ, ◌+◌, ◌*◌, ◌^◌, ◌≤◌, ◌<◌, ◌≡◌, ◌↔◌, List, [], ◌∷◌, length, get_or}
-use Rattle.overhead.specs.declared.answer.Report.{Report}
-use Rattle.overhead.specs.Overhead.{total, report}
+use Rattle.overhead.specs.Overhead.{total, report, Report}
 
 -- The rows.
 

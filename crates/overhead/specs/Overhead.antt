@@ -1,9 +1,10 @@
 -- The overhead report against padded blocks: document 02, W14. Assumes nothing.
-use Rattle.std.specs.Prelude.{ℕ, zero, suc, ◌+◌, ◌-◌, ◌*◌, ◌/◌, Bool, true, false, cond, ◌&&◌, List, [], ◌∷◌, length, leb}
+use Rattle.std.specs.Prelude.{ℕ, zero, suc, ◌+◌, ◌-◌, ◌*◌, ◌/◌, Bool, true, false, cond, ◌&&◌, List, [], ◌∷◌, length, leb, Result, Ok, Err}
 use Rattle.block.specs.Layout.{within}
 use Rattle.overhead.specs.declared.answer.Fraction.{Fraction}
-use Rattle.overhead.specs.declared.answer.Sums.{Sums}
-use Rattle.overhead.specs.declared.answer.Report.{Report}
+use Rattle.overhead.specs.declared.answer.Report.{Report as Given}
+use Rattle.overhead.specs.declared.answer.Refusal.{Refusal}
+use Rattle.overhead.specs.declared.answer.Refusal.TheVariants.{TooMany, BadSize}
 
 -- What is taken.
 
@@ -55,6 +56,13 @@ unfoldable pub total : (ℕ → ℕ) → List ℕ → ℕ
 total f [] = 0
 total f (size ∷ sizes) = f size + total f sizes
 
+-- sums over the sizes, in bytes: raw, with headers, padded, and the end that padded blocks reach
+pub record Sums : Type 0 where
+  pub raw : ℕ
+  pub headed : ℕ
+  pub padded : ℕ
+  pub end : ℕ
+
 -- the exact sums; the end is that of blocks from 0 on
 unfoldable pub sums : List ℕ → Sums
 sums sizes =
@@ -63,6 +71,16 @@ sums sizes =
 -- the extra bytes over raw bytes; 0 over 1 where there are none
 unfoldable pub fraction : ℕ → ℕ → Fraction
 fraction bytes raw = cond (leb raw 0) (record { extra = 0; over = 1 }) (record { extra = bytes - raw; over = raw })
+
+-- the answer as C sees it: row 0, the sums and the overheads, or a refusal's row and zeros
+pub record Report : Type 0 where
+  pub row : ℕ
+  pub raw : ℕ
+  pub headed : ℕ
+  pub padded : ℕ
+  pub end : ℕ
+  pub headers : Fraction
+  pub padding : Fraction
 
 -- the sums, and the overheads of headers and of padding without gaps
 unfoldable pub report_of : Sums → Report
@@ -86,3 +104,14 @@ refused row =
 -- the answer: 28, then 29
 unfoldable pub report : List ℕ → Report
 report sizes = cond (good_count sizes) (cond (good_sizes sizes) (report_of (sums sizes)) (refused 29)) (refused 28)
+
+-- document 02's number of a refusal
+abbrev pub refusal_number : Refusal → ℕ
+refusal_number TooMany = 28
+refusal_number BadSize = 29
+
+-- the answer that a result stands for
+abbrev pub answered : Result Given Refusal → Report
+answered (Ok r) =
+    record { row = 0; raw = r.raw; headed = r.headed; padded = r.padded; end = r.end; headers = r.headers; padding = r.padding }
+answered (Err r) = refused (refusal_number r)

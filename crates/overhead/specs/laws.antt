@@ -2,3 +2,4 @@
 pub mod Padding
 pub mod Totals
 pub mod Rows
+pub mod Answered

@@ -4,8 +4,6 @@
 mod answer;
 mod padding;
 mod reporting;
-mod sizes;
-mod totals;
 
-pub use answer::{Fraction, Report};
+pub use answer::{Fraction, Refusal, Report};
 pub use reporting::report;

@@ -8,9 +8,8 @@ use lib.ListN.{length}
 use lib.Dec.{leb}
 use borrow.Author.Tests.{leb-true, leb-false}
 use Rattle.block.specs.laws.Booleans.{by_bool, and_both, true_false}
-use Rattle.placement.specs.declared.answer.Placement.{Placement}
 use Rattle.placement.specs.Orders.{order_at, Before}
-use Rattle.placement.specs.Placement.{good_sizes, good_plan, large, best_order, eight_places, found, refused, placement}
+use Rattle.placement.specs.Placement.{good_sizes, good_plan, large, best_order, eight_places, found, refused, Placement, placement}
 use Rattle.placement.specs.Claims.{TriesAll, BadPlan, no_sizes, too_many, too_large, low_exponent, high_exponent, Refuses, RefusesInOrder}
 use Rattle.placement.specs.Claims.{FirstBest, FindsFirstBest, NoneFewerAtAll, NoneUnderFloor}
 use Rattle.placement.specs.laws.Picks.{all-orders}

@@ -1,80 +1,97 @@
--- The search: a turn of the loop over the orders, and the budget. Assumes nothing.
-use Prim.Native.Nat.{ℕ, suc, ◌+◌, ◌≤◌, ◌<◌, min}
-use mathlib.Core.Path.{◌≡◌, sym, ap, ◌∙◌}
-use mathlib.Core.List.{List, [], ◌∷◌}
+-- The search: the fold over the orders' numbers, and the budget. Assumes nothing.
+use Prim.Native.Nat.{ℕ, zero, suc, ◌+◌, ◌≤◌, ◌<◌, min}
+use mathlib.Core.Path.{◌≡◌, refl, sym, ap, ◌∙◌, subst}
+use mathlib.Core.List.{List, [], ◌∷◌, map}
 use native.Mathlib.Numerals.{add-one}
 use native.Mathlib.Omega.{arith}
 use lib.ListN.{length, take, drop, drop_of_length-le}
-use lib.Dec.{leb}
+use lib.Dec.{ltb, leb}
 use lib.Seq.{drop-cons, take_all}
-use borrow.Author.Tests.{leb-true, leb-false}
+use borrow.Author.Tests.{ltb-true, ltb-false, leb-true, leb-false}
+use Rattle.std.specs.List.{fold, reduce, range_with_len}
+use Rattle.std.specs.Option.{MatchOption}
+use Rattle.std.specs.Ordering.{min_by_ordering, ordering_then, nat_cmp}
+use Rattle.std.proofs.lemmas.Bool.Decides.{nat_tests}
 use Rattle.block.specs.laws.Booleans.{by_bool}
 use Rattle.placement.specs.Orders.{orders, order_at, factorial}
 use Rattle.placement.specs.Placement.{large, least_from, first_least, best_order}
 use Rattle.placement.specs.laws.Picks.{all-orders}
 use Rattle.placement.specs.laws.Least.{takes, keeps}
-use Rattle.placement.specs.laws.Rows.{tried_length, tried_at}
+use Rattle.placement.specs.laws.Rows.{BestFound, tried_length, tried_at}
 
--- where the loop stands: the best so far and the orders that are left have the first best of all that are tried
-pub record Searching (s : ℕ) (sizes : List ℕ) (tried index least i : ℕ) : Type 0 where
-  pub was_tried : index < i
-  pub inside : i ≤ tried
-  pub least_is : least ≡ large s sizes (order_at (length sizes) index)
-  pub is : least_from (large s sizes) (order_at (length sizes) index) (drop i (take tried (orders (length sizes)))) ≡ best_order s sizes tried
+-- The lesser of two pairs, as `min` picks it.
 
--- the next order, and those behind it
-next_order : (n tried i : ℕ) → tried ≤ factorial n → i < tried → drop i (take tried (orders n)) ≡ order_at n i ∷ drop (i + 1) (take tried (orders n))
-next_order n tried i m h =
-    drop-cons (take tried (orders n)) i [] (omega (arith, tried_length n tried))
-    ∙ ap (λ (o : List ℕ). o ∷ drop (suc i) (take tried (orders n))) (tried_at n tried i (omega arith))
-    ∙ ap (λ (k : ℕ). order_at n i ∷ drop k (take tried (orders n))) (sym (add-one i))
+abbrev pub lesser : ℕ × ℕ → ℕ × ℕ → ℕ × ℕ
+lesser best next = min_by_ordering (ordering_then (nat_cmp best.0 next.0) (nat_cmp best.1 next.1)) best next
 
--- it begins with the first order
-pub searching_begins : (s : ℕ) (sizes : List ℕ) (tried least : ℕ) → 0 < tried → tried ≤ factorial (length sizes) → least ≡ large s sizes (order_at (length sizes) 0)
-    → Searching s sizes tried 0 least 1
-unfolding best_order first_least
-searching_begins s sizes tried least h m l =
-    record {
-      was_tried = omega arith;
-      inside = omega arith;
-      least_is = l;
-      is = sym (ap (first_least (large s sizes)) (next_order (length sizes) tried 0 m h));
-    }
+lesser_takes : (best next : ℕ × ℕ) → next.0 < best.0 → lesser best next ≡ next
+lesser_takes best next l = grind (arith, nat_tests)
 
-module _ (s : ℕ) (sizes : List ℕ) (tried : ℕ) {index least i : ℕ} (now : Searching s sizes tried index least i) (m : tried ≤ factorial (length sizes)) (h : i < tried)
-    (count : ℕ) (count_is : count ≡ large s sizes (order_at (length sizes) i)) where
-  -- the best so far against the next order, and those behind it
-  met : least_from (large s sizes) (order_at (length sizes) index) (order_at (length sizes) i ∷ drop (i + 1) (take tried (orders (length sizes)))) ≡ best_order s sizes tried
-  met = ap (least_from (large s sizes) (order_at (length sizes) index)) (sym (next_order (length sizes) tried i m h)) ∙ now.is
+lesser_keeps : (best next : ℕ × ℕ) → best.0 ≤ next.0 → best.1 < next.1 → lesser best next ≡ best
+lesser_keeps best next l m = grind (arith, nat_tests)
 
-  -- the next order has fewer
-  pub searching_takes : count < least → Searching s sizes tried i count (i + 1)
-  searching_takes l =
-      record {
-        was_tried = omega arith;
-        inside = omega arith;
-        least_is = count_is;
-        is = sym (takes (large s sizes) (order_at (length sizes) index) (order_at (length sizes) i) _ (omega (arith, now.least_is))) ∙ met;
-      }
+-- The orders by their numbers.
 
-  -- it has no fewer
-  pub searching_keeps : least ≤ count → Searching s sizes tried index least (i + 1)
-  searching_keeps l =
-      record {
-        was_tried = omega (arith, now.was_tried);
-        inside = omega arith;
-        least_is = now.least_is;
-        is = sym (keeps (large s sizes) (order_at (length sizes) index) (order_at (length sizes) i) _ (omega (arith, now.least_is))) ∙ met;
-      }
+-- an order's large-framed objects, and its number
+abbrev pub pair : ℕ → List ℕ → ℕ → ℕ × ℕ
+pair s sizes i = (large s sizes (order_at (length sizes) i), i)
 
--- no order is left
-pub searching_ends : (s : ℕ) (sizes : List ℕ) (tried : ℕ) {index least i : ℕ} → Searching s sizes tried index least i → tried ≤ factorial (length sizes) → tried ≤ i
-    → order_at (length sizes) index ≡ best_order s sizes tried
-unfolding least_from
-searching_ends s sizes tried {index} {least} {i} now m h =
-    let none : drop i (take tried (orders (length sizes))) ≡ [] =
-    drop_of_length-le (take tried (orders (length sizes))) {i = i} (omega (arith, tried_length (length sizes) tried)) in
-    sym (ap (least_from (large s sizes) (order_at (length sizes) index)) none) ∙ now.is
+module _ (s : ℕ) (sizes : List ℕ) (tried : ℕ) (most : tried ≤ factorial (length sizes)) where
+  -- before number i: the best so far and the orders that are left have the first best of all that are tried
+  record Searching (best : ℕ × ℕ) (i : ℕ) : Type 0 where
+    pub was_tried : best.1 < i
+    pub large_is : best.0 ≡ large s sizes (order_at (length sizes) best.1)
+    pub is : least_from (large s sizes) (order_at (length sizes) best.1) (drop i (take tried (orders (length sizes)))) ≡ best_order s sizes tried
+
+  -- the next order, and those behind it
+  next_order : (i : ℕ) → i < tried → drop i (take tried (orders (length sizes))) ≡ order_at (length sizes) i ∷ drop (i + 1) (take tried (orders (length sizes)))
+  next_order i h =
+      let n : ℕ = length sizes in
+      drop-cons (take tried (orders n)) i [] (omega (arith, tried_length n tried))
+      ∙ ap (λ (o : List ℕ). o ∷ drop (suc i) (take tried (orders n))) (tried_at n tried i (omega arith))
+      ∙ ap (λ (k : ℕ). order_at n i ∷ drop k (take tried (orders n))) (sym (add-one i))
+
+  -- it begins with the first order
+  begins : 0 < tried → Searching (pair s sizes 0) 1
+  unfolding best_order first_least
+  begins h = record { was_tried = omega arith; large_is = refl; is = sym (ap (first_least (large s sizes)) (next_order 0 h)) }
+
+  goes_on : (best : ℕ × ℕ) (i : ℕ) → Searching best i → i < tried → Searching (lesser best (pair s sizes i)) (i + 1)
+  goes_on best i now h =
+      let f : List ℕ → ℕ = large s sizes in
+      let order : List ℕ = order_at (length sizes) i in
+      let so_far : List ℕ = order_at (length sizes) best.1 in
+      let rest : List (List ℕ) = drop (i + 1) (take tried (orders (length sizes))) in
+      let met : least_from f so_far (order ∷ rest) ≡ best_order s sizes tried = ap (least_from f so_far) (sym (next_order i h)) ∙ now.is in
+      by_bool (ltb (f order) best.0)
+      (λ t.
+      let l = ltb-true (f order) best.0 t in
+      rw (lesser_takes best (pair s sizes i) l)
+      (record { was_tried = omega arith; large_is = refl; is = sym (takes f so_far order rest (omega (arith, now.large_is))) ∙ met }))
+      (λ t.
+      let l = ltb-false (f order) best.0 t in
+      rw (lesser_keeps best (pair s sizes i) l now.was_tried)
+      (record { was_tried = omega (arith, now.was_tried); large_is = now.large_is; is = sym (keeps f so_far order rest (omega (arith, now.large_is))) ∙ met }))
+
+  -- no order is left
+  ends : (best : ℕ × ℕ) → Searching best tried → BestFound s sizes tried best
+  unfolding least_from
+  ends best now =
+      let none : drop tried (take tried (orders (length sizes))) ≡ [] =
+      drop_of_length-le (take tried (orders (length sizes))) {i = tried} (omega (arith, tried_length (length sizes) tried)) in
+      let is : order_at (length sizes) best.1 ≡ best_order s sizes tried =
+      sym (ap (least_from (large s sizes) (order_at (length sizes) best.1)) none) ∙ now.is in
+      record { was_tried = now.was_tried; order_is = is; large_is = now.large_is ∙ ap (large s sizes) is }
+
+  folds : (k i : ℕ) (best : ℕ × ℕ) → Searching best i → i + k ≡ tried → BestFound s sizes tried (fold lesser best (map (pair s sizes) (range_with_len i k)))
+  folds zero i best now e = let last : i ≡ tried = omega arith in ends best (subst (Searching best) last now)
+  folds (suc k) i best now e = folds k (i + 1) (lesser best (pair s sizes i)) (goes_on best i now (omega arith)) (omega arith)
+
+-- the least pair of all that are tried, if any are
+pub least_is_best : (s : ℕ) (sizes : List ℕ) (tried : ℕ) → tried ≤ factorial (length sizes)
+    → MatchOption (reduce lesser (map (pair s sizes) (range_with_len 0 tried))) (tried ≡ 0) (λ best. BestFound s sizes tried best)
+least_is_best s sizes zero most = refl
+least_is_best s sizes (suc k) most = folds s sizes (suc k) most k 1 (pair s sizes 0) (begins s sizes (suc k) most (omega arith)) (omega arith)
 
 -- The budget.
 

@@ -1,65 +1,50 @@
--- Turns of the loops over the sizes. Assumes nothing.
-use Prim.Native.Nat.{ℕ, ◌+◌, ◌*◌, ◌%◌, ◌^◌, ◌≤◌, ◌<◌}
-use mathlib.Core.Path.{◌≡◌}
-use mathlib.Core.Bool.{true, false}
-use mathlib.Core.List.{List}
-use native.Mathlib.Numerals.{add-one}
-use native.Mathlib.Omega.{arith}
-use lib.ListN.{length, get_or, drop, drop_of_length-le}
-use lib.Dec.{ltb}
-use lib.Seq.{drop-cons}
-use borrow.Author.Tests.{lt-ltb, le-ltb, le-leb, lt-leb}
-use Rattle.placement.specs.Placement.{good_sizes, oversized, floor_of}
-use Rattle.placement.specs.laws.Counts.{bit_most}
-use Rattle.placement.proofs.Shifts.{one_shl}
+-- The definitions over the sizes in the words of `std`, and a turn of the loop over an order. Assumes nothing.
+use Rattle.std.proofs.Common.{◌≡◌, ℕ, ◌+◌, ◌*◌, ◌^◌, ◌≤◌, ◌<◌, List, [], ◌∷◌, Bool, true, false, cond, ◌&&◌, refl, ap, leb, ltb, not, length, get_or, drop, drop-cons, add-one, arith}
+use Rattle.std.specs.List.{list_all, count_by}
+use Rattle.std.proofs.lemmas.List.Recursion.{is_count_by}
+use Rattle.frame.specs.Pointers.{bit}
+use Rattle.std.proofs.Math.ListN.{drop_of_length-le}
+use Rattle.frame.specs.Tags.{is_small, last_held}
+use Rattle.placement.specs.Placement.{good_sizes, floor_of, large_at, large_from, large}
+use Rattle.placement.specs.laws.Counts.{bit_most, large_none, large_one}
 
--- Good sizes: what is left to look at says what the whole list says.
-
-pub good_turn : (sizes : List ℕ) (i : ℕ) → i < length sizes → get_or sizes i 0 ≤ 65535 → good_sizes (drop i sizes) ≡ good_sizes (drop (i + 1) sizes)
+pub good_all : (sizes : List ℕ) → good_sizes sizes ≡ list_all (λ size. leb size 65535) sizes
 unfolding good_sizes
-good_turn sizes i h g = rw (add-one i, drop-cons sizes i 0 h, le-leb (get_or sizes i 0) 65535 g)
+good_all [] = refl
+good_all (size ∷ sizes) = ap (λ b. leb size 65535 && b) (good_all sizes)
 
-pub bad_turn : (sizes : List ℕ) (i : ℕ) → i < length sizes → 65535 < get_or sizes i 0 → good_sizes (drop i sizes) ≡ false
-unfolding good_sizes
-bad_turn sizes i h g = rw (drop-cons sizes i 0 h, lt-leb (get_or sizes i 0) 65535 g)
+bit_plus : (b : Bool) (n : ℕ) → bit b + n ≡ cond b (1 + n) n
+bit_plus true n = refl
+bit_plus false n = omega arith
 
-pub good_end : (sizes : List ℕ) (i : ℕ) → length sizes ≤ i → good_sizes (drop i sizes) ≡ true
-unfolding good_sizes
-good_end sizes i h = rw (drop_of_length-le sizes h)
-
--- The floor.
-
-pub fits_none : (s size : ℕ) → s < 64 → (1 * 2 ^ s) % 2 ^ 64 < 17 + size → 1 ≡ oversized s size
-fits_none s size h l = rw (lt-ltb (2 ^ s) (17 + size) (omega (arith, one_shl s h)))
-
-pub fits_one : (s size : ℕ) → s < 64 → 17 + size ≤ (1 * 2 ^ s) % 2 ^ 64 → 0 ≡ oversized s size
-fits_one s size h l = rw (le-ltb (2 ^ s) (17 + size) (omega (arith, one_shl s h)))
-
--- where the loop stands: the count, with that of the sizes from i on, is that of all
-pub record FloorTo (s : ℕ) (sizes : List ℕ) (count i : ℕ) : Type 0 where
-  pub inside : i ≤ length sizes
-  pub most : count ≤ i
-  pub is : count + floor_of s (drop i sizes) ≡ floor_of s sizes
-
-pub floor_begins : (s : ℕ) (sizes : List ℕ) → FloorTo s sizes 0 0
-floor_begins s sizes = record { inside = omega arith; most = omega arith; is = omega arith }
-
-floor_one : (s : ℕ) (sizes : List ℕ) (i : ℕ) → i < length sizes → floor_of s (drop i sizes) ≡ oversized s (get_or sizes i 0) + floor_of s (drop (i + 1) sizes)
+pub floor_count : (s : ℕ) (sizes : List ℕ) → floor_of s sizes ≡ count_by (λ size. ltb (2 ^ s) (17 + size)) sizes
 unfolding floor_of
-floor_one s sizes i h = rw (add-one i, drop-cons sizes i 0 h)
+floor_count s = is_count_by (floor_of s) (λ size. ltb (2 ^ s) (17 + size)) refl (λ size sizes. bit_plus (ltb (2 ^ s) (17 + size)) (floor_of s sizes))
 
-pub floor_goes_on : (s : ℕ) (sizes : List ℕ) {count i : ℕ} (one : ℕ) → FloorTo s sizes count i → i < length sizes → one ≡ oversized s (get_or sizes i 0)
-    → FloorTo s sizes (count + one) (i + 1)
-floor_goes_on s sizes {count} {i} one now h e =
+-- The large-framed objects of an order.
+
+-- where the loop stands: the count, with that of the places from i on, is that of the whole order
+pub record Counted (s : ℕ) (sizes order : List ℕ) (count h i : ℕ) : Type 0 where
+  pub most : count ≤ i
+  pub near : h ≤ 16 + (2 ^ 32 + 16) * i
+  pub is : count + large_from s sizes h (drop i order) ≡ large s sizes order
+
+pub counting_begins : (s : ℕ) (sizes order : List ℕ) → Counted s sizes order 0 16 0
+counting_begins s sizes order = record { most = omega arith; near = omega arith; is = omega arith }
+
+pub counting_goes_on :
+    (s : ℕ) (sizes order : List ℕ) (count h i k size count' h' : ℕ) → Counted s sizes order count h i → i < length order → k ≡ get_or order i 0
+    → size ≡ get_or sizes k 0 → size < 2 ^ 32 → count' ≡ count + large_at s h size → h' ≡ last_held h size → Counted s sizes order count' h' (i + 1)
+counting_goes_on s sizes order count h i k size count' h' now l place size_is fits count_is h_is =
+    let left : drop i order ≡ k ∷ drop (i + 1) order = rw (add-one i, place) (drop-cons order i 0 l) in
+    let turn = rw (← left, ← size_is, ← h_is) at (large_one s sizes h k (drop (i + 1) order)) in
     record {
-      inside = omega arith;
-      most = omega (arith, now.most, bit_most (ltb (2 ^ s) (17 + get_or sizes i 0)));
-      is = omega (arith, now.is, floor_one s sizes i h);
+      most = omega (arith, now.most, bit_most (not (is_small s h size)));
+      near = omega (arith, now.near);
+      is = omega (arith, now.is, turn);
     }
 
-floor_none : (s : ℕ) (sizes : List ℕ) (i : ℕ) → length sizes ≤ i → floor_of s (drop i sizes) ≡ 0
-unfolding floor_of
-floor_none s sizes i h = rw (drop_of_length-le sizes h)
-
-pub floor_ends : (s : ℕ) (sizes : List ℕ) (count i : ℕ) → FloorTo s sizes count i → length sizes ≤ i → count ≡ floor_of s sizes
-floor_ends s sizes count i now h = omega (arith, now.is, floor_none s sizes i h)
+pub counting_ends : (s : ℕ) (sizes order : List ℕ) (count h i : ℕ) → Counted s sizes order count h i → length order ≤ i → count ≡ large s sizes order
+counting_ends s sizes order count h i now l =
+    let none = rw (drop_of_length-le order l) at now.is in
+    omega (arith, none, large_none s sizes h)

@@ -1,8 +1,7 @@
 -- What the search for an order promises: document 02, W13. Assumes nothing.
 use Rattle.std.specs.Prelude.{ℕ, ◌≤◌, ◌<◌, min, ◌≡◌, ◌↔◌, List, length, get_or}
 use Rattle.placement.specs.Orders.{orders, order_at, factorial, IsOrder, Before}
-use Rattle.placement.specs.declared.answer.Placement.{Placement}
-use Rattle.placement.specs.Placement.{large, floor_of, eight_places, refused, placement}
+use Rattle.placement.specs.Placement.{large, floor_of, eight_places, refused, Placement, placement}
 
 -- The orders.
 

@@ -4,9 +4,8 @@ use Rattle.std.proofs.Common.{sym, ap, ◌∙◌, subst, arith, take_at}
 use Rattle.frame.specs.Frame.{frame_number_in, frame_number}
 use Rattle.frame.specs.Tags.{wrapper}
 use Rattle.block.specs.Bytes.{decode, field}
-use Rattle.placement.specs.declared.answer.Placement.{Placement}
 use Rattle.placement.specs.Orders.{positions_from, without, starting_with, orders_of, orders, order_at, factorial, IsOrder, Before}
-use Rattle.placement.specs.Placement.{good_sizes, good_plan, large_from, large, floor_of, least_from, first_least, best_order, eight_places, found, refused, placement, order_word}
+use Rattle.placement.specs.Placement.{good_sizes, good_plan, large_from, large, floor_of, least_from, first_least, best_order, eight_places, found, refused, Placement, placement, order_word}
 use Rattle.placement.specs.Claims.{TriesAll, BadPlan, RefusesInOrder, FindsFirstBest, NoneFewerAtAll, NoneUnderFloor}
 
 -- Answers.

@@ -1,11 +1,13 @@
 -- An order with few large frames: document 02, W13. Assumes nothing.
-use Rattle.std.specs.Prelude.{ℕ, ◌+◌, ◌-◌, ◌^◌, min, Bool, true, cond, not, ◌&&◌, List, [], ◌∷◌, ◌++◌, length, take, get_or, replicate, leb, ltb}
+use Rattle.std.specs.Prelude.{ℕ, ◌+◌, ◌-◌, ◌^◌, min, Bool, true, cond, not, ◌&&◌, List, [], ◌∷◌, ◌++◌, length, take, get_or, replicate, leb, ltb, Result, Ok, Err}
 use Rattle.frame.specs.Tags.{is_small, last_held}
 use Rattle.frame.specs.Pointers.{bit}
 use Rattle.block.specs.Bytes.{field}
 use Rattle.block.specs.Layout.{within, good_exponent}
 use Rattle.placement.specs.Orders.{orders, factorial}
-use Rattle.placement.specs.declared.answer.Placement.{Placement}
+use Rattle.placement.specs.declared.answer.Placement.{Placement as Placed}
+use Rattle.placement.specs.declared.answer.Refusal.{Refusal}
+use Rattle.placement.specs.declared.answer.Refusal.TheVariants.{BadPlan, NoBudget}
 
 -- Objects are named by their positions in the list of sizes.
 
@@ -58,6 +60,14 @@ best_order s sizes budget = first_least (large s sizes) (take budget (orders (le
 abbrev pub eight_places : List ℕ → List ℕ
 eight_places order = order ++ replicate (8 - length order) 0
 
+-- the answer as C sees it: row 0 and what is found, or a refusal's row and zeros
+pub record Placement : Type 0 where
+  pub row : ℕ
+  pub order : List ℕ
+  pub large : ℕ
+  pub tried : ℕ
+  pub floor : ℕ
+
 -- what is found for a good plan and a budget
 unfoldable pub found : ℕ → List ℕ → ℕ → Placement
 found s sizes budget =
@@ -76,6 +86,16 @@ refused row = record { row = row; order = replicate 8 0; large = 0; tried = 0; f
 -- the answer: 26, then 27
 unfoldable pub placement : ℕ → List ℕ → ℕ → Placement
 placement s sizes budget = cond (good_plan s sizes) (cond (ltb 0 budget) (found s sizes budget) (refused 27)) (refused 26)
+
+-- document 02's number of a refusal
+abbrev pub refusal_number : Refusal → ℕ
+refusal_number BadPlan = 26
+refusal_number NoBudget = 27
+
+-- the answer that a result stands for
+abbrev pub answered : Result Placed Refusal → Placement
+answered (Ok p) = record { row = 0; order = p.order; large = p.large; tried = p.tried; floor = p.floor }
+answered (Err r) = refused (refusal_number r)
 
 -- its order in one number: place i is byte i, lowest first
 abbrev pub order_word : Placement → ℕ

@@ -8,3 +8,4 @@ pub mod Packed
 pub mod Least
 pub mod Counts
 pub mod Rows
+pub mod Answered

@@ -1,14 +1,12 @@
 // What the search for an order says.
-ghost use Rattle.std.specs.Prelude.{◌≡◌};
-ghost use Rattle.block.specs.Bytes.{Bytes};
-ghost use Rattle.placement.specs.Placement.{order_word};
+ghost use Rattle.std.specs.Prelude.{◌≡◌, Ok};
+ghost use Rattle.placement.specs.Placement.{order_word, refusal_number, answered};
 
 // The first best order (place i holds the position of the object that comes as number i; unused places are 0), its large-framed objects, the orders
-// tried, and the floor. The row is 0, or the number of a refusal: all others are 0 then.
-#[derive(Clone, Copy)]
+// tried, and the floor.
+#[derive(Clone, Copy, Debug, PartialEq, Eq)]
 pub struct Placement {
-    pub row: u32,
-    pub order: [u64; 8],
+    pub order: [u8; 8],
     pub large: u64,
     pub tried: u64,
     pub floor: u64,
@@ -17,24 +15,27 @@ pub struct Placement {
 impl Placement {
     // The order in one number: place i is byte i, lowest first.
     pub fn order_word(self) -> u64
-        requires { Bytes self.order }
-        ensures { result ≡ order_word self }
+        ensures { result ≡ order_word (answered (Ok self)) }
     {
-        let order = self.order;
-        let mut word: u64 = 0;
-        let mut i = 8;
-        while 0 < i {
-            i = i - 1;
-            let place = order[i];
-            word = place + 256 * word;
-        }
-        word
+        u64::from_le_bytes(self.order)
     }
 }
 
-// The order of that number, from 0, is the best so far, with so many large-framed objects.
-#[derive(Clone, Copy)]
-pub struct Best {
-    pub index: u64,
-    pub large: u64,
+// Why a search is declined: rows 26 and 27 of document 02.
+#[derive(Clone, Copy, Debug, PartialEq, Eq)]
+pub enum Refusal {
+    BadPlan,
+    NoBudget,
+}
+
+impl Refusal {
+    // Document 02's number.
+    pub fn number(self) -> u32
+        ensures { result ≡ refusal_number self }
+    {
+        match self {
+            Refusal::BadPlan => 26,
+            Refusal::NoBudget => 27,
+        }
+    }
 }

@@ -8,5 +8,5 @@ mod packed;
 mod plan;
 mod search;
 
-pub use answer::Placement;
+pub use answer::{Placement, Refusal};
 pub use search::order;

@@ -3,16 +3,16 @@ ghost use Rattle.std.specs.Prelude.{◌≡◌, ◌<◌, ◌≤◌};
 ghost use Rattle.placement.specs.Orders.{factorial, order_at};
 ghost use Rattle.placement.specs.Placement.{eight_places};
 
-use super::packed::{POSITIONS, place, remove};
+use super::packed::{POSITIONS, take};
 
 // How many orders n objects have.
+#[tactic(auto, unfolding(crate::specs::Orders::factorial))]
 pub fn factorial(n: usize) -> u64
     requires { n ≤ 8 }
     ensures { result ≡ factorial n }
 {
     match n {
-        0 => 1,
-        1 => 1,
+        0 | 1 => 1,
         2 => 2,
         3 => 6,
         4 => 24,
@@ -24,21 +24,17 @@ pub fn factorial(n: usize) -> u64
 }
 
 // The order of n positions that is tried as number i: each digit of i picks from the positions that are left.
-pub fn order_at(n: usize, i: u64) -> [u64; 8]
+pub fn order_at(n: usize, i: u64) -> [u8; 8]
     requires { (n ≤ 8) × (i < factorial n) }
     ensures { result ≡ eight_places (order_at n i) }
 {
-    let mut order: [u64; 8] = [0; 8];
+    let mut order = [0; 8];
     let mut rest = POSITIONS;
     let mut left = i;
-    let mut j = 0;
-    while j < n {
+    for j in 0..n {
         let f = factorial(n - j - 1);
-        let k = left / f;
-        order[j] = place(rest, k);
-        rest = remove(rest, k);
-        left = left % f;
-        j = j + 1;
+        order[j] = take(&mut rest, left / f);
+        left %= f;
     }
     order
 }

@@ -1,4 +1,5 @@
 -- The claim on the type check before a cast. Assumes nothing.
+use Rattle.std.specs.Prelude.{Err, Ok}
 use Prim.Native.Nat.{ℕ, ◌≤◌}
 use mathlib.Core.Path.{◌≡◌, refl, sym, ap, ◌∙◌, subst}
 use mathlib.Core.Bool.{Bool, true, false, cond}
@@ -26,24 +27,23 @@ use Rattle.store.specs.laws.TagReading.{located_refusal}
 use Rattle.store.specs.laws.Distances.{start-at}
 use Rattle.store.specs.laws.Casts.{described-at, described_parts, Describing, unlisted, short, covering, describing, has_offset, has_negative, cast_undescribed, cast_described, cast_number, has_type_shut, has_type_bad, has_type_unread, has_type_cast, has_type_parts}
 use Rattle.store.specs.declared.answer.Refusal.TheVariants.{Undescribed}
-use Rattle.store.specs.declared.answer.Answer.{Answer}
-use Rattle.store.specs.declared.answer.Answer.TheVariants.{Accepted, Refused}
+use Rattle.store.specs.State.{Answer}
 
 -- Row 25, on a good list.
 
 module _ (list : List ℕ) (g : good_list list ≡ true) (type size : ℕ) where
-  described_covering : (q : ℕ) → Describes list (length list) type q → descriptors.size_at list q ≤ size → described list type size ≡ Accepted q
+  described_covering : (q : ℕ) → Describes list (length list) type q → descriptors.size_at list q ≤ size → described list type size ≡ Ok q
   described_covering q d l = described-at list type size q (lookup-at list g (length list) type q (end_reached list g) d) l
 
   -- the descriptor that covers the object
-  covers : (q : ℕ) → described list type size ≡ Accepted q → Describes list (length list) type q × (descriptors.size_at list q ≤ size)
+  covers : (q : ℕ) → described list type size ≡ Ok q → Describes list (length list) type q × (descriptors.size_at list q ≤ size)
   covers q e = let (f, l) = described_parts list type size q e in (lookup_describes list g type q f, l)
 
   -- 25 exactly where none does
   undescribed : (wanted : ℕ) (d : ℤ) → (returned (cast_answer list wanted type size d) ≡ 25) ↔ Undescribes list type size
   undescribed wanted d = go (describing list type size)
     where
-      refused : described list type size ≡ Refused Undescribed → returned (cast_answer list wanted type size d) ≡ 25
+      refused : described list type size ≡ Err Undescribed → returned (cast_answer list wanted type size d) ≡ 25
       refused e = ap returned (cast_undescribed list wanted type size d Undescribed e)
 
       go : Describing list type size → (returned (cast_answer list wanted type size d) ≡ 25) ↔ Undescribes list type size
@@ -70,7 +70,7 @@ module _ (list : List ℕ) (p wanted : ℕ) (x : State) (h q : ℕ) (c : Castabl
   good : good_list list ≡ true
   good = unless_bad list c.none_bad
 
-  answer_is : has_type list p wanted x ≡ Accepted (has_at list wanted q (from_start h (unpack p)))
+  answer_is : has_type list p wanted x ≡ Ok (has_at list wanted q (from_start h (unpack p)))
   answer_is =
       has_type_cast list p wanted x c.exponent c.opens good h c.object
       ∙ cast_described list wanted (type_at x.image h) (size_at x.image h) (from_start h (unpack p)) q
@@ -109,18 +109,18 @@ module _ (list : List ℕ) (p wanted : ℕ) (x : State) (h q : ℕ) (c : Castabl
           (λ t. n (ap (has_at list wanted q) d ∙ has_offset list wanted q o ∙ ap (λ (b : Bool). cond b 1 0) t)))
       go (negsuc m) d = ap (has_at list wanted q) d ∙ has_negative list wanted q m
 
-  yes : (has_type list p wanted x ≡ Accepted 1) ↔ HasWanted list p wanted x h
+  yes : (has_type list p wanted x ≡ Ok 1) ↔ HasWanted list p wanted x h
   yes = (
-    (λ e. let v : Accepted (has_at list wanted q (from_start h (unpack p))) ≡ Accepted 1 = sym answer_is ∙ e in says_has (ap value v)),
-    λ w. answer_is ∙ ap Accepted (has_says w),
+    (λ e. let v : Ok (has_at list wanted q (from_start h (unpack p))) ≡ Ok 1 = sym answer_is ∙ e in says_has (ap value v)),
+    λ w. answer_is ∙ ap Ok (has_says w),
   )
 
-  no : (has_type list p wanted x ≡ Accepted 0) ↔ (HasWanted list p wanted x h → ⊥)
+  no : (has_type list p wanted x ≡ Ok 0) ↔ (HasWanted list p wanted x h → ⊥)
   no = (
     (λ e w.
         let z : ◌≡◌ {A = ℕ} 1 0 = sym (has_says w) ∙ ap value (sym answer_is ∙ e) in
         omega arith),
-    λ n. answer_is ∙ ap Accepted (says_no (λ e. n (says_has e))),
+    λ n. answer_is ∙ ap Ok (says_no (λ e. n (says_has e))),
   )
 
 -- The rows.
@@ -146,14 +146,14 @@ module _ (list : List ℕ) (p wanted : ℕ) (x : State) where
   )
 
   -- on a good list 24 never comes
-  not_bad : (s : ℕ) → opening x ≡ Accepted s → good_list list ≡ true → returned (has_type list p wanted x) ≡ 24 → ⊥
+  not_bad : (s : ℕ) → opening x ≡ Ok s → good_list list ≡ true → returned (has_type list p wanted x) ≡ 24 → ⊥
   not_bad s e g t = go (located s (unpack p) x) refl
     where
       go : (a : Answer) → located s (unpack p) x ≡ a → ⊥
-      go (Refused r) l =
+      go (Err r) l =
           let n : refusal_number r ≡ 24 = sym (ap returned (has_type_unread list p wanted x s e g r l)) ∙ t in
           omega (arith, (located_refusal s (unpack p) x r l).1, n)
-      go (Accepted h) l = rows (cast_number list wanted (type_at x.image h) (size_at x.image h) (from_start h (unpack p)))
+      go (Ok h) l = rows (cast_number list wanted (type_at x.image h) (size_at x.image h) (from_start h (unpack p)))
         where
           rows :
               let n : ℕ = returned (cast_answer list wanted (type_at x.image h) (size_at x.image h) (from_start h (unpack p))) in

@@ -1,5 +1,9 @@
 -- What holds of single calls on every image and table.
 -- In order: shapes that are kept; how each call ends; the claims. Assumes nothing.
+use Rattle.store.specs.State.{usage_of}
+use Rattle.store.specs.Calls.{merge_of}
+use Rattle.store.specs.State.{measured_as}
+use Rattle.std.specs.Prelude.{Err, Ok, Result}
 use Prim.Native.Nat.{ℕ, ◌+◌, ◌^◌, ◌≤◌, ◌<◌}
 use mathlib.Core.Path.{◌≡◌, refl, sym, ap, ap₂, ◌∙◌, subst}
 use mathlib.Core.List.{List, [], ◌∷◌}
@@ -44,19 +48,15 @@ use Rattle.store.specs.laws.Move.{move_leaves}
 use Rattle.store.specs.laws.Empty.{empty_load, empty_access}
 use Rattle.store.specs.laws.Entries.{length-noted, noted_beyond, noted_entry}
 use Rattle.store.specs.laws.Tally.{tally_balanced}
-use Rattle.store.specs.declared.answer.Answer.{Answer}
-use Rattle.store.specs.declared.answer.Answer.TheVariants.{Accepted, Refused}
-use Rattle.store.specs.declared.release.Release.{Release}
-use Rattle.store.specs.declared.release.Release.TheVariants as release
-use Rattle.store.specs.declared.comparing.Comparison.{Comparison}
-use Rattle.store.specs.declared.comparing.Comparison.TheVariants as comparison
+use Rattle.store.specs.State.{Answer}
+use Rattle.store.specs.declared.release.FreedBlock.{FreedBlock}
 use Rattle.store.specs.declared.locate.Reading.{Reading}
-use Rattle.store.specs.declared.measuring.Measurement.{Measurement}
-use Rattle.store.specs.declared.measuring.Measurement.TheVariants as measurement
-use Rattle.store.specs.declared.counting.Usage.{Usage}
-use Rattle.store.specs.declared.counting.Usage.TheVariants as usage
+use Rattle.store.specs.declared.measuring.BodyEnds.{BodyEnds}
+use Rattle.block.specs.declared.walk.Counts.{Counts}
 use Rattle.store.proofs.Sweeping.{sweep_freed}
 use Rattle.store.proofs.Gathering.{sweep_begins}
+use Rattle.store.specs.declared.answer.Refusal.{Refusal}
+use Rattle.block.specs.declared.order.Ordering.{Ordering}
 
 -- how a call ends: refused with nothing changed, or accepted with the shape kept
 data Ended (s : ℕ) (x : State) (r : Outcome) : Type 0 where
@@ -110,13 +110,13 @@ ended_set_up : (s : ℕ) (x : State) → Ended s x (set_up s x)
 ended_set_up s x = go (set_up_checks s x) refl
   where
     go : (a : Answer) → set_up_checks s x ≡ a → Ended s x (set_up s x)
-    go (Refused r) e = subst (Ended s x) (sym (set_up_declined s x r e)) (refused refl refl)
-    go (Accepted v) e = subst (Ended s x) (sym (set_up_done s x v e)) (accepted refl (set_up_shape s x (settable_parts s x v e)))
+    go (Err r) e = subst (Ended s x) (sym (set_up_declined s x r e)) (refused refl refl)
+    go (Ok v) e = subst (Ended s x) (sym (set_up_done s x v e)) (accepted refl (set_up_shape s x (settable_parts s x v e)))
 
 -- a call that only answers
 ended_answer : (s : ℕ) (x : State) (a : Answer) → Ended s x (record { answer = a; after = x })
-ended_answer s x (Accepted v) = accepted refl (shape_itself s x)
-ended_answer s x (Refused r) = refused refl refl
+ended_answer s x (Ok v) = accepted refl (shape_itself s x)
+ended_answer s x (Err r) = refused refl refl
 
 module _ (x : State) where
   -- the slot exponent
@@ -129,8 +129,8 @@ module _ (x : State) where
   ended_allocate size type cue = go (allocate_checks size x) refl
     where
       go : (a : Answer) → allocate_checks size x ≡ a → Ended exponent x (allocate_for size type cue x)
-      go (Refused r) e = subst (Ended exponent x) (allocate_declined size x type cue r e) (refused refl refl)
-      go (Accepted h) e =
+      go (Err r) e = subst (Ended exponent x) (allocate_declined size x type cue r e) (refused refl refl)
+      go (Ok h) e =
           let a : Allocates size x h = allocate_parts size x h e in
           subst (Ended exponent x) (allocate_done size x type cue h exponent _ _ _ _ e refl refl refl refl refl)
           (accepted refl
@@ -142,9 +142,12 @@ module _ (x : State) where
   unfolding exponent
   ended_free word = go (free_release word x) refl
     where
-      go : (a : Release) → free_release word x ≡ a → Ended exponent x (free word x)
-      go (release.Refused r) e = subst (Ended exponent x) (free_declined word x r e) (refused refl refl)
-      go (release.Merges h from to) e =
+      go : (a : Result FreedBlock Refusal) → free_release word x ≡ a → Ended exponent x (free word x)
+      go (Err r) e = subst (Ended exponent x) (free_declined word x r e) (refused refl refl)
+      go (Ok m) e =
+          let h = m.header in
+          let from = m.from in
+          let to = m.to in
           let f : Frees word x h from to = free_parts word x h from to e in
           subst (Ended exponent x) (free_done word x h from to exponent _ _ e refl refl refl)
           (accepted refl
@@ -163,8 +166,8 @@ module _ (x : State) where
   ended_store word width v = go (store_checks word width v x) refl
     where
       go : (a : Answer) → store_checks word width v x ≡ a → Ended exponent x (store word width v x)
-      go (Refused r) e = subst (Ended exponent x) (store_declined word width v x r e) (refused refl refl)
-      go (Accepted a) e =
+      go (Err r) e = subst (Ended exponent x) (store_declined word width v x r e) (refused refl refl)
+      go (Ok a) e =
           let k = (store_parts word width v x a e).bytes in
           subst (Ended exponent x) (store_done word width v x a e)
           (accepted refl (written exponent x a (encode width v) (omega (arith, length-encode width v, k.inside))))
@@ -174,8 +177,8 @@ module _ (x : State) where
   ended_fill word n byte = go (fill_checks word n x) refl
     where
       go : (a : Answer) → fill_checks word n x ≡ a → Ended exponent x (fill word n byte x)
-      go (Refused r) e = subst (Ended exponent x) (fill_declined word n byte x r e) (refused refl refl)
-      go (Accepted a) e =
+      go (Err r) e = subst (Ended exponent x) (fill_declined word n byte x r e) (refused refl refl)
+      go (Ok a) e =
           let k = (fill_parts word n x a e).bytes in
           let m : length (replicate n byte) ≡ n = length-replicate n byte in
           subst (Ended exponent x) (fill_done word n byte x a e) (accepted refl (written exponent x a (replicate n byte) (omega (arith, k.inside))))
@@ -185,8 +188,8 @@ module _ (x : State) where
   ended_copy target source n = go (copy_checks target source n x) refl
     where
       go : (a : Answer) → copy_checks target source n x ≡ a → Ended exponent x (copy target source n x)
-      go (Refused r) e = subst (Ended exponent x) (copy_declined target source n x r e) (refused refl refl)
-      go (Accepted a) e =
+      go (Err r) e = subst (Ended exponent x) (copy_declined target source n x r e) (refused refl refl)
+      go (Ok a) e =
           let p : Copies target source n x a = copy_parts target source n x a e in
           let m : length (take n (drop a x.image)) ≡ n = length-take-le n (drop a x.image) (simp length-drop (omega (arith, p.from.inside))) in
           subst (Ended exponent x) (copy_done target source n x a e)
@@ -197,8 +200,8 @@ module _ (x : State) where
   ended_copy_text target source = go (copy_text_checks target source x) refl
     where
       go : (a : Answer) → copy_text_checks target source x ≡ a → Ended exponent x (copy_text target source x)
-      go (Refused r) e = subst (Ended exponent x) (copy_text_declined target source x r e) (refused refl refl)
-      go (Accepted n) e =
+      go (Err r) e = subst (Ended exponent x) (copy_text_declined target source x r e) (refused refl refl)
+      go (Ok n) e =
           let p : CopiesText target source x n = copy_text_parts target source x n e in
           let bytes : List ℕ = take n (drop (unpack source).address x.image) in
           let m : length bytes ≡ n = length-take-le n (drop (unpack source).address x.image) (simp length-drop (omega (arith, p.from))) in
@@ -210,9 +213,12 @@ free_exponent : (word : ℕ) (x : State) → exponent (free word x).after ≡ ex
 unfolding exponent
 free_exponent word x = go (free_release word x) refl
   where
-    go : (a : Release) → free_release word x ≡ a → slot_exponent (free word x).after.image ≡ slot_exponent x.image
-    go (release.Refused r) e = ap (λ (o : Outcome). slot_exponent o.after.image) (sym (free_declined word x r e))
-    go (release.Merges h from to) e =
+    go : (a : Result FreedBlock Refusal) → free_release word x ≡ a → slot_exponent (free word x).after.image ≡ slot_exponent x.image
+    go (Err r) e = ap (λ (o : Outcome). slot_exponent o.after.image) (sym (free_declined word x r e))
+    go (Ok m) e =
+        let h = m.header in
+        let from = m.from in
+        let to = m.to in
         let f : Frees word x h from to = free_parts word x h from to e in
         ap (λ (o : Outcome). slot_exponent o.after.image) (sym (free_done word x h from to (exponent x) _ _ e refl refl refl))
         ∙ (given_back_front x.image from to f.room f.high h f.low).1
@@ -231,8 +237,8 @@ ended_release : (x : State) (cue : ℕ) → Ended (exponent x) x (release_cue cu
 ended_release x cue = go (release_checks cue x) refl
   where
     go : (a : Answer) → release_checks cue x ≡ a → Ended (exponent x) x (release_cue cue x)
-    go (Refused r) e = subst (Ended (exponent x) x) (release_declined cue x r e) (refused refl refl)
-    go (Accepted n) e =
+    go (Err r) e = subst (Ended (exponent x) x) (release_declined cue x r e) (refused refl refl)
+    go (Ok n) e =
         let y : State = free_each (cue_pointers cue x.image) x in
         subst (Ended (exponent x) x) (release_done cue x n y.image y.table e refl) (accepted refl (freed_shape (cue_pointers cue x.image) x))
 
@@ -250,24 +256,24 @@ ended x (allocates_for size type cue) = ended_allocate x size type cue
 ended x (releases cue) = ended_release x cue
 
 -- a refused compare gives no value
-comparison_refused : (c : Comparison) → (comparison_number c ≡ 0 → ⊥) → comparison_value c ≡ pos 0
-comparison_refused (comparison.Ordered o) n = absurd (n refl)
-comparison_refused (comparison.Refused r) n = refl
+comparison_refused : (c : Result Ordering Refusal) → (comparison_number c ≡ 0 → ⊥) → comparison_value c ≡ pos 0
+comparison_refused (Ok o) n = absurd (n refl)
+comparison_refused (Err r) n = refl
 
 -- refused distances are 0
-measurement_refused : (m : Measurement) → (distances_number m ≡ 0 → ⊥) → (start_distance m ≡ pos 0) × (end_distance m ≡ pos 0)
-measurement_refused (measurement.Distances a b) n = absurd (n refl)
-measurement_refused (measurement.Refused r) n = (refl, refl)
+measurement_refused : (m : Result BodyEnds Refusal) → (distances_number m ≡ 0 → ⊥) → (start_distance m ≡ pos 0) × (end_distance m ≡ pos 0)
+measurement_refused (Ok d) n = absurd (n refl)
+measurement_refused (Err r) n = (refl, refl)
 
 -- a refused answer gives no value
 answer_refused : (a : Answer) → (returned a ≡ 0 → ⊥) → value a ≡ 0
-answer_refused (Accepted v) n = absurd (n refl)
-answer_refused (Refused r) n = refl
+answer_refused (Ok v) n = absurd (n refl)
+answer_refused (Err r) n = refl
 
 -- a refused tally gives no values
-usage_refused : (u : Usage) → (usage_number u ≡ 0 → ⊥) → (live_objects u ≡ 0) × (live_bytes u ≡ 0) × (free_bytes u ≡ 0) × (overhead_bytes u ≡ 0)
-usage_refused (usage.Counts objects live free overhead) n = absurd (n refl)
-usage_refused (usage.Refused r) n = (refl, refl, refl, refl)
+usage_refused : (u : Result Counts Refusal) → (usage_number u ≡ 0 → ⊥) → (live_objects u ≡ 0) × (live_bytes u ≡ 0) × (free_bytes u ≡ 0) × (overhead_bytes u ≡ 0)
+usage_refused (Ok c) n = absurd (n refl)
+usage_refused (Err r) n = (refl, refl, refl, refl)
 
 -- The claims.
 
@@ -357,14 +363,14 @@ unfolding LeadsBack
 leads_back_lem size type cue x fits cue_fits e = go (allocate_checks size x) refl
   where
     go : (a : Answer) → allocate_checks size x ≡ a → PointsBack size type cue x (allocate_for size type cue x).after (value (allocate_for size type cue x).answer)
-    go (Refused r) q = absurd (not-accepted r (allocate_declined size x type cue r q) e)
-    go (Accepted h) q =
+    go (Err r) q = absurd (not-accepted r (allocate_declined size x type cue r q) e)
+    go (Ok h) q =
         subst (λ (o : Outcome). PointsBack size type cue x o.after (value o.answer))
         (allocate_done size x type cue h (slot_exponent x.image) _ _ _ _ q refl refl refl refl refl) (left_leads size type cue x h fits cue_fits (allocate_parts size x h q))
 
 -- on what a store leaves, the load gives its value
 stored_read : (p width v : ℕ) (x : State) (a : ℕ) → Stores p width v x a
-    → load_answer p width (state (put x.image a (encode width v)) x.table) ≡ Accepted v
+    → load_answer p width (state (put x.image a (encode width v)) x.table) ≡ Ok v
 stored_read p width v x a t =
     let k = t.bytes in
     let n : length (encode width v) ≡ width = length-encode width v in
@@ -373,7 +379,7 @@ stored_read p width v x a t =
     sym
     (load_given (state _ _) t.exponent (opening_kept x t.exponent a (encode width v) t.opens behind fits) p width t.good_width_lem a
     (accessed_again t.exponent (unpack p) width x a (encode width v) k n))
-    ∙ ap Accepted (field_put x.image a width v k.inside t.fits)
+    ∙ ap Ok (field_put x.image a width v k.inside t.fits)
 
 -- a load of that width gives that value
 abbrev Gives : (p width v : ℕ) → State → Type 0
@@ -385,10 +391,10 @@ unfolding ReadsBack
 reads_back p width v x e = go (store_checks p width v x) refl
   where
     go : (a : Answer) → store_checks p width v x ≡ a → Gives p width v (store p width v x).after
-    go (Refused r) q = absurd (not-accepted r (store_declined p width v x r q) e)
-    go (Accepted a) q =
+    go (Err r) q = absurd (not-accepted r (store_declined p width v x r q) e)
+    go (Ok a) q =
         let y : State = state (put x.image a (encode width v)) x.table in
-        let read : load p width y ≡ record { answer = Accepted v; after = y } =
+        let read : load p width y ≡ record { answer = Ok v; after = y } =
         load_leaves p width y ∙ ap (λ (b : Answer). record { answer = b; after = y }) (stored_read p width v x a (store_parts p width v x a q))
         in
         subst (λ (o : Outcome). Gives p width v o.after) (store_done p width v x a q)
@@ -412,8 +418,8 @@ releases_all cue x e = go (release_checks cue x) refl
     ps = cue_pointers cue x.image
 
     go : (a : Answer) → release_checks cue x ≡ a → EachFreed ps x × (value (release_cue cue x).answer ≡ length ps)
-    go (Refused r) q = absurd (not-accepted r (release_declined cue x r q) e)
-    go (Accepted n) q =
+    go (Err r) q = absurd (not-accepted r (release_declined cue x r q) e)
+    go (Ok n) q =
         let s : ℕ = slot_exponent x.image in
         let (places, r, count) = release_parts cue n x q in
         let p : ps ≡ pointers_to s x.image places = cue_pointers_lem s x.image cue places refl r.walked in
@@ -443,10 +449,10 @@ read_as s p x o f =
     }
 
 -- distances gives it
-distances-read : (s p : ℕ) (x : State) (o : Reading) → opening x ≡ Accepted s → FoundAt s (unpack p) x o
-    → distances p x ≡ measurement.Distances o.offset o.remaining
+distances-read : (s p : ℕ) (x : State) (o : Reading) → opening x ≡ Ok s → FoundAt s (unpack p) x o
+    → distances p x ≡ measured_as o.offset o.remaining
 distances-read s p x o e f =
-    sym (distances-given x s e p o.header f.tested) ∙ ap (λ (r : Reading). measurement.Distances r.offset r.remaining) (sym f.read)
+    sym (distances-given x s e p o.header f.tested) ∙ ap (λ (r : Reading). measured_as r.offset r.remaining) (sym f.read)
 
 -- each tag is measured
 pub measures : Measures

@@ -1,4 +1,6 @@
 -- One free where the block before the object is known: what it leaves, found without a walk. Assumes nothing.
+use Rattle.store.specs.Calls.{merge_of}
+use Rattle.std.specs.Prelude.{Ok, Result}
 use Prim.Native.Nat.{ℕ, ◌+◌, ◌-◌, ◌^◌, ◌≤◌}
 use mathlib.Core.Path.{◌≡◌, refl, sym, ap, ◌∙◌, subst}
 use mathlib.Core.Bool.{true, ◌||◌}
@@ -25,15 +27,14 @@ use Rattle.store.specs.laws.Entries.{entry_held, holds_kept, length-noted}
 use Rattle.store.specs.laws.TagReading.{Stands, located_object, located-at}
 use Rattle.store.specs.laws.Free.{Frees, free_parts, free-at_base, free_merges, merge_start_here, merge_start-free, released_merges, totalled_merges, length_merged, merged-behind, merged-before, merged-header, merged-sound, length-given_back, given_back_front, given_back-header, given_back-total}
 use Rattle.store.specs.laws.Total.{total_fits_lem}
-use Rattle.store.specs.declared.answer.Answer.TheVariants.{Accepted}
-use Rattle.store.specs.declared.release.Release.{Release}
-use Rattle.store.specs.declared.release.Release.TheVariants as release
+use Rattle.store.specs.declared.release.FreedBlock.{FreedBlock}
 use Rattle.store.proofs.Remains.{SameFrom}
+use Rattle.store.specs.declared.answer.Refusal.{Refusal}
 
 -- a live block of x at h whose entry leads back, behind the block at `before`, and with a sound header or the image's end behind it; the total has room
 -- for its extent
 pub record Freeable (s : ℕ) (x : State) (before h : ℕ) : Type 0 where
-  pub opens : opening x ≡ Accepted s
+  pub opens : opening x ≡ Ok s
   pub behind : Behind x.image before h
   pub is_sound : sound x.image h ≡ true
   pub is_live_lem : is_live x.image h ≡ true
@@ -89,13 +90,13 @@ module _ {s : ℕ} {x : State} {before h : ℕ} (f : Freeable s x before h) wher
   fits = omega (arith, stands.inside, stands.short)
 
   -- its tests are passed: the tag leads to it, the address is its base, and this is merged
-  is_located : located s (unpack word) x ≡ Accepted h
+  is_located : located s (unpack word) x ≡ Ok h
   is_located = located-at s _ x h (located_object s x h (size_at x.image h) word stands (own_pointer s h (size_at x.image h) open_at.high fits))
 
   at_base : (unpack word).address ≡ h + 16
   at_base = unpack_address s h (size_at x.image h) open_at.high fits
 
-  merges : released x.image h (walk_to x.image h) ≡ release.Merges h from to
+  merges : released x.image h (walk_to x.image h) ≡ merge_of h from to
   merges = ap (released x.image h) (behind_met f.behind f.is_sound) ∙ released_merges x.image h before f.next_good
 
   room_left : total_fits x.image (extent_at x.image h) ≡ true
@@ -104,11 +105,11 @@ module _ {s : ℕ} {x : State} {before h : ℕ} (f : Freeable s x before h) wher
   pub frees : Frees word x h from to
   frees =
       free_parts word x h from to
-      (sym (free-at_base word x s f.opens h is_located at_base) ∙ ap (λ (a : Release). totalled a x.image) merges
+      (sym (free-at_base word x s f.opens h is_located at_base) ∙ ap (λ (a : Result FreedBlock Refusal). totalled a x.image) merges
       ∙ totalled_merges x.image h from to room_left)
 
   -- and this is left
-  pub free_one : free word x ≡ outcome (Accepted 0) without.image without.table
+  pub free_one : free word x ≡ outcome (Ok 0) without.image without.table
   free_one = free_merges s x f.opens word h is_located (eq-eqb _ _ at_base) from to (sym open_at.exponent) merges room_left
 
   -- its extent is in the total
@@ -133,13 +134,13 @@ module _ {s : ℕ} {x : State} {before h : ℕ} (f : Freeable s x before h) wher
       }
 
   -- rows 4 and 5 let the next call pass
-  pub without_opens : opening without ≡ Accepted s
+  pub without_opens : opening without ≡ Ok s
   without_opens =
       let (good, same) = given_back_front x.image from to frees.room frees.high h frees.low in
       let e : slot_exponent without.image ≡ s = same ∙ sym open_at.exponent in
       opening-passes without (good ∙ open_at.good)
       (rw (e, without-same.long, length-noted s h (size_at x.image h) 0 x.table) open_at.entries)
-      ∙ ap Accepted e
+      ∙ ap Ok e
 
   -- and the merged block is the one before what follows it
   pub without-behind : Behind without.image from to

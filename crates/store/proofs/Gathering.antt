@@ -1,5 +1,6 @@
 -- The tests of a release: the walk that gathers the objects of the cue, and rows 7, 21 and 22.
 -- In order: the walk, block by block, and its ways out; what tests that are passed say, with which the pass begins. Assumes nothing.
+use Rattle.std.specs.Prelude.{Err, None, Ok}
 use Prim.Native.Nat.{ℕ, ◌+◌, ◌≤◌}
 use mathlib.Core.Path.{◌≡◌, refl, sym, ap, ◌∙◌, subst}
 use mathlib.Core.Bool.{Bool, true, false, cond, ◌&&◌, and-true}
@@ -16,7 +17,6 @@ use Rattle.block.specs.laws.Walks.{walk_carries_on}
 use Rattle.block.specs.laws.Gathering.{walk_cue_is}
 use Rattle.block.specs.laws.WalkTo.{at_first}
 use Rattle.block.specs.declared.header.Header.{Header}
-use Rattle.block.specs.declared.header.Examined.TheVariants as examining
 use Rattle.block.specs.laws.Turns.{Walking, Seen, begins, at-end, at_unsound, goes_on}
 use Rattle.store.specs.State.{State, state, returned, value}
 use Rattle.store.specs.Calls.{opening, entry_holds, all_held, extents_of, total_fits, release_checks, cue_pointers, free_each}
@@ -26,7 +26,6 @@ use Rattle.store.specs.laws.Sweep.{settled, no_run}
 use Rattle.store.specs.laws.Refusals.{accepted_is}
 use Rattle.store.specs.laws.Opening.{opening_parts}
 use Rattle.store.specs.laws.Total.{total-within}
-use Rattle.store.specs.declared.answer.Answer.TheVariants.{Accepted, Refused}
 use Rattle.store.specs.declared.answer.Refusal.TheVariants.{Unsound, EntryLost, WrongTotal}
 use Rattle.store.proofs.Remains.{Left, no_more, passed, taken}
 use Rattle.store.proofs.Sweeping.{Sweep}
@@ -102,9 +101,9 @@ module _ {s cue : ℕ} {x : State} {held : Bool} {count given h : ℕ} (g : Gath
           small = omega (arith, g.small);
         }
 
-  module _ (o : opening x ≡ Accepted s) where
+  module _ (o : opening x ≡ Ok s) where
     -- an unsound header: row 7
-    pub gathers_unsound : (h ≡ length x.image → ⊥) → examined x.image h ≡ examining.Unsound → Refused Unsound ≡ release_checks cue x
+    pub gathers_unsound : (h ≡ length x.image → ⊥) → examined x.image h ≡ None → Err Unsound ≡ release_checks cue x
     gathers_unsound n e = release_unsound cue x s h o (sym (walk_cue_is cue x.image) ∙ sym (at_unsound g.walking n e))
 
     -- the image's end: these places are gathered
@@ -112,19 +111,19 @@ module _ {s cue : ℕ} {x : State} {held : Bool} {count given h : ℕ} (g : Gath
     walked e = sym (walk_cue_is cue x.image) ∙ sym (at-end g.walking e)
 
     -- then row 21
-    pub gathers_lost : h ≡ length x.image → held ≡ false → Refused EntryLost ≡ release_checks cue x
+    pub gathers_lost : h ≡ length x.image → held ≡ false → Err EntryLost ≡ release_checks cue x
     gathers_lost e l = release_lost cue x s g.places o (walked e) (sym g.holds ∙ l)
 
     module _ (e : h ≡ length x.image) (l : held ≡ true) where
       -- then row 22
-      pub gathers_wrong : total_fits x.image given ≡ false → Refused WrongTotal ≡ release_checks cue x
+      pub gathers_wrong : total_fits x.image given ≡ false → Err WrongTotal ≡ release_checks cue x
       gathers_wrong t =
           release_wrong cue x s g.places o (walked e) (sym g.holds ∙ l) (ap (total_fits x.image) (sym g.gives) ∙ t)
 
       -- or all tests are passed
-      pub gathers_all : total_fits x.image given ≡ true → Accepted count ≡ release_checks cue x
+      pub gathers_all : total_fits x.image given ≡ true → Ok count ≡ release_checks cue x
       gathers_all t =
-          ap Accepted g.counted
+          ap Ok g.counted
           ∙ release_counted cue x
           (record {
             opens = o;
@@ -182,7 +181,7 @@ module _ {s cue : ℕ} {x : State} {places : List ℕ} (r : Releasable s cue x p
       }
 
 -- the same, as the code begins
-pub pass_begins : (s cue : ℕ) (x : State) → Bytes x.image → opening x ≡ Accepted s → returned (release_checks cue x) ≡ 0
+pub pass_begins : (s cue : ℕ) (x : State) → Bytes x.image → opening x ≡ Ok s → returned (release_checks cue x) ≡ 0
     → Pass s cue (free_each (cue_pointers cue x.image) x) x.image x.table (stored_total x.image) false 16 16
 unfolding settled
 pass_begins s cue x b o e =

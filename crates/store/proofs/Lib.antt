@@ -1,4 +1,7 @@
 -- What the proofs of several functions use.
+mod Tags
+mod Bases
+mod Texts
 mod Fresh
 mod Carving
 mod Merging
@@ -11,3 +14,4 @@ mod Gathering
 -- The claims of single calls; that of the type check before a cast.
 pub mod Claims
 pub mod Casts
+pub mod Lent

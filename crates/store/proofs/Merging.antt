@@ -1,4 +1,6 @@
 -- Free, way out by way out: where the merged block starts and ends, and the bytes of it. Assumes nothing.
+use Rattle.store.specs.Calls.{merge_of}
+use Rattle.std.specs.Prelude.{Some, Err}
 use mathlib.Core.Path.{◌≡◌, refl, sym, ap, ◌∙◌}
 use mathlib.Core.Bool.{true, false, cond, and-false}
 use mathlib.Core.List.{List, ◌++◌}
@@ -15,11 +17,9 @@ use Rattle.block.specs.laws.Headers.{length-header}
 use Rattle.block.specs.laws.Soundness.{sound_in}
 use Rattle.block.specs.laws.WalkTo.{behind_in, walk_to_meets}
 use Rattle.block.specs.declared.header.Header.{Header}
-use Rattle.block.specs.declared.walk.Met.TheVariants as met
 use Rattle.store.specs.Calls.{merge_start, released, merged}
 use Rattle.store.specs.laws.Free.{merge_start_here, merge_start-free, merge_end_last, merge_end-next, released_merges, released_unsound}
 use Rattle.store.specs.declared.answer.Refusal.TheVariants.{Unsound}
-use Rattle.store.specs.declared.release.Release.TheVariants as release
 
 -- where the merged block starts
 
@@ -35,9 +35,13 @@ module _ (image : List ℕ) (before h : ℕ) where
 
 -- the walk meets the sound block at h, behind the one at `before`; `next` is where it ends
 pub record Meets (image : List ℕ) (h before next : ℕ) : Type 0 where
-  pub met : walk_to image h ≡ met.After before
+  pub met : walk_to image h ≡ Some before
   pub follows : next ≡ h + extent_at image h
   pub is_sound : sound image h ≡ true
+
+-- from the walk, and from what the code has added
+pub meets : (image : List ℕ) (h before e : ℕ) → walk_to image h ≡ Some before → e ≡ extent_at image h → sound image h ≡ true → Meets image h before (h + e)
+meets image h before e w q s = record { met = w; follows = ap (λ (n : ℕ). h + n) q; is_sound = s }
 
 module _ {image : List ℕ} {h before next : ℕ} (m : Meets image h before next) where
   -- the block before h has room for a header
@@ -47,7 +51,7 @@ module _ {image : List ℕ} {h before next : ℕ} (m : Meets image h before next
   -- What is then released.
 
   -- nothing follows
-  pub released_last : length image ≤ next → released image h (walk_to image h) ≡ release.Merges h (merge_start image before h) next
+  pub released_last : length image ≤ next → released image h (walk_to image h) ≡ merge_of h (merge_start image before h) next
   released_last l =
       let n : length image ≤ h + extent_at image h = omega (arith, m.follows) in
       ap (released image h) m.met ∙ released_merges image h before (rw (le-leb _ _ n))
@@ -55,12 +59,12 @@ module _ {image : List ℕ} {h before next : ℕ} (m : Meets image h before next
 
   module _ (l : next < length image) where
     -- the next header is unsound
-    pub released_bad : sound image next ≡ false → released image h (walk_to image h) ≡ release.Refused Unsound
+    pub released_bad : sound image next ≡ false → released image h (walk_to image h) ≡ Err Unsound
     released_bad o = let e = m.follows in ap (released image h) m.met ∙ released_unsound image h before (rw (← e, lt-leb _ _ l, o))
 
     -- it is the sound header d
     pub released-next : (d : Header) → d ≡ header_at image next → sound image next ≡ true
-        → released image h (walk_to image h) ≡ release.Merges h (merge_start image before h) (cond (eqb d.kind 1) (next + d.extent) next)
+        → released image h (walk_to image h) ≡ merge_of h (merge_start image before h) (cond (eqb d.kind 1) (next + d.extent) next)
     released-next d k o =
         let e = m.follows in
         ap (released image h) m.met ∙ released_merges image h before (rw (← e, lt-leb _ _ l, o))

@@ -1,4 +1,5 @@
 -- The pass of a release, block by block, on the states that freeing singly goes through. Assumes nothing.
+use Rattle.std.specs.Prelude.{Ok}
 use Prim.Native.Nat.{ℕ, zero, suc, ◌+◌, ◌-◌, ◌≤◌, ◌<◌}
 use mathlib.Core.Path.{◌≡◌, sym, ap, ◌∙◌, subst}
 use mathlib.Core.Bool.{true, false}
@@ -16,14 +17,13 @@ use Rattle.store.specs.State.{State, Outcome, returned}
 use Rattle.store.specs.Calls.{opening, extents_of, pointers_to, free_each}
 use Rattle.store.specs.laws.Release.{extents_one, pointers_to_none, pointers_to_one, free_each_none, free_each_one}
 use Rattle.store.specs.Claims.{EachFreed, none_left, one_freed}
-use Rattle.store.specs.declared.answer.Answer.TheVariants.{Accepted}
 use Rattle.store.proofs.Remains.{Left, of_cue_live, left-ends, left-sound, left_in, left_good, left_passed, left_taken, left-merged, left-same, pointers_same, extents_same}
 use Rattle.store.proofs.Freeing.{Freeable, from, to, without, frees, free_one, without-total, without-same, without_opens, without-behind}
 
 -- the objects of the cue before h are freed, which left x; freeing those at these places leaves `goal`. The block before h stands at `before`.
 -- The total has room for what they give back.
 pub record Sweep (s cue : ℕ) (goal x : State) (before h : ℕ) (places : List ℕ) : Type 0 where
-  pub opens : opening x ≡ Accepted s
+  pub opens : opening x ≡ Ok s
   pub behind : Behind x.image before h
   pub left : Left s cue x h places
   pub same : free_each (pointers_to s x.image places) x ≡ goal

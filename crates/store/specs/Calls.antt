@@ -1,46 +1,32 @@
 -- What each call answers and leaves: document 01, "Calls" and "Why a call was declined", and document 02. The order of the rows is the order of the
 -- tests. Assumes nothing.
-use Rattle.std.specs.Prelude.{ℕ, ◌+◌, ◌-◌, ◌^◌, Bool, true, cond, ◌&&◌, ◌||◌, List, [], ◌∷◌, ◌++◌, length, take, drop, get_or, set, replicate, leb, ltb, eqb, ℤ, pos, negsuc}
+use Rattle.store.specs.State.{usage_of}
+use Rattle.store.specs.State.{measured_as}
+use Rattle.std.specs.Prelude.{ℕ, ◌+◌, ◌-◌, ◌^◌, Bool, true, cond, ◌&&◌, ◌||◌, List, [], ◌∷◌, ◌++◌, length, take, drop, get_or, set, replicate, leb, ltb, eqb, ℤ, pos, negsuc, Err, None, Ok, Option, Result, Some}
 use Rattle.std.proofs.Math.IntN.{sub_ℕ}
 use Rattle.frame.specs.Frame.{frame_start, same_frame}
 use Rattle.frame.specs.Pointers.{unpack, pack, good_tag, reach, moved}
 use Rattle.frame.specs.Tags.{is_small, pointer_to, tag_matches, used_entries, entry_at, entry_of}
 use Rattle.frame.specs.declared.parts.Pointer.{Pointer}
-use Rattle.frame.specs.declared.parts.Moved.{Moved}
-use Rattle.frame.specs.declared.parts.Moved.TheVariants.{To, Outside}
 use Rattle.block.specs.Bytes.{encode, field, put}
 use Rattle.block.specs.Order.{compare_bytes}
 use Rattle.block.specs.Text.{text_of}
 use Rattle.block.specs.Layout.{within, superblock, superblock_good, slot_exponent, stored_total, with_total, good_exponent, good_length, free_header, live_header, sound, is_free, is_live, extent_at, type_at, size_at}
 use Rattle.block.specs.Walk.{Walked, stopped, unsound, ended, first_fit, walk_to, count_blocks, walk_cue}
-use Rattle.block.specs.declared.text.Text.{Text}
-use Rattle.block.specs.declared.text.Text.TheVariants.{Ends, Endless}
 use Rattle.block.specs.declared.walk.Fit.{Fit}
 use Rattle.block.specs.declared.walk.Fit.TheVariants as fit
-use Rattle.block.specs.declared.walk.Met.{Met}
-use Rattle.block.specs.declared.walk.Met.TheVariants as met
-use Rattle.block.specs.declared.walk.Counted.{Counted}
-use Rattle.block.specs.declared.walk.Counted.TheVariants as counted
+use Rattle.block.specs.declared.walk.Counts.{Counts}
 use Rattle.descriptors.specs.Descriptors.{look_up, good_list}
 use Rattle.descriptors.specs.Descriptors as descriptors
 use Rattle.descriptors.specs.Layouts.{type_has}
-use Rattle.descriptors.specs.declared.descriptor.Lookup.{Lookup}
-use Rattle.descriptors.specs.declared.descriptor.Lookup.TheVariants as lookup
 use Rattle.store.specs.State.{State, Outcome, outcome, demand, and_then, refuse, conclude}
 use Rattle.store.specs.declared.answer.Refusal.TheVariants.{BadExponent, BadLength, TooFewEntries, BadSuperblock, ShortTable, Empty, Unsound, NoSpace, EntryTaken, BadTag, Dangling, Leaves, OutOfBounds, BadWidth, NotBase, TooLarge, Unterminated, EntryLost, WrongTotal, BadDescriptor, Undescribed}
-use Rattle.store.specs.declared.answer.Answer.{Answer}
-use Rattle.store.specs.declared.answer.Answer.TheVariants.{Accepted, Refused}
+use Rattle.store.specs.State.{Answer}
 use Rattle.store.specs.declared.locate.Reading.{Reading}
-use Rattle.store.specs.declared.locate.Found.{Found}
-use Rattle.store.specs.declared.locate.Found.TheVariants as found
-use Rattle.store.specs.declared.measuring.Measurement.{Measurement}
-use Rattle.store.specs.declared.measuring.Measurement.TheVariants as measurement
-use Rattle.store.specs.declared.release.Release.{Release}
-use Rattle.store.specs.declared.release.Release.TheVariants as release
-use Rattle.store.specs.declared.comparing.Comparison.{Comparison}
-use Rattle.store.specs.declared.comparing.Comparison.TheVariants as comparison
-use Rattle.store.specs.declared.counting.Usage.{Usage}
-use Rattle.store.specs.declared.counting.Usage.TheVariants as usage
+use Rattle.store.specs.declared.measuring.BodyEnds.{BodyEnds}
+use Rattle.store.specs.declared.release.FreedBlock.{FreedBlock}
+use Rattle.store.specs.declared.answer.Refusal.{Refusal}
+use Rattle.block.specs.declared.order.Ordering.{Ordering}
 
 -- Set-up: 1, 2, 3.
 
@@ -49,7 +35,7 @@ unfoldable pub set_up_checks : ℕ → State → Answer
 set_up_checks s x =
     demand (good_exponent s) BadExponent
     (demand (good_length (length x.image)) BadLength
-    (demand (leb (used_entries s (length x.image)) (length x.table)) TooFewEntries (Accepted 0)))
+    (demand (leb (used_entries s (length x.image)) (length x.table)) TooFewEntries (Ok 0)))
 
 -- a fresh image: the superblock, with all bytes behind it free, and one free block of zeros
 unfoldable pub fresh : ℕ → ℕ → List ℕ
@@ -63,14 +49,14 @@ cleared s L table = replicate (used_entries s L) 0 ++ drop (used_entries s L) ta
 unfoldable pub set_up : ℕ → State → Outcome
 set_up s x =
     conclude x (set_up_checks s x) λ v.
-    outcome (Accepted 0) (fresh s (length x.image)) (cleared s (length x.image) x.table)
+    outcome (Ok 0) (fresh s (length x.image)) (cleared s (length x.image) x.table)
 
 -- Every other call begins with 4, 5; the number is the slot exponent.
 unfoldable pub opening : State → Answer
 opening x =
     demand (superblock_good x.image) BadSuperblock
     (demand (leb (used_entries (slot_exponent x.image) (length x.image)) (length x.table)) ShortTable
-    (Accepted (slot_exponent x.image)))
+    (Ok (slot_exponent x.image)))
 
 -- Allocate, for a cue or for none: 7 or 8 as the walk ends, 9 where the new object's entry is not zero, 22. The size may be 0.
 
@@ -81,8 +67,8 @@ entry_holds s h size v table = is_small s h size || eqb (get_or table (entry_of 
 -- what follows where first fit finds a block
 unfoldable pub fit_answer : Fit → (ℕ → Answer) → Answer
 fit_answer (fit.At h) next = next h
-fit_answer (fit.Unsound h) next = Refused Unsound
-fit_answer fit.End next = Refused NoSpace
+fit_answer (fit.Unsound h) next = Err Unsound
+fit_answer fit.End next = Err NoSpace
 
 -- the extent of a live block in the free one at h: all of that where a rest would be under 16 bytes
 unfoldable pub taken_extent : List ℕ → ℕ → ℕ → ℕ
@@ -94,7 +80,7 @@ allocate_checks size x =
     and_then (opening x) λ s.
     fit_answer (first_fit x.image (16 + size)) λ h.
     demand (entry_holds s h size 0 x.table) EntryTaken
-    (demand (leb (taken_extent x.image h size) (stored_total x.image)) WrongTotal (Accepted h))
+    (demand (leb (taken_extent x.image h size) (stored_total x.image)) WrongTotal (Ok h))
 
 -- the image with a live block in the free one at h; a rest of 16 bytes or more becomes a free block
 unfoldable pub carved : List ℕ → ℕ → ℕ → ℕ → ℕ → List ℕ
@@ -117,7 +103,7 @@ unfoldable pub allocate_for : ℕ → ℕ → ℕ → State → Outcome
 allocate_for size type cue x =
     let s : ℕ = slot_exponent x.image in
     conclude x (allocate_checks size x) λ h.
-    outcome (Accepted (pack (pointer_to s h size))) (allotted x.image h size type cue) (noted s h size h x.table)
+    outcome (Ok (pack (pointer_to s h size))) (allotted x.image h size type cue) (noted s h size h x.table)
 
 -- the call that takes no cue stores 0
 abbrev pub allocate : ℕ → ℕ → State → Outcome
@@ -143,7 +129,7 @@ leads_back s p x =
 -- the tests of a tag
 unfoldable pub located : ℕ → Pointer → State → Answer
 located s p x =
-    demand (good_tag s p) BadTag (demand (leads_back s p x) Dangling (Accepted (header_place s p x.table)))
+    demand (good_tag s p) BadTag (demand (leads_back s p x) Dangling (Ok (header_place s p x.table)))
 
 -- The tag reader's promise: the object, and how far the pointer's address is from both its ends.
 
@@ -160,12 +146,12 @@ abbrev pub reading : ℕ → ℕ → Pointer → Reading
 reading h size p = record { header = h; base = h + 16; size = size; offset = from_start h p; remaining = to_end h size p }
 
 -- what follows where the tests of a tag are passed
-unfoldable pub found_at : Answer → List ℕ → Pointer → Found
-found_at (Accepted h) image p = found.At (reading h (size_at image h) p)
-found_at (Refused r) image p = found.Refused r
+unfoldable pub found_at : Answer → List ℕ → Pointer → Result Reading Refusal
+found_at (Ok h) image p = Ok (reading h (size_at image h) p)
+found_at (Err r) image p = Err r
 
 -- what reading a tag answers
-unfoldable pub read_tag : ℕ → Pointer → State → Found
+unfoldable pub read_tag : ℕ → Pointer → State → Result Reading Refusal
 read_tag s p x = found_at (located s p x) x.image p
 
 -- 13: n bytes from the pointer's address on lie in the body of the object at h
@@ -174,7 +160,7 @@ in_body image h p n = leb (h + 16) p.address && leb (p.address + n) (h + 16 + si
 
 -- n bytes through a pointer: 10, 11, 13; the number is the address
 unfoldable pub accessed : ℕ → Pointer → ℕ → State → Answer
-accessed s p n x = and_then (located s p x) λ h. demand (in_body x.image h p n) OutOfBounds (Accepted p.address)
+accessed s p n x = and_then (located s p x) λ h. demand (in_body x.image h p n) OutOfBounds (Ok p.address)
 
 -- Distances: 10, 11. Outside the body, too: no 13.
 
@@ -183,20 +169,20 @@ unfoldable pub distances_checks : ℕ → State → Answer
 distances_checks word x = and_then (opening x) λ s. located s (unpack word) x
 
 -- what follows where they are passed
-unfoldable pub distances_at : Answer → List ℕ → Pointer → Measurement
-distances_at (Accepted h) image p = measurement.Distances (from_start h p) (to_end h (size_at image h) p)
-distances_at (Refused r) image p = measurement.Refused r
+unfoldable pub distances_at : Answer → List ℕ → Pointer → Result BodyEnds Refusal
+distances_at (Ok h) image p = measured_as (from_start h p) (to_end h (size_at image h) p)
+distances_at (Err r) image p = Err r
 
 -- its answer: how far the pointer is from the start and from the end of its object's body
-unfoldable pub distances : ℕ → State → Measurement
+unfoldable pub distances : ℕ → State → Result BodyEnds Refusal
 distances word x = distances_at (distances_checks word x) x.image (unpack word)
 
 -- Type check before a cast: 24, 10, 11, 25. A list of type descriptors is lent too, and only read.
 
 -- 25: the descriptor that was found describes no more bytes than an object of `size` has; the number is its position
-unfoldable pub described_by : List ℕ → ℕ → Lookup → Answer
-described_by list size (lookup.At q) = demand (leb (descriptors.size_at list q) size) Undescribed (Accepted q)
-described_by list size lookup.Nowhere = Refused Undescribed
+unfoldable pub described_by : List ℕ → ℕ → Option ℕ → Answer
+described_by list size (Some q) = demand (leb (descriptors.size_at list q) size) Undescribed (Ok q)
+described_by list size None = Err Undescribed
 
 -- 25, for an object of that type and raw size
 unfoldable pub described : List ℕ → ℕ → ℕ → Answer
@@ -209,7 +195,7 @@ has_at list wanted q (negsuc n) = 0
 
 -- what follows where the object has that type and raw size, and the pointer is at that distance from its base
 unfoldable pub cast_answer : List ℕ → ℕ → ℕ → ℕ → ℤ → Answer
-cast_answer list wanted type size distance = and_then (described list type size) λ q. Accepted (has_at list wanted q distance)
+cast_answer list wanted type size distance = and_then (described list type size) λ q. Ok (has_at list wanted q distance)
 
 -- its answer: whether the object's type has the wanted one at the pointer's distance from the base
 unfoldable pub has_type : List ℕ → ℕ → ℕ → State → Answer
@@ -222,9 +208,9 @@ has_type list word wanted x =
 -- Move: 10, 12.
 
 -- what a move comes to
-unfoldable pub moved_answer : Moved → Answer
-moved_answer (To q) = Accepted (pack q)
-moved_answer Outside = Refused Leaves
+unfoldable pub moved_answer : Option Pointer → Answer
+moved_answer (Some q) = Ok (pack q)
+moved_answer None = Err Leaves
 
 -- a pointer moved by a distance: 10, 12
 abbrev pub moved_by : ℕ → Pointer → ℤ → Answer
@@ -249,7 +235,7 @@ unfoldable pub load_answer : ℕ → ℕ → State → Answer
 load_answer word width x =
     and_then (opening x) λ s.
     demand (good_width width) BadWidth
-    (and_then (accessed s (unpack word) width x) λ a. Accepted (field x.image a width))
+    (and_then (accessed s (unpack word) width x) λ a. Ok (field x.image a width))
 
 -- its outcome: nothing is written
 unfoldable pub load : ℕ → ℕ → State → Outcome
@@ -266,7 +252,7 @@ store_checks word width v x =
 -- its outcome: the value in the bytes, little-endian
 unfoldable pub store : ℕ → ℕ → ℕ → State → Outcome
 store word width v x =
-    conclude x (store_checks word width v x) λ a. outcome (Accepted 0) (put x.image a (encode width v)) x.table
+    conclude x (store_checks word width v x) λ a. outcome (Ok 0) (put x.image a (encode width v)) x.table
 
 -- Fill: 6, 10, 11, 13.
 
@@ -277,7 +263,7 @@ fill_checks word n x = and_then (opening x) λ s. demand (ltb 0 n) Empty (access
 -- its outcome: one value in all the bytes
 unfoldable pub fill : ℕ → ℕ → ℕ → State → Outcome
 fill word n byte x =
-    conclude x (fill_checks word n x) λ a. outcome (Accepted 0) (put x.image a (replicate n byte)) x.table
+    conclude x (fill_checks word n x) λ a. outcome (Ok 0) (put x.image a (replicate n byte)) x.table
 
 -- Copy: 6, the target's 10, 11, 13, the source's.
 
@@ -291,25 +277,25 @@ copy_checks target source n x =
 unfoldable pub copy : ℕ → ℕ → ℕ → State → Outcome
 copy target source n x =
     conclude x (copy_checks target source n x) λ a.
-    outcome (Accepted 0) (put x.image (unpack target).address (take n (drop a x.image))) x.table
+    outcome (Ok 0) (put x.image (unpack target).address (take n (drop a x.image))) x.table
 
 -- Compare: 6, the left's 10, 11, 13, the right's, which are copy's tests of the two.
 
 -- what follows where they are passed, on the right's address
-unfoldable pub compared : Answer → List ℕ → ℕ → ℕ → Comparison
-compared (Accepted b) image a n = comparison.Ordered (compare_bytes (take n (drop a image)) (take n (drop b image)))
-compared (Refused r) image a n = comparison.Refused r
+unfoldable pub compared : Answer → List ℕ → ℕ → ℕ → Result Ordering Refusal
+compared (Ok b) image a n = Ok (compare_bytes (take n (drop a image)) (take n (drop b image)))
+compared (Err r) image a n = Err r
 
 -- its answer: how the left's bytes stand to the right's
-unfoldable pub compare : ℕ → ℕ → ℕ → State → Comparison
+unfoldable pub compare : ℕ → ℕ → ℕ → State → Result Ordering Refusal
 compare left right n x = compared (copy_checks left right n x) x.image (unpack left).address n
 
 -- Text copy: the source's 10, 11, 13 (its first byte), 20, the target's 10, 11, 13 (all bytes).
 
 -- 20: a zero byte ends the text; the number is its length, without that byte
-unfoldable pub text_answer : Text → Answer
-text_answer (Ends n) = Accepted n
-text_answer Endless = Refused Unterminated
+unfoldable pub text_answer : Option ℕ → Answer
+text_answer (Some n) = Ok n
+text_answer None = Err Unterminated
 
 -- the bytes of the object at h, from the pointer's address to the end of the body
 abbrev pub body_from : List ℕ → ℕ → Pointer → List ℕ
@@ -324,13 +310,13 @@ text_at s p x =
 unfoldable pub copy_text_checks : ℕ → ℕ → State → Answer
 copy_text_checks target source x =
     and_then (opening x) λ s.
-    and_then (text_at s (unpack source) x) λ n. and_then (accessed s (unpack target) (n + 1) x) λ a. Accepted (n + 1)
+    and_then (text_at s (unpack source) x) λ n. and_then (accessed s (unpack target) (n + 1) x) λ a. Ok (n + 1)
 
 -- its outcome: the source's text and its zero byte, as they stood before, and how many bytes these are
 unfoldable pub copy_text : ℕ → ℕ → State → Outcome
 copy_text target source x =
     conclude x (copy_text_checks target source x) λ n.
-    outcome (Accepted n) (put x.image (unpack target).address (take n (drop (unpack source).address x.image))) x.table
+    outcome (Ok n) (put x.image (unpack target).address (take n (drop (unpack source).address x.image))) x.table
 
 -- Free: 10, 11, 15, 7, 22.
 
@@ -350,32 +336,35 @@ merged image from to = put image from (free_header (to - from) ++ replicate (to 
 unfoldable pub free_checks : ℕ → State → Answer
 free_checks word x =
     and_then (opening x) λ s.
-    and_then (located s (unpack word) x) λ h. demand (eqb (unpack word).address (h + 16)) NotBase (Accepted h)
+    and_then (located s (unpack word) x) λ h. demand (eqb (unpack word).address (h + 16)) NotBase (Ok h)
 
--- 7: the walk meets h, and the next header, below the image's end, is sound; then the object's header place, and from where to where the free block reaches
-unfoldable pub released : List ℕ → ℕ → Met → Release
-released image h (met.After before) =
+-- the object's header place, and from where to where the free block reaches
+abbrev pub merge_of : ℕ → ℕ → ℕ → Result FreedBlock Refusal
+merge_of h from to = Ok (record { header = h; from = from; to = to })
+
+-- 7: the walk meets h, and the next header, below the image's end, is sound; then what is merged
+unfoldable pub released : List ℕ → ℕ → Option ℕ → Result FreedBlock Refusal
+released image h (Some before) =
     let next : ℕ = h + extent_at image h in
-    cond (leb (length image) next || sound image next) (release.Merges h (merge_start image before h) (merge_end image next)) (release.Refused Unsound)
-released image h met.Lost = release.Refused Unsound
+    cond (leb (length image) next || sound image next) (merge_of h (merge_start image before h) (merge_end image next)) (Err Unsound)
+released image h None = Err Unsound
 
 -- 7, on the number that the tests up to 15 found
-unfoldable pub released_at : Answer → List ℕ → Release
-released_at (Accepted h) image = released image h (walk_to image h)
-released_at (Refused r) image = release.Refused r
+unfoldable pub released_at : Answer → List ℕ → Result FreedBlock Refusal
+released_at (Ok h) image = released image h (walk_to image h)
+released_at (Err r) image = Err r
 
 -- 22: with n bytes given back, the free total is not above all bytes behind the superblock
 unfoldable pub total_fits : List ℕ → ℕ → Bool
 total_fits image n = leb (stored_total image + n) (length image - 16)
 
 -- 22, where 7 is passed: the object's extent is given back
-unfoldable pub totalled : Release → List ℕ → Release
-totalled (release.Merges h from to) image =
-    cond (total_fits image (extent_at image h)) (release.Merges h from to) (release.Refused WrongTotal)
-totalled (release.Refused r) image = release.Refused r
+unfoldable pub totalled : Result FreedBlock Refusal → List ℕ → Result FreedBlock Refusal
+totalled (Ok m) image = cond (total_fits image (extent_at image m.header)) (Ok m) (Err WrongTotal)
+totalled (Err r) image = Err r
 
 -- all its tests
-unfoldable pub free_release : ℕ → State → Release
+unfoldable pub free_release : ℕ → State → Result FreedBlock Refusal
 free_release word x = totalled (released_at (free_checks word x) x.image) x.image
 
 -- the image that it leaves: one free block, the object's own extent given back to the free total
@@ -383,10 +372,11 @@ abbrev pub given_back : List ℕ → ℕ → ℕ → ℕ → List ℕ
 given_back image h from to = with_total (merged image from to) (stored_total image + extent_at image h)
 
 -- what the release of an object leaves
-unfoldable pub freed : Release → State → Outcome
-freed (release.Merges h from to) x =
-    outcome (Accepted 0) (given_back x.image h from to) (noted (slot_exponent x.image) h (size_at x.image h) 0 x.table)
-freed (release.Refused r) x = refuse r x
+unfoldable pub freed : Result FreedBlock Refusal → State → Outcome
+freed (Ok m) x =
+    let h : ℕ = m.header in
+    outcome (Ok 0) (given_back x.image h m.from m.to) (noted (slot_exponent x.image) h (size_at x.image h) 0 x.table)
+freed (Err r) x = refuse r x
 
 -- its outcome
 unfoldable pub free : ℕ → State → Outcome
@@ -396,8 +386,8 @@ free word x = freed (free_release word x) x
 
 -- 7: what follows where no header is unsound, on the places of the cue's objects; the walk never stops before the end
 unfoldable pub gathered_answer : Walked (List ℕ) → (List ℕ → Answer) → Answer
-gathered_answer (stopped places h) next = Refused Unsound
-gathered_answer (unsound h) next = Refused Unsound
+gathered_answer (stopped places h) next = Err Unsound
+gathered_answer (unsound h) next = Err Unsound
 gathered_answer (ended places) next = next places
 
 -- those places
@@ -422,7 +412,7 @@ release_checks cue x =
     and_then (opening x) λ s.
     gathered_answer (walk_cue cue x.image) λ places.
     demand (all_held s places x) EntryLost
-    (demand (total_fits x.image (extents_of x.image places)) WrongTotal (Accepted (length places)))
+    (demand (total_fits x.image (extents_of x.image places)) WrongTotal (Ok (length places)))
 
 -- the tagged bases of the objects at these places
 unfoldable pub pointers_to : ℕ → List ℕ → List ℕ → List ℕ
@@ -441,27 +431,27 @@ free_each (p ∷ ps) x = free_each ps (free p x).after
 -- its outcome: how many objects the cue had; image and table are those of freeing them singly in address order
 unfoldable pub release_cue : ℕ → State → Outcome
 release_cue cue x =
-    conclude x (release_checks cue x) λ n. record { answer = Accepted n; after = free_each (cue_pointers cue x.image) x }
+    conclude x (release_checks cue x) λ n. record { answer = Ok n; after = free_each (cue_pointers cue x.image) x }
 
 -- Free total: no further row.
 
 -- its answer: the number in the superblock, as it stands there
 unfoldable pub free_total : State → Answer
-free_total x = and_then (opening x) λ s. Accepted (stored_total x.image)
+free_total x = and_then (opening x) λ s. Ok (stored_total x.image)
 
 -- Tally, the memory in use: 7; live objects, live bytes (the sum of their raw sizes), free bytes (the sum of the extents of free blocks) and overhead
 -- bytes (16 for each live header, and each live extent's bytes beyond header and size).
 
 -- what follows where 4 and 5 are passed
-unfoldable pub tally_opened : Answer → Usage → Usage
-tally_opened (Accepted s) next = next
-tally_opened (Refused r) next = usage.Refused r
+unfoldable pub tally_opened : Answer → Result Counts Refusal → Result Counts Refusal
+tally_opened (Ok s) next = next
+tally_opened (Err r) next = Err r
 
 -- 7: what a count of the blocks comes to
-unfoldable pub tally_counted : Counted → Usage
-tally_counted (counted.Counts c) = usage.Counts c.objects c.live c.free c.overhead
-tally_counted counted.Unsound = usage.Refused Unsound
+unfoldable pub tally_counted : Option Counts → Result Counts Refusal
+tally_counted (Some c) = Ok c
+tally_counted None = Err Unsound
 
 -- its answer
-unfoldable pub tally : State → Usage
+unfoldable pub tally : State → Result Counts Refusal
 tally x = tally_opened (opening x) (tally_counted (count_blocks x.image))

@@ -1,7 +1,8 @@
 -- What holds of single calls on every image and table, damaged ones too: demand 1, of demand 2 the pointer that allocate gives, read-back, the
 -- balance of tally, that compare is an order, that a release frees all objects of its cue, what the distances say, that an object of no bytes gives no
 -- access, and what the type check before a cast says. Assumes nothing.
-use Rattle.std.specs.Prelude.{ℕ, ◌+◌, ◌^◌, ◌≤◌, ◌<◌, ◌≡◌, true, ◌&&◌, List, [], ◌∷◌, ◌⊎◌, ◌↔◌, length, drop, pos, neg_ℤ, ◌+ℤ◌, ◌-ℤ◌}
+use Rattle.store.specs.State.{measured_as}
+use Rattle.std.specs.Prelude.{ℕ, ◌+◌, ◌^◌, ◌≤◌, ◌<◌, ◌≡◌, true, ◌&&◌, List, [], ◌∷◌, ◌⊎◌, ◌↔◌, length, drop, pos, neg_ℤ, ◌+ℤ◌, ◌-ℤ◌, Err, Ok}
 use Rattle.std.specs.Int.Signed.{le_z}
 use Rattle.frame.specs.Pointers.{unpack, pack, good_tag}
 use Rattle.frame.specs.Tags.{pointer_to, used_entries}
@@ -15,10 +16,7 @@ use Rattle.store.specs.State.{State, IsAccepted, returned, value, comparison_num
 use Rattle.store.specs.Calls.{set_up, allocate_for, load, store, fill, copy, free, compare, copy_text, cue_pointers, release_cue, free_total, tally, opening, leads_back, header_place, located, read_tag, in_body, distances, has_type}
 use Rattle.store.specs.Step.{Call, step}
 use Rattle.store.specs.declared.answer.Refusal.{Refusal}
-use Rattle.store.specs.declared.answer.Answer.TheVariants.{Accepted, Refused}
 use Rattle.store.specs.declared.locate.Reading.{Reading}
-use Rattle.store.specs.declared.locate.Found.TheVariants as found
-use Rattle.store.specs.declared.measuring.Measurement.TheVariants as measurement
 
 -- Demand 1: a refusal leaves image and table as they were, and every value is 0.
 pub record RefusalsKeep : Type 0 where
@@ -56,7 +54,7 @@ pub record PointsBack (size type cue : ℕ) (x y : State) (p : ℕ) : Type 0 whe
   pub good_tag_lem : good_tag (slot_exponent x.image) (unpack p) ≡ true
   pub leads : leads_back (slot_exponent x.image) (unpack p) y ≡ true
   pub header : header_place (slot_exponent x.image) (unpack p) y.table ≡ place
-  pub read : located (slot_exponent x.image) (unpack p) y ≡ Accepted place
+  pub read : located (slot_exponent x.image) (unpack p) y ≡ Ok place
   pub size_kept : size_at y.image place ≡ size
   pub type_kept : type_at y.image place ≡ type
   pub cue_kept : cue_at y.image place ≡ cue
@@ -102,7 +100,7 @@ ReleasesAll =
 -- o is what the tag of p is read as: header, base and size of the object, and how far the address is from both its ends. The sum of these two is the size; row
 -- 13 is two signed tests of them, and row 15 one
 pub record ReadAs (s : ℕ) (p : Pointer) (x : State) (o : Reading) : Type 0 where
-  pub header : located s p x ≡ Accepted o.header
+  pub header : located s p x ≡ Ok o.header
   pub base : o.base ≡ o.header + 16
   pub size : o.size ≡ size_at x.image o.header
   pub offset : o.offset ≡ pos p.address -ℤ pos o.base
@@ -113,14 +111,14 @@ pub record ReadAs (s : ℕ) (p : Pointer) (x : State) (o : Reading) : Type 0 whe
 
 -- Each tag that leads to an object is read so, and distances gives the two that were read: their sum is the size.
 pub record Measures : Type 0 where
-  pub reads : (s : ℕ) (p : Pointer) (x : State) (o : Reading) → read_tag s p x ≡ found.At o → ReadAs s p x o
+  pub reads : (s : ℕ) (p : Pointer) (x : State) (o : Reading) → read_tag s p x ≡ Ok o → ReadAs s p x o
   pub shown :
-      (s p : ℕ) (x : State) (o : Reading) → opening x ≡ Accepted s → read_tag s (unpack p) x ≡ found.At o
-      → (distances p x ≡ measurement.Distances o.offset o.remaining)
+      (s p : ℕ) (x : State) (o : Reading) → opening x ≡ Ok s → read_tag s (unpack p) x ≡ Ok o
+      → (distances p x ≡ measured_as o.offset o.remaining)
       × (start_distance (distances p x) +ℤ end_distance (distances p x) ≡ pos o.size)
   pub declined :
-      (s p : ℕ) (x : State) (r : Refusal) → opening x ≡ Accepted s → read_tag s (unpack p) x ≡ found.Refused r
-      → distances p x ≡ measurement.Refused r
+      (s p : ℕ) (x : State) (r : Refusal) → opening x ≡ Ok s → read_tag s (unpack p) x ≡ Err r
+      → distances p x ≡ Err r
 
 -- no load through p is accepted, of any width
 abbrev pub NoLoad : ℕ → State → Type 0
@@ -140,7 +138,7 @@ pub record NoAccess (p : ℕ) (x : State) : Type 0 where
 -- a claim about each number whose tag leads to an object of no bytes
 abbrev pub EachEmpty : (ℕ → State → Type 0) → Type 0
 EachEmpty P =
-    (s p : ℕ) (x : State) (h : ℕ) → opening x ≡ Accepted s → located s (unpack p) x ≡ Accepted h → size_at x.image h ≡ 0 → P p x
+    (s p : ℕ) (x : State) (h : ℕ) → opening x ≡ Ok s → located s (unpack p) x ≡ Ok h → size_at x.image h ≡ 0 → P p x
 
 -- Nothing is read or written through it.
 pub record EmptyBodies : Type 0 where
@@ -151,9 +149,9 @@ pub record EmptyBodies : Type 0 where
 -- more bytes than the object has.
 pub record Castable (list : List ℕ) (p : ℕ) (x : State) (h q : ℕ) : Type 0 where
   pub exponent : ℕ
-  pub opens : opening x ≡ Accepted exponent
+  pub opens : opening x ≡ Ok exponent
   pub none_bad : SomeBad list → ⊥
-  pub object : located exponent (unpack p) x ≡ Accepted h
+  pub object : located exponent (unpack p) x ≡ Ok h
   pub described : Describes list (length list) (type_at x.image h) q
   pub covered : descriptors.size_at list q ≤ size_at x.image h
 
@@ -172,14 +170,14 @@ Undescribes list type size =
 -- when it has not. Its rows come in their order, 24 exactly when a descriptor is bad.
 pub record CastChecked (list : List ℕ) (p wanted : ℕ) (x : State) : Type 0 where
   pub accepted : (returned (has_type list p wanted x) ≡ 0) ↔ ((h q : ℕ) × Castable list p x h q)
-  pub yes : (h q : ℕ) → Castable list p x h q → (has_type list p wanted x ≡ Accepted 1) ↔ HasWanted list p wanted x h
-  pub no : (h q : ℕ) → Castable list p x h q → (has_type list p wanted x ≡ Accepted 0) ↔ (HasWanted list p wanted x h → ⊥)
-  pub shut : (r : Refusal) → opening x ≡ Refused r → has_type list p wanted x ≡ Refused r
-  pub bad_list : (s : ℕ) → opening x ≡ Accepted s → (returned (has_type list p wanted x) ≡ 24) ↔ SomeBad list
+  pub yes : (h q : ℕ) → Castable list p x h q → (has_type list p wanted x ≡ Ok 1) ↔ HasWanted list p wanted x h
+  pub no : (h q : ℕ) → Castable list p x h q → (has_type list p wanted x ≡ Ok 0) ↔ (HasWanted list p wanted x h → ⊥)
+  pub shut : (r : Refusal) → opening x ≡ Err r → has_type list p wanted x ≡ Err r
+  pub bad_list : (s : ℕ) → opening x ≡ Ok s → (returned (has_type list p wanted x) ≡ 24) ↔ SomeBad list
   pub unread :
-      (s : ℕ) (r : Refusal) → opening x ≡ Accepted s → (SomeBad list → ⊥) → located s (unpack p) x ≡ Refused r → has_type list p wanted x ≡ Refused r
+      (s : ℕ) (r : Refusal) → opening x ≡ Ok s → (SomeBad list → ⊥) → located s (unpack p) x ≡ Err r → has_type list p wanted x ≡ Err r
   pub undescribed :
-      (s h : ℕ) → opening x ≡ Accepted s → (SomeBad list → ⊥) → located s (unpack p) x ≡ Accepted h
+      (s h : ℕ) → opening x ≡ Ok s → (SomeBad list → ⊥) → located s (unpack p) x ≡ Ok h
       → (returned (has_type list p wanted x) ≡ 25) ↔ Undescribes list (type_at x.image h) (size_at x.image h)
 
 -- So it is for every list, pointer and wanted type, on every image and table.

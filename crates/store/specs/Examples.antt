@@ -1,6 +1,6 @@
 -- The marked cases of document 01, "Arithmetic by example", and those of document 02's requests, at the slot exponent 6: one theorem over one list, by
 -- computation. Assumes nothing.
-use Rattle.std.specs.Prelude.{ℕ, ◌+◌, ◌-◌, ◌^◌, ◌≡◌, refl, Bool, true, false, cond, not, ◌&&◌, List, [], ◌∷◌, ◌++◌, T, eqb, take, replicate, get_or, set, ℤ, pos, negsuc}
+use Rattle.std.specs.Prelude.{ℕ, ◌+◌, ◌-◌, ◌^◌, ◌≡◌, refl, Bool, true, false, cond, not, ◌&&◌, List, [], ◌∷◌, ◌++◌, T, eqb, take, replicate, get_or, set, ℤ, pos, negsuc, Err, Ok, Result}
 use Rattle.std.proofs.Common.{sym, ap, ◌∙◌, arith}
 use Rattle.std.specs.Int.Signed.{le_z}
 use Rattle.frame.specs.Frame.{frame_number, frame_number_in}
@@ -20,13 +20,12 @@ use Rattle.store.specs.Calls.{set_up_checks, fresh, set_up, opening, entry_holds
 use Rattle.store.specs.Claims.{RefusalsKeep, Castable, HasWanted, Undescribes, ChecksCasts}
 use Rattle.store.specs.Step as call
 use Rattle.store.specs.declared.answer.Refusal.TheVariants.{BadSuperblock, BadTag, Undescribed}
-use Rattle.store.specs.declared.answer.Answer.{Answer}
-use Rattle.store.specs.declared.answer.Answer.TheVariants.{Accepted, Refused}
-use Rattle.store.specs.declared.comparing.Comparison.{Comparison}
-use Rattle.store.specs.declared.locate.Found.{Found}
-use Rattle.store.specs.declared.locate.Found.TheVariants as found
-use Rattle.store.specs.declared.measuring.Measurement.{Measurement}
-use Rattle.store.specs.declared.counting.Usage.{Usage}
+use Rattle.store.specs.State.{Answer}
+use Rattle.store.specs.declared.locate.Reading.{Reading}
+use Rattle.store.specs.declared.measuring.BodyEnds.{BodyEnds}
+use Rattle.block.specs.declared.walk.Counts.{Counts}
+use Rattle.store.specs.declared.answer.Refusal.{Refusal}
+use Rattle.block.specs.declared.order.Ordering.{Ordering}
 
 -- A case: what it starts from, and what the documents say of it. An image of L bytes is set up, and the sizes `before` are allocated.
 pub data Case : Type 0 where
@@ -117,7 +116,7 @@ abbrev given : Outcome → ℕ
 given o = (unpack (value o.answer)).address - 16
 
 -- tally returns that number and these counts
-abbrev gives : Usage → ℕ → ℕ → ℕ → ℕ → ℕ → Bool
+abbrev gives : Result Counts Refusal → ℕ → ℕ → ℕ → ℕ → ℕ → Bool
 gives u number objects live free overhead =
     eqb (usage_number u) number
     && (eqb (live_objects u) objects && (eqb (live_bytes u) live && (eqb (free_bytes u) free && eqb (overhead_bytes u) overhead)))
@@ -127,11 +126,11 @@ abbrev equal : ℤ → ℤ → Bool
 equal a b = le_z a b && le_z b a
 
 -- the tag reader found that object, and these distances
-abbrev finds : Found → ℕ → ℕ → ℕ → ℤ → ℤ → Bool
-finds (found.At o) header base size offset remaining =
+abbrev finds : Result Reading Refusal → ℕ → ℕ → ℕ → ℤ → ℤ → Bool
+finds (Ok o) header base size offset remaining =
     eqb o.header header
     && (eqb o.base base && (eqb o.size size && (equal o.offset offset && equal o.remaining remaining)))
-finds (found.Refused r) header base size offset remaining = false
+finds (Err r) header base size offset remaining = false
 
 abbrev same : Bool → Bool → Bool
 same a b = cond a b (not b)
@@ -163,7 +162,7 @@ holds (damages L before at byte) =
     let x : State = placed before (begun L) in
     gives (tally (state (set x.image at byte) x.table)) 7 0 0 0 0
 holds (compares L before p bytes left right n number v) =
-    let c : Comparison = compare left right n (stored_from p bytes (placed before (begun L))) in
+    let c : Result Ordering Refusal = compare left right n (stored_from p bytes (placed before (begun L))) in
     eqb (comparison_number c) number && equal (comparison_value c) v
 holds (texts L before p bytes target source number copied seen) =
     let o : Outcome = copy_text target source (stored_from p bytes (placed before (begun L))) in
@@ -195,7 +194,7 @@ holds (retotals L sizes cues total index v at byte c number left) =
     && cond (eqb number 0) true (same_numbers o.after.image y.image && same_numbers o.after.table y.table))
 holds (measures L before entries at byte pointer number start end) =
     let x : State = placed before (begun L) in
-    let m : Measurement = distances pointer (state (set x.image at byte) (take entries x.table)) in
+    let m : Result BodyEnds Refusal = distances pointer (state (set x.image at byte) (take entries x.table)) in
     eqb (distances_number m) number && (equal (start_distance m) start && equal (end_distance m) end)
 holds (reads L before pointer header base size offset remaining) =
     finds (read_tag 6 (unpack pointer) (placed before (begun L))) header base size offset remaining
@@ -482,9 +481,9 @@ buffer = (allocate 30 4 (begun 1024)).after
 -- What is computed of it: a sample stands 4 bytes behind its base, and none 5 bytes behind it; without a list it is not described; image and table pass 4 and 5, and
 -- none at all does not; number 0 has no good tag, and its pointer leads to 16.
 computed :
-    (has_type winch 0x8010000000000024 3 buffer ≡ Accepted 1) × (has_type winch 0x8010000000000025 3 buffer ≡ Accepted 0)
-    × (has_type [] 0x8010000000000024 3 buffer ≡ Refused Undescribed) × (opening buffer ≡ Accepted 6) × (opening (state [] []) ≡ Refused BadSuperblock)
-    × (located 6 (unpack 0) buffer ≡ Refused BadTag) × (located 6 (unpack 0x8010000000000024) buffer ≡ Accepted 16)
+    (has_type winch 0x8010000000000024 3 buffer ≡ Ok 1) × (has_type winch 0x8010000000000025 3 buffer ≡ Ok 0)
+    × (has_type [] 0x8010000000000024 3 buffer ≡ Err Undescribed) × (opening buffer ≡ Ok 6) × (opening (state [] []) ≡ Err BadSuperblock)
+    × (located 6 (unpack 0) buffer ≡ Err BadTag) × (located 6 (unpack 0x8010000000000024) buffer ≡ Ok 16)
 unfolding frame_number frame_number_in unpack pack good_tag reach wrapper tag_number pointer_to tag_matches used_entries entry_at encode decode field put superblock with_total superblock_good header header_at well_formed sound walk_in walk_from walk fit_of first_fit set_up_checks fresh set_up opening entry_holds fit_answer taken_extent allocate_checks carved noted allocate_for header_place verified leads_back located from_start descriptor_at field_at look_up_in look_up field_end good_fields_in good_descriptor good_from_in good_list any_below field_has type_has_in type_has descriptor at winch described_by described has_at cast_answer has_type
 computed = (refl, refl, refl, refl, refl, refl, refl)
 
@@ -493,8 +492,8 @@ computed = (refl, refl, refl, refl, refl, refl, refl)
 pub claimed : RefusalsKeep → ChecksCasts → (SomeBad winch → ⊥) → (SomeBad [] → ⊥)
     → ((h q : ℕ) × Castable winch 0x8010000000000024 buffer h q × HasWanted winch 0x8010000000000024 3 buffer h)
     × ((h q : ℕ) × Castable winch 0x8010000000000025 buffer h q × (HasWanted winch 0x8010000000000025 3 buffer h → ⊥))
-    × (has_type winch 0 (2 ^ 64) (state [] []) ≡ Refused BadSuperblock)
-    × (has_type winch 0 (2 ^ 64) buffer ≡ Refused BadTag)
+    × (has_type winch 0 (2 ^ 64) (state [] []) ≡ Err BadSuperblock)
+    × (has_type winch 0 (2 ^ 64) buffer ≡ Err BadTag)
     × Undescribes [] (type_at buffer.image 16) (size_at buffer.image 16)
     × (returned (has_type [] 0x8010000000000024 (2 ^ 64) buffer) ≡ 25)
     × (value (has_type [] 0x8010000000000024 3 buffer) ≡ 0)

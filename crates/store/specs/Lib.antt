@@ -1,6 +1,7 @@
 -- definitions
 pub mod State
 pub mod Calls
+pub mod Opened
 pub mod Step
 -- claims
 pub mod Claims

@@ -1,16 +1,11 @@
 -- What a call is given and what it leaves: document 01, "Why a call was declined", and document 02's further rows. Assumes nothing.
-use Rattle.std.specs.Prelude.{ℕ, ◌+◌, ◌-◌, ◌≡◌, Bool, cond, List, ℤ, pos}
+use Rattle.std.specs.Prelude.{ℕ, ◌+◌, ◌-◌, ◌≡◌, Bool, cond, List, ℤ, pos, Err, Ok, Result}
 use Rattle.block.specs.Order.{sign}
 use Rattle.store.specs.declared.answer.Refusal.{Refusal}
 use Rattle.store.specs.declared.answer.Refusal.TheVariants.{BadExponent, BadLength, TooFewEntries, BadSuperblock, ShortTable, Empty, Unsound, NoSpace, EntryTaken, BadTag, Dangling, Leaves, OutOfBounds, BadWidth, NotBase, TooLarge, Unterminated, EntryLost, WrongTotal, BadDescriptor, Undescribed}
-use Rattle.store.specs.declared.answer.Answer.{Answer}
-use Rattle.store.specs.declared.answer.Answer.TheVariants.{Accepted, Refused}
-use Rattle.store.specs.declared.comparing.Comparison.{Comparison}
-use Rattle.store.specs.declared.comparing.Comparison.TheVariants as comparison
-use Rattle.store.specs.declared.measuring.Measurement.{Measurement}
-use Rattle.store.specs.declared.measuring.Measurement.TheVariants as measurement
-use Rattle.store.specs.declared.counting.Usage.{Usage}
-use Rattle.store.specs.declared.counting.Usage.TheVariants as usage
+use Rattle.store.specs.declared.measuring.BodyEnds.{BodyEnds}
+use Rattle.block.specs.declared.walk.Counts.{Counts}
+use Rattle.block.specs.declared.order.Ordering.{Ordering}
 
 -- document 01's number of a refusal, or document 02's: 17 to 19 are a call log's, 23 a workload's
 abbrev pub refusal_number : Refusal → ℕ
@@ -36,69 +31,78 @@ refusal_number WrongTotal = 22
 refusal_number BadDescriptor = 24
 refusal_number Undescribed = 25
 
+-- what a call answers: a number, 0 where it has none to give; or why there is none
+abbrev pub Answer : Type 0
+Answer = Result ℕ Refusal
+
 -- the number that a call returns: 0 where it is accepted
-abbrev pub returned : Answer → ℕ
-returned (Accepted v) = 0
-returned (Refused r) = refusal_number r
+abbrev pub returned : {A : Type 0} → Result A Refusal → ℕ
+returned (Ok v) = 0
+returned (Err r) = refusal_number r
 
 -- the value that it gives: 0 where it has none, or is refused
 abbrev pub value : Answer → ℕ
-value (Accepted v) = v
-value (Refused r) = 0
+value (Ok v) = v
+value (Err r) = 0
 
 -- the number that tally returns: 0 where it is accepted
-abbrev pub usage_number : Usage → ℕ
-usage_number (usage.Counts objects live free overhead) = 0
-usage_number (usage.Refused r) = refusal_number r
+abbrev pub usage_number : Result Counts Refusal → ℕ
+usage_number = returned
+
+-- a tally of so many live objects, and of live, free and overhead bytes
+abbrev pub usage_of : ℕ → ℕ → ℕ → ℕ → Result Counts Refusal
+usage_of objects live free overhead = Ok (record { objects = objects; live = live; free = free; overhead = overhead })
 
 -- the live objects that it gives: 0 where it is refused
-abbrev pub live_objects : Usage → ℕ
-live_objects (usage.Counts objects live free overhead) = objects
-live_objects (usage.Refused r) = 0
+abbrev pub live_objects : Result Counts Refusal → ℕ
+live_objects (Ok c) = c.objects
+live_objects (Err r) = 0
 
 -- the live bytes that it gives: 0 where it is refused
-abbrev pub live_bytes : Usage → ℕ
-live_bytes (usage.Counts objects live free overhead) = live
-live_bytes (usage.Refused r) = 0
+abbrev pub live_bytes : Result Counts Refusal → ℕ
+live_bytes (Ok c) = c.live
+live_bytes (Err r) = 0
 
 -- the free bytes that it gives: 0 where it is refused
-abbrev pub free_bytes : Usage → ℕ
-free_bytes (usage.Counts objects live free overhead) = free
-free_bytes (usage.Refused r) = 0
+abbrev pub free_bytes : Result Counts Refusal → ℕ
+free_bytes (Ok c) = c.free
+free_bytes (Err r) = 0
 
 -- the overhead bytes that it gives: 0 where it is refused
-abbrev pub overhead_bytes : Usage → ℕ
-overhead_bytes (usage.Counts objects live free overhead) = overhead
-overhead_bytes (usage.Refused r) = 0
+abbrev pub overhead_bytes : Result Counts Refusal → ℕ
+overhead_bytes (Ok c) = c.overhead
+overhead_bytes (Err r) = 0
 
 -- live, free and overhead bytes are all bytes behind the superblock of an image of L bytes
-abbrev pub Balances : ℕ → Usage → Type 0
+abbrev pub Balances : ℕ → Result Counts Refusal → Type 0
 Balances L u = live_bytes u + free_bytes u + overhead_bytes u ≡ L - 16
 
 -- the number that compare returns: 0 where it is accepted
-abbrev pub comparison_number : Comparison → ℕ
-comparison_number (comparison.Ordered o) = 0
-comparison_number (comparison.Refused r) = refusal_number r
+abbrev pub comparison_number : Result Ordering Refusal → ℕ
+comparison_number = returned
 
 -- the value that it gives: 0 where it is refused
-abbrev pub comparison_value : Comparison → ℤ
-comparison_value (comparison.Ordered o) = sign o
-comparison_value (comparison.Refused r) = pos 0
+abbrev pub comparison_value : Result Ordering Refusal → ℤ
+comparison_value (Ok o) = sign o
+comparison_value (Err r) = pos 0
 
 -- the number that distances returns: 0 where it is accepted
-abbrev pub distances_number : Measurement → ℕ
-distances_number (measurement.Distances a b) = 0
-distances_number (measurement.Refused r) = refusal_number r
+abbrev pub distances_number : Result BodyEnds Refusal → ℕ
+distances_number = returned
+
+-- these distances from the start and to the end
+abbrev pub measured_as : ℤ → ℤ → Result BodyEnds Refusal
+measured_as a b = Ok (record { from_start = a; to_end = b })
 
 -- the distance from the start that it gives: 0 where it is refused
-abbrev pub start_distance : Measurement → ℤ
-start_distance (measurement.Distances a b) = a
-start_distance (measurement.Refused r) = pos 0
+abbrev pub start_distance : Result BodyEnds Refusal → ℤ
+start_distance (Ok d) = d.from_start
+start_distance (Err r) = pos 0
 
 -- the distance to the end that it gives: 0 where it is refused
-abbrev pub end_distance : Measurement → ℤ
-end_distance (measurement.Distances a b) = b
-end_distance (measurement.Refused r) = pos 0
+abbrev pub end_distance : Result BodyEnds Refusal → ℤ
+end_distance (Ok d) = d.to_end
+end_distance (Err r) = pos 0
 
 -- An image with its frame table.
 pub record State : Type 0 where
@@ -124,18 +128,18 @@ IsAccepted r = returned r.answer ≡ 0
 
 -- refused with r where the test fails
 abbrev pub demand : Bool → Refusal → Answer → Answer
-demand ok r next = cond ok next (Refused r)
+demand ok r next = cond ok next (Err r)
 
 -- the next test, on the number that this one found
 abbrev pub and_then : Answer → (ℕ → Answer) → Answer
-and_then (Accepted v) next = next v
-and_then (Refused r) next = Refused r
+and_then (Ok v) next = next v
+and_then (Err r) next = Err r
 
 -- a refusal leaves the state as it was
 abbrev pub refuse : Refusal → State → Outcome
-refuse r x = record { answer = Refused r; after = x }
+refuse r x = record { answer = Err r; after = x }
 
 -- refused, or the call goes on with the number that its tests found
 abbrev pub conclude : State → Answer → (ℕ → Outcome) → Outcome
-conclude x (Accepted v) next = next v
-conclude x (Refused r) next = refuse r x
+conclude x (Ok v) next = next v
+conclude x (Err r) next = refuse r x

@@ -2,12 +2,13 @@
 ghost use Rattle.std.specs.Prelude.{◌≡◌, true, ◌+◌, ◌≤◌};
 ghost use Rattle.block.specs.Layout.{sound, extent_at, stored_total};
 ghost use Rattle.store.specs.State.{state, outcome};
-ghost use Rattle.store.specs.Calls.{opening, taken_extent, allocate_checks, carved, allotted, allocate_for, allocate};
+ghost use Rattle.store.specs.Calls.{taken_extent, allocate_checks, carved, allotted, allocate_for, allocate};
+ghost use Rattle.store.specs.Opened.{seen};
 ghost use Rattle.store.specs.laws.Allocate.{site_of};
 
-use crate::answer::{Answer, Refusal};
+use crate::answer::Refusal;
 use crate::entries::{entry_holds, note};
-use crate::opening::opening;
+use crate::opening::Opened;
 use block::header::{extent_at, write_free, write_live};
 use block::superblock::{stored_total, write_total};
 use block::walk::{Fit, first_fit};
@@ -15,9 +16,9 @@ use frame::{Tagged, tag_object};
 
 // Where a new object goes: the place of the block that is taken, and the object's pointer with its entry.
 #[derive(Clone, Copy)]
-pub enum Site {
-    At(u64, Tagged),
-    Refused(Refusal),
+pub struct Site {
+    pub header: u64,
+    pub tagged: Tagged,
 }
 
 // The extent of a live block in the free one at h: all of that where a rest would have no room for a header.
@@ -30,23 +31,24 @@ fn taken_extent(image: &[u8], h: u64, size: u64) -> u64
     if extent - need < 16 { extent } else { need }
 }
 
-// The rows of allocate after 4 and 5.
-fn allocatable(image: &[u8], table: &[u64], s: u32, size: u32) -> Site
-    requires { opening (state image.now table.now) ≡ Answer.Accepted s }
-    ensures { result ≡ site_of s size (allocate_checks size (state image.now table.now)) }
-{
-    match first_fit(image, 16 + size as u64) {
-        Fit::Unsound(_) => Site::Refused(Refusal::Unsound),
-        Fit::End => Site::Refused(Refusal::NoSpace),
-        Fit::At(h) => {
-            let t = tag_object(s, h, size as u64);
-            if !entry_holds(table, t, 0) {
-                return Site::Refused(Refusal::EntryTaken);
+impl Opened<'_> {
+    // The rows of allocate after 4 and 5.
+    fn allocatable(&self, size: u32) -> Result<Site, Refusal>
+        ensures { result ≡ site_of self.now.s size (allocate_checks size (seen self.now)) }
+    {
+        match first_fit(self.image, 16 + size as u64) {
+            Fit::Unsound(_) => Err(Refusal::Unsound),
+            Fit::End => Err(Refusal::NoSpace),
+            Fit::At(h) => {
+                let tagged = tag_object(self.s, h, size as u64);
+                if !entry_holds(self.table, tagged, 0) {
+                    return Err(Refusal::EntryTaken);
+                }
+                if stored_total(self.image) < taken_extent(self.image, h, size as u64) {
+                    return Err(Refusal::WrongTotal);
+                }
+                Ok(Site { header: h, tagged })
             }
-            if stored_total(image) < taken_extent(image, h, size as u64) {
-                return Site::Refused(Refusal::WrongTotal);
-            }
-            Site::At(h, t)
         }
     }
 }
@@ -78,24 +80,17 @@ fn allot(image: &mut [u8], h: u64, size: u64, ty: u64, cue: u64)
 }
 
 // A new object of `size` bytes for the cue; the number is its tagged base.
-pub fn allocate_for(image: &mut [u8], table: &mut [u64], size: u32, ty: u16, cue: u32) -> Answer
+pub fn allocate_for(image: &mut [u8], table: &mut [u64], size: u32, ty: u16, cue: u32) -> Result<u64, Refusal>
     ensures { outcome result image.new table.new ≡ allocate_for size ty cue (state image.old table.old) }
 {
-    match opening(image, table) {
-        Answer::Refused(r) => Answer::Refused(r),
-        Answer::Accepted(s) => match allocatable(image, table, s as u32, size) {
-            Site::Refused(r) => Answer::Refused(r),
-            Site::At(h, t) => {
-                allot(image, h, size as u64, ty as u64, cue as u64);
-                note(table, t, h);
-                Answer::Accepted(t.pointer().pack())
-            }
-        },
-    }
+    let site = Opened::new(image, table)?.allocatable(size)?;
+    allot(image, site.header, size as u64, ty as u64, cue as u64);
+    note(table, site.tagged, site.header);
+    Ok(site.tagged.pointer().pack())
 }
 
 // A new object of `size` bytes for no cue, which is cue 0.
-pub fn allocate(image: &mut [u8], table: &mut [u64], size: u32, ty: u16) -> Answer
+pub fn allocate(image: &mut [u8], table: &mut [u64], size: u32, ty: u16) -> Result<u64, Refusal>
     ensures { outcome result image.new table.new ≡ allocate size ty (state image.old table.old) }
 {
     allocate_for(image, table, size, ty, 0)

@@ -4,29 +4,24 @@ ghost use Rattle.descriptors.specs.Descriptors.{good_list, Stands};
 ghost use Rattle.store.specs.State.{state};
 ghost use Rattle.store.specs.Calls.{described, has_at, cast_answer, has_type};
 
-use crate::answer::{Answer, Refusal};
-use crate::locate::{Found, locate};
-use crate::opening::opening;
+use crate::answer::Refusal;
+use crate::opening::Opened;
 use block::header::read_header;
 use descriptors::checking::good_list;
-use descriptors::descriptor::Lookup;
 use descriptors::layout::type_has;
 use descriptors::reading::read_descriptor;
 use descriptors::searching::find_type;
 
 // Row 25, for an object of that type and raw size; the number is the position of the type's descriptor.
-fn described(list: &[u8], ty: u64, size: u64) -> Answer
+fn described(list: &[u8], ty: u64, size: u64) -> Result<usize, Refusal>
     requires { good_list list.now ≡ true }
     ensures { result ≡ described list.now ty size }
 {
-    let Lookup::At(q) = find_type(list, list.len(), ty) else {
-        return Answer::Refused(Refusal::Undescribed);
-    };
-    let d = read_descriptor(list, q as usize);
-    if size < d.size {
-        return Answer::Refused(Refusal::Undescribed);
+    let q = find_type(list, list.len(), ty).ok_or(Refusal::Undescribed)?;
+    if size < read_descriptor(list, q).size {
+        return Err(Refusal::Undescribed);
     }
-    Answer::Accepted(q)
+    Ok(q)
 }
 
 // Whether the type described at q has the wanted one at a distance from the base: 1 for yes, 0 for no.
@@ -45,33 +40,23 @@ fn has_at(list: &[u8], wanted: u64, q: usize, distance: i64) -> u64
 }
 
 // Row 25, then the answer, for an object of that type and raw size and a pointer at that distance from its base.
-fn cast(list: &[u8], wanted: u64, ty: u64, size: u64, distance: i64) -> Answer
+fn cast(list: &[u8], wanted: u64, ty: u64, size: u64, distance: i64) -> Result<u64, Refusal>
     requires { good_list list.now ≡ true }
     ensures { result ≡ cast_answer list.now wanted ty size distance }
 {
-    match described(list, ty, size) {
-        Answer::Refused(r) => Answer::Refused(r),
-        Answer::Accepted(q) => Answer::Accepted(has_at(list, wanted, q as usize, distance)),
-    }
+    let q = described(list, ty, size)?;
+    Ok(has_at(list, wanted, q, distance))
 }
 
 // Whether the object's type has the wanted one at the pointer's distance from the base: 1 for yes, 0 for no.
-pub fn has_type(image: &[u8], table: &[u64], list: &[u8], pointer: u64, wanted: u16) -> Answer
+pub fn has_type(image: &[u8], table: &[u64], list: &[u8], pointer: u64, wanted: u16) -> Result<u64, Refusal>
     ensures { result ≡ has_type list.now pointer wanted (state image.now table.now) }
 {
-    match opening(image, table) {
-        Answer::Refused(r) => Answer::Refused(r),
-        Answer::Accepted(s) => {
-            if !good_list(list) {
-                return Answer::Refused(Refusal::BadDescriptor);
-            }
-            match locate(image, table, s as u32, pointer) {
-                Found::Refused(r) => Answer::Refused(r),
-                Found::At(o) => {
-                    let d = read_header(image, o.header as usize);
-                    cast(list, wanted as u64, d.ty, o.size, o.offset)
-                }
-            }
-        }
+    let store = Opened::new(image, table)?;
+    if !good_list(list) {
+        return Err(Refusal::BadDescriptor);
     }
+    let object = store.locate(pointer)?;
+    let d = read_header(store.image, object.header as usize);
+    cast(list, wanted as u64, d.ty, object.size, object.offset)
 }

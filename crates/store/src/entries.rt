@@ -12,11 +12,7 @@ pub fn clear_entries(table: &mut [u64], n: usize)
     requires { n ≤ length table.old }
     ensures { table.new ≡ replicate n 0 ++ drop n table.old }
 {
-    let mut i = 0;
-    while i < n {
-        table[i] = 0;
-        i += 1;
-    }
+    table[..n].fill(0);
 }
 
 // Clears the entry that the pointer's tag leads through, where it leads through one.

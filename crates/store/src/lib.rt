@@ -22,12 +22,12 @@ mod total;
 
 pub use access::{fill, load, store, store_byte};
 pub use allocation::{allocate, allocate_for};
-pub use answer::{Answer, Refusal};
+pub use answer::{Refusal, give, returned};
 pub use casting::has_type;
-pub use comparing::{Comparison, compare};
+pub use comparing::{compare, compared};
 pub use copying::copy;
-pub use counting::{Usage, tally};
-pub use measuring::{Measurement, distances};
+pub use counting::tally;
+pub use measuring::{BodyEnds, distances};
 pub use moving::offset;
 pub use numbers::{allocate_number, free_number};
 pub use release::free;

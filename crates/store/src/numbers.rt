@@ -4,6 +4,10 @@ ghost use Rattle.std.specs.Prelude.{◌≡◌};
 ghost use Rattle.store.specs.State.{state, returned, value};
 ghost use Rattle.store.specs.Calls.{allocate_for, free};
 
+use crate::allocation::allocate_for;
+use crate::answer::returned;
+use crate::release::free;
+
 // Allocates; the pointer goes to `pointer`, 0 where it is refused.
 pub fn allocate_number(
     image: &mut [u8],
@@ -17,9 +21,9 @@ pub fn allocate_number(
     ensures pointer_after { pointer.new ≡ value (allocate_for size ty cue (state image.old table.old)).answer }
     ensures table_after { state image.new table.new ≡ (allocate_for size ty cue (state image.old table.old)).after }
 {
-    let a = crate::allocation::allocate_for(image, table, size, ty, cue);
-    *pointer = a.value();
-    a.returned()
+    let answer = allocate_for(image, table, size, ty, cue);
+    *pointer = answer.unwrap_or(0);
+    returned(&answer)
 }
 
 // Frees.
@@ -27,6 +31,5 @@ pub fn free_number(image: &mut [u8], table: &mut [u64], pointer: u64) -> u32
     ensures value { result ≡ returned (free pointer (state image.old table.old)).answer }
     ensures table_after { state image.new table.new ≡ (free pointer (state image.old table.old)).after }
 {
-    let a = crate::release::free(image, table, pointer);
-    a.returned()
+    returned(&free(image, table, pointer))
 }

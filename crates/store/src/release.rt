@@ -3,25 +3,25 @@ ghost use Rattle.std.specs.Prelude.{◌≡◌, true, cond, ◌+◌, ◌≤◌, �
 ghost use Rattle.block.specs.Layout.{sound, extent_at, stored_total};
 ghost use Rattle.block.specs.Walk.{walk_to};
 ghost use Rattle.store.specs.State.{state, outcome};
-ghost use Rattle.store.specs.Calls.{opening, merge_start, released, totalled, free_checks, free_release, merged, given_back, free};
-ghost use Rattle.store.specs.laws.Free.{based_by};
+ghost use Rattle.store.specs.Calls.{merge_start, released, totalled, free_checks, free_release, merged, given_back, free};
+ghost use Rattle.store.specs.Opened.{seen};
 
-use crate::answer::{Answer, Refusal};
+use crate::answer::Refusal;
 use crate::entries::clear_entry;
-use crate::locate::{Found, large_object, small_object};
-use crate::opening::opening;
+use crate::opening::Opened;
 use crate::total::total_fits;
 use block::bytes::fill;
-use block::header::{Examined, Header, examine, extent_at, kind_at, write_free};
+use block::header::{Header, examine, extent_at, kind_at, write_free};
 use block::superblock::{stored_total, write_total};
-use block::walk::{Met, walk_to};
+use block::walk::walk_to;
 use frame::Pointer;
 
 // What a free does: the object's header place, and from where to where the free block then reaches.
 #[derive(Clone, Copy)]
-pub enum Release {
-    Merges(u64, u64, u64),
-    Refused(Refusal),
+pub struct FreedBlock {
+    pub header: u64,
+    pub from: u64,
+    pub to: u64,
 }
 
 // Where the merged block starts: at the block before h, where there is one and it is free.
@@ -48,80 +48,58 @@ fn merge_end(next: u64, d: Header) -> u64
 }
 
 // Row 7 of free, and what is merged with the sound block at h.
-fn coalesce(image: &[u8], h: u64) -> Release
+fn coalesce(image: &[u8], h: u64) -> Result<FreedBlock, Refusal>
     requires { sound image.now h ≡ true }
     ensures { result ≡ released image.now h (walk_to image.now h) }
 {
-    match walk_to(image, h) {
-        Met::Lost => Release::Refused(Refusal::Unsound),
-        Met::After(before) => {
-            let next = h + extent_at(image, h as usize);
-            let from = merge_start(image, before, h);
-            if next == image.len() as u64 {
-                return Release::Merges(h, from, next);
-            }
-            match examine(image, next) {
-                Examined::Unsound => Release::Refused(Refusal::Unsound),
-                Examined::Sound(d) => Release::Merges(h, from, merge_end(next, d)),
-            }
-        }
+    let before = walk_to(image, h).ok_or(Refusal::Unsound)?;
+    let next = h + extent_at(image, h as usize);
+    let from = merge_start(image, before, h);
+    if next == image.len() as u64 {
+        return Ok(FreedBlock {
+            header: h,
+            from,
+            to: next,
+        });
     }
+    let d = examine(image, next).ok_or(Refusal::Unsound)?;
+    Ok(FreedBlock {
+        header: h,
+        from,
+        to: merge_end(next, d),
+    })
 }
 
 // Rows 7 and 22 of free, and what is merged with the sound block at h.
-fn mergeable(image: &[u8], h: u64) -> Release
+fn mergeable(image: &[u8], h: u64) -> Result<FreedBlock, Refusal>
     requires { sound image.now h ≡ true }
     ensures { result ≡ totalled (released image.now h (walk_to image.now h)) image.now }
 {
-    match coalesce(image, h) {
-        Release::Refused(r) => Release::Refused(r),
-        Release::Merges(_, from, to) => {
-            if total_fits(image, extent_at(image, h as usize)) {
-                Release::Merges(h, from, to)
-            } else {
-                Release::Refused(Refusal::WrongTotal)
-            }
+    let block = coalesce(image, h)?;
+    if !total_fits(image, extent_at(image, h as usize)) {
+        return Err(Refusal::WrongTotal);
+    }
+    Ok(block)
+}
+
+impl Opened<'_> {
+    // Rows 10, 11 and 15 of free; the number is the header's place.
+    fn base_of(&self, pointer: u64) -> Result<u64, Refusal>
+        ensures { result ≡ free_checks pointer (seen self.now) }
+    {
+        let object = self.locate(pointer)?;
+        if Pointer::unpack(pointer).address != object.base {
+            return Err(Refusal::NotBase);
         }
+        Ok(object.header)
     }
-}
 
-// Row 15 for a pointer whose tag was read; the number is the header's place.
-fn at_base(f: Found, p: Pointer) -> Answer
-    ensures { result ≡ based_by f p }
-{
-    match f {
-        Found::Refused(r) => Answer::Refused(r),
-        Found::At(o) => {
-            if p.address != o.base {
-                return Answer::Refused(Refusal::NotBase);
-            }
-            Answer::Accepted(o.header)
-        }
-    }
-}
-
-// Rows 10, 11 and 15 of free; the number is the header's place.
-fn base_of(image: &[u8], table: &[u64], s: u32, pointer: u64) -> Answer
-    requires { opening (state image.now table.now) ≡ Answer.Accepted s }
-    ensures { result ≡ free_checks pointer (state image.now table.now) }
-{
-    let p = Pointer::unpack(pointer);
-    if p.flag {
-        let f = small_object(image, s, p);
-        return at_base(f, p);
-    }
-    let f = large_object(image, table, s, p);
-    at_base(f, p)
-}
-
-// The rows of free after 4 and 5.
-fn releasable(image: &[u8], table: &[u64], s: u32, pointer: u64) -> Release
-    requires { opening (state image.now table.now) ≡ Answer.Accepted s }
-    ensures { result ≡ free_release pointer (state image.now table.now) }
-{
-    match base_of(image, table, s, pointer) {
-        Answer::Refused(r) => Release::Refused(r),
-        Answer::Accepted(h) => mergeable(image, h),
+    // The rows of free after 4 and 5.
+    fn releasable(&self, pointer: u64) -> Result<FreedBlock, Refusal>
+        ensures { result ≡ free_release pointer (seen self.now) }
+    {
+        let h = self.base_of(pointer)?;
+        mergeable(self.image, h)
     }
 }
 
@@ -134,29 +112,24 @@ pub fn merge(image: &mut [u8], from: u64, to: u64)
     write_free(image, from as usize, to - from);
 }
 
-// One free block from `from` to `to` in the place of the block at h, whose extent is given back to the free total.
-fn give_back(image: &mut [u8], h: u64, from: u64, to: u64)
-    requires { (h + 16 ≤ length image.old) × (from + 16 ≤ to) × (to ≤ length image.old) × (stored_total image.old + extent_at image.old h < 2 ^ 64) }
-    ensures { image.new ≡ given_back image.old h from to }
+// One free block in the place of the freed one, whose extent is given back to the free total.
+fn give_back(image: &mut [u8], block: FreedBlock)
+    requires { (block.header + 16 ≤ length image.old) × (block.from + 16 ≤ block.to) × (block.to ≤ length image.old) × (stored_total image.old + extent_at image.old block.header < 2 ^ 64) }
+    ensures { image.new ≡ given_back image.old block.header block.from block.to }
 {
-    let total = stored_total(image) + extent_at(image, h as usize);
-    merge(image, from, to);
+    let total = stored_total(image) + extent_at(image, block.header as usize);
+    merge(image, block.from, block.to);
     write_total(image, total);
 }
 
 // Ends the life of the object whose base pointer this is.
-pub fn free(image: &mut [u8], table: &mut [u64], pointer: u64) -> Answer
+pub fn free(image: &mut [u8], table: &mut [u64], pointer: u64) -> Result<u64, Refusal>
     ensures { outcome result image.new table.new ≡ free pointer (state image.old table.old) }
 {
-    match opening(image, table) {
-        Answer::Refused(r) => Answer::Refused(r),
-        Answer::Accepted(s) => match releasable(image, table, s as u32, pointer) {
-            Release::Refused(r) => Answer::Refused(r),
-            Release::Merges(h, from, to) => {
-                give_back(image, h, from, to);
-                clear_entry(table, s as u32, Pointer::unpack(pointer));
-                Answer::Accepted(0)
-            }
-        },
-    }
+    let store = Opened::new(image, table)?;
+    let s = store.s;
+    let block = store.releasable(pointer)?;
+    give_back(image, block);
+    clear_entry(table, s, Pointer::unpack(pointer));
+    Ok(0)
 }

@@ -3,7 +3,7 @@ ghost use Rattle.std.specs.Prelude.{◌≡◌, ◌<◌, ◌≤◌, ◌^◌, leng
 ghost use Rattle.store.specs.State.{state, outcome};
 ghost use Rattle.store.specs.Calls.{set_up_checks, fresh, set_up};
 
-use crate::answer::{Answer, Refusal};
+use crate::answer::Refusal;
 use crate::entries::clear_entries;
 use block::bytes::fill;
 use block::header::write_free;
@@ -11,26 +11,26 @@ use block::superblock::write_superblock;
 use frame::used_entries;
 
 // Rows 1, 2 and 3.
-fn settable(image: &[u8], table: &[u64], s: u32) -> Answer
+fn settable(image: &[u8], table: &[u64], s: u32) -> Result<u64, Refusal>
     ensures { result ≡ set_up_checks s (state image.now table.now) }
 {
     if s < 6 {
-        return Answer::Refused(Refusal::BadExponent);
+        return Err(Refusal::BadExponent);
     }
     if s > 15 {
-        return Answer::Refused(Refusal::BadExponent);
+        return Err(Refusal::BadExponent);
     }
     let len = image.len() as u64;
     if len < 64 {
-        return Answer::Refused(Refusal::BadLength);
+        return Err(Refusal::BadLength);
     }
     if len > 1073741824 {
-        return Answer::Refused(Refusal::BadLength);
+        return Err(Refusal::BadLength);
     }
     if (table.len() as u64) < used_entries(s, len) {
-        return Answer::Refused(Refusal::TooFewEntries);
+        return Err(Refusal::TooFewEntries);
     }
-    Answer::Accepted(0)
+    Ok(0)
 }
 
 // Lays out a fresh image: the superblock, with all bytes behind it free, and one free block of zeros.
@@ -46,16 +46,12 @@ fn lay_out(image: &mut [u8], s: u32)
 }
 
 // A fresh store with slot exponent s.
-pub fn set_up(image: &mut [u8], table: &mut [u64], s: u32) -> Answer
+pub fn set_up(image: &mut [u8], table: &mut [u64], s: u32) -> Result<u64, Refusal>
     ensures { outcome result image.new table.new ≡ set_up s (state image.old table.old) }
 {
-    match settable(image, table, s) {
-        Answer::Refused(r) => Answer::Refused(r),
-        Answer::Accepted(_) => {
-            let used = used_entries(s, image.len() as u64);
-            lay_out(image, s);
-            clear_entries(table, used as usize);
-            Answer::Accepted(0)
-        }
-    }
+    settable(image, table, s)?;
+    let used = used_entries(s, image.len() as u64);
+    lay_out(image, s);
+    clear_entries(table, used as usize);
+    Ok(0)
 }

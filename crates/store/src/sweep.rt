@@ -5,14 +5,15 @@ ghost use Rattle.block.specs.Layout.{sound};
 ghost use Rattle.block.specs.Walk.{is_of_cue};
 ghost use Rattle.store.specs.State.{state, outcome, returned};
 ghost use Rattle.store.specs.Calls.{opening, entry_holds, merge_end, release_checks, cue_pointers, free_each, release_cue};
+ghost use Rattle.store.specs.Opened.{seen};
 ghost use Rattle.store.specs.laws.Sweep.{settled};
 
-use crate::answer::{Answer, Refusal};
+use crate::answer::Refusal;
 use crate::entries::{entry_holds, note};
-use crate::opening::opening;
+use crate::opening::Opened;
 use crate::release::merge;
 use crate::total::total_fits;
-use block::header::{Examined, Header, examine, extent_at, kind_at, read_header};
+use block::header::{Header, examine, extent_at, kind_at, read_header};
 use block::superblock::{stored_total, write_total};
 use frame::tag_object;
 
@@ -28,42 +29,37 @@ fn still_held(held: bool, table: &[u64], s: u32, h: u64, size: u64) -> bool
     requires { (s < 16) × (16 ≤ h) × (h + 16 + size ≤ 2 ^ 30) × (s < wrapper h size → entry_of s h size < length table.now) }
     ensures { result ≡ held && entry_holds s h size h table.now }
 {
-    if held {
-        entry_holds(table, tag_object(s, h, size), h)
-    } else {
-        false
-    }
+    held && entry_holds(table, tag_object(s, h, size), h)
 }
 
-// The rows of release after 4 and 5, in one walk over the whole image; the number is how many objects the cue has.
-fn cue_releasable(image: &[u8], table: &[u64], s: u32, cue: u64) -> Answer
-    requires { opening (state image.now table.now) ≡ Answer.Accepted s }
-    ensures { result ≡ release_checks cue (state image.now table.now) }
-{
-    let len = image.len() as u64;
-    let mut held = true;
-    let mut count: u64 = 0;
-    let mut given: u64 = 0;
-    let mut h: u64 = 16;
-    loop {
-        let Examined::Sound(d) = examine(image, h) else {
-            if h == len {
-                if !held {
-                    break Answer::Refused(Refusal::EntryLost);
-                }
-                if !total_fits(image, given) {
-                    break Answer::Refused(Refusal::WrongTotal);
-                }
-                break Answer::Accepted(count);
+impl Opened<'_> {
+    // The rows of release after 4 and 5, in one walk over the whole image; the number is how many objects the cue has.
+    fn cue_releasable(&self, cue: u64) -> Result<u64, Refusal>
+        ensures { result ≡ release_checks cue (seen self.now) }
+    {
+        let image = self.image;
+        let mut held = true;
+        let mut count: u64 = 0;
+        let mut given: u64 = 0;
+        let mut h: u64 = 16;
+        while let Some(d) = examine(image, h) {
+            if is_of_cue(d, cue) {
+                count += 1;
+                given += d.extent;
+                held = still_held(held, self.table, self.s, h, d.size);
             }
-            break Answer::Refused(Refusal::Unsound);
-        };
-        if is_of_cue(d, cue) {
-            count = count + 1;
-            given = given + d.extent;
-            held = still_held(held, table, s, h, d.size);
+            h += d.extent;
         }
-        h = h + d.extent;
+        if h != image.len() as u64 {
+            return Err(Refusal::Unsound);
+        }
+        if !held {
+            return Err(Refusal::EntryLost);
+        }
+        if !total_fits(image, given) {
+            return Err(Refusal::WrongTotal);
+        }
+        Ok(count)
     }
 }
 
@@ -102,7 +98,7 @@ fn settle(image: &mut [u8], run: bool, from: u64, h: u64)
 
 // Frees the objects of the cue in one pass: a run of neighbours is kept back, and written once, where it ends; the free total is written last.
 fn sweep(image: &mut [u8], table: &mut [u64], s: u32, cue: u64)
-    requires { (opening (state image.old table.old) ≡ Answer.Accepted s) × (returned (release_checks cue (state image.old table.old)) ≡ 0) }
+    requires { (opening (state image.old table.old) ≡ Ok s) × (returned (release_checks cue (state image.old table.old)) ≡ 0) }
     ensures { state image.new table.new ≡ free_each (cue_pointers cue image.old) (state image.old table.old) }
 {
     let len = image.len() as u64;
@@ -131,17 +127,12 @@ fn sweep(image: &mut [u8], table: &mut [u64], s: u32, cue: u64)
 }
 
 // Ends the lives of all objects of the cue; the number is how many they were.
-pub fn release_cue(image: &mut [u8], table: &mut [u64], cue: u32) -> Answer
+pub fn release_cue(image: &mut [u8], table: &mut [u64], cue: u32) -> Result<u64, Refusal>
     ensures { outcome result image.new table.new ≡ release_cue cue (state image.old table.old) }
 {
-    match opening(image, table) {
-        Answer::Refused(r) => Answer::Refused(r),
-        Answer::Accepted(s) => match cue_releasable(image, table, s as u32, cue as u64) {
-            Answer::Refused(r) => Answer::Refused(r),
-            Answer::Accepted(n) => {
-                sweep(image, table, s as u32, cue as u64);
-                Answer::Accepted(n)
-            }
-        },
-    }
+    let store = Opened::new(image, table)?;
+    let s = store.s;
+    let n = store.cue_releasable(cue as u64)?;
+    sweep(image, table, s, cue as u64);
+    Ok(n)
 }

@@ -3,8 +3,8 @@ ghost use Rattle.std.specs.Prelude.{◌≡◌, ◌≤◌, ◌<◌, ◌^◌, leng
 ghost use Rattle.store.specs.State.{state};
 ghost use Rattle.store.specs.Calls.{total_fits, free_total};
 
-use crate::answer::Answer;
-use crate::opening::opening;
+use crate::answer::Refusal;
+use crate::opening::Opened;
 use block::superblock::stored_total;
 
 // Row 22 of free and release: whether n bytes can be given back. The stored total may be any 32-bit number.
@@ -16,11 +16,9 @@ pub fn total_fits(image: &[u8], n: u64) -> bool
 }
 
 // The free total, as it stands there.
-pub fn free_total(image: &[u8], table: &[u64]) -> Answer
+pub fn free_total(image: &[u8], table: &[u64]) -> Result<u64, Refusal>
     ensures { result ≡ free_total (state image.now table.now) }
 {
-    match opening(image, table) {
-        Answer::Refused(r) => Answer::Refused(r),
-        Answer::Accepted(_) => Answer::Accepted(stored_total(image)),
-    }
+    let store = Opened::new(image, table)?;
+    Ok(stored_total(store.image))
 }

@@ -7,9 +7,9 @@ use native.Mathlib.Numerals.{add-one}
 use native.Mathlib.Omega.{arith}
 use lib.ListN.{length, drop, get_or, drop_of_length-le}
 use lib.Seq.{drop-cons}
-use borrow.Author.Tests.{lt-ltb, le-ltb, le-leb, lt-leb}
+use borrow.Author.Tests.{lt-ltb, le-ltb}
 use Rattle.traffic.specs.Number.{is_digit, all_digits, value_from, number_from, number_of}
-use Rattle.traffic.specs.declared.number.Number.TheVariants.{Is, Malformed}
+use Rattle.std.proofs.Common.{Some, None}
 
 -- further bytes never make a value smaller
 value_grows : (n : ℕ) (bs : List ℕ) → n ≤ value_from n bs
@@ -18,14 +18,14 @@ value_grows n [] = omega arith
 value_grows n (b ∷ bs) = let l = value_grows (10 * n + (b - 48)) bs in omega arith
 
 -- a byte that makes it too large
-from-large : (n b : ℕ) (bs : List ℕ) → 2 ^ 64 ≤ 10 * n + (b - 48) → number_from n (b ∷ bs) ≡ Malformed
+from-large : (n b : ℕ) (bs : List ℕ) → 2 ^ 64 ≤ 10 * n + (b - 48) → number_from n (b ∷ bs) ≡ None
 unfolding number_from value_from
 from-large n b bs l =
     let g = value_grows (10 * n + (b - 48)) bs in
     rw (le-ltb (value_from (10 * n + (b - 48)) bs) (2 ^ 64) (omega arith), and-false) refl
 
 -- a byte that is no digit
-from_other : (n b : ℕ) (bs : List ℕ) → is_digit b ≡ false → number_from n (b ∷ bs) ≡ Malformed
+from_other : (n b : ℕ) (bs : List ℕ) → is_digit b ≡ false → number_from n (b ∷ bs) ≡ None
 unfolding number_from all_digits
 from_other n b bs e = rw e refl
 
@@ -35,7 +35,7 @@ unfolding number_from all_digits value_from
 from-digit n b bs e = rw e refl
 
 -- no byte
-pub empty : (word : List ℕ) → length word ≡ 0 → Malformed ≡ number_of word
+pub empty : (word : List ℕ) → length word ≡ 0 → None ≡ number_of word
 unfolding number_of
 empty word e = rw e refl
 
@@ -51,7 +51,7 @@ begun word l = record { fits = omega arith; rest = rw (lt-ltb 0 (length word) l)
 
 module _ {word : List ℕ} {n i : ℕ} (r : Read word n i) where
   -- behind the last byte
-  pub ended : length word ≤ i → Is n ≡ number_of word
+  pub ended : length word ≤ i → Some n ≡ number_of word
   unfolding number_from all_digits value_from
   ended l = rw (drop_of_length-le word l, lt-ltb n (2 ^ 64) r.fits) at r.rest
 
@@ -68,19 +68,14 @@ module _ {word : List ℕ} {n i : ℕ} (r : Read word n i) where
     at_byte : number_from n (b ∷ behind) ≡ number_of word
     at_byte = rw (drop-cons word i 0) at r.rest
 
-    -- it is below the digits
-    pub below : b < 48 → Malformed ≡ number_of word
-    below l = sym (from_other n b behind (rw (lt-leb 48 b l) refl)) ∙ at_byte
-
-    -- above them
-    pub above : 57 < b → Malformed ≡ number_of word
-    above l = sym (from_other n b behind (rw (lt-leb b 57 l, and-false) refl)) ∙ at_byte
+    -- it is no digit
+    pub other : is_digit b ≡ false → None ≡ number_of word
+    other e = sym (from_other n b behind e) ∙ at_byte
 
     -- the value would not fit
-    pub large : 2 ^ 64 ≤ 10 * n + (b - 48) → Malformed ≡ number_of word
+    pub large : 2 ^ 64 ≤ 10 * n + (b - 48) → None ≡ number_of word
     large l = sym (from-large n b behind l) ∙ at_byte
 
     -- it is read
-    pub digit : 48 ≤ b → b ≤ 57 → 10 * n + (b - 48) < 2 ^ 64 → Read word (10 * n + (b - 48)) (i + 1)
-    digit l h s =
-        record { fits = s; rest = rw add-one (sym (from-digit n b behind (rw (le-leb 48 b l, le-leb b 57 h) refl)) ∙ at_byte) }
+    pub digit : is_digit b ≡ true → 10 * n + (b - 48) < 2 ^ 64 → Read word (10 * n + (b - 48)) (i + 1)
+    digit e s = record { fits = s; rest = rw add-one (sym (from-digit n b behind e) ∙ at_byte) }

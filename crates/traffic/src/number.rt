@@ -2,37 +2,20 @@
 ghost use Rattle.std.specs.Prelude.{◌≡◌};
 ghost use Rattle.traffic.specs.Number.{number_of};
 
-// The number that a word is, or that it is none.
-#[derive(Clone, Copy)]
-pub enum Number {
-    Is(u64),
-    Malformed,
-}
-
-// Reads a word as a number: digits only, one at least, with a value below 2^64.
-pub fn read_number(word: &[u8]) -> Number
+// The number that a word is: digits only, one at least, with a value below 2^64.
+pub fn read_number(word: &[u8]) -> Option<u64>
     ensures { result ≡ number_of word.now }
 {
-    if word.len() == 0 {
-        return Number::Malformed;
+    if word.is_empty() {
+        return None;
     }
-    let mut value: u64 = 0;
-    let mut i = 0;
-    while i < word.len() {
-        let b = word[i];
-        if b < b'0' {
-            return Number::Malformed;
+    let mut value = 0u64;
+    for &b in word {
+        if !b.is_ascii_digit() {
+            return None;
         }
-        if b'9' < b {
-            return Number::Malformed;
-        }
-        let d = (b - b'0') as u64;
-        // 10 * value + d would not fit
-        if (u64::MAX - d) / 10 < value {
-            return Number::Malformed;
-        }
-        value = 10 * value + d;
-        i += 1;
+        let digit = u64::from(b - b'0');
+        value = value.checked_mul(10)?.checked_add(digit)?;
     }
-    Number::Is(value)
+    Some(value)
 }

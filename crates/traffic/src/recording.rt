@@ -1,55 +1,60 @@
 // The workload that the program records.
-ghost use Rattle.std.specs.Prelude.{◌≡◌, length};
-ghost use Rattle.std.specs.Counts.{IsPrefixLen};
+ghost use Rattle.std.specs.Prelude.{◌≡◌, ◌≤◌, length, take};
 ghost use Rattle.dump.specs.Dump.{table_bytes};
 ghost use Rattle.workload.specs.Traffic.{bytes_written};
 ghost use Rattle.traffic.specs.Program.{program_run, is_full};
 
+use dump::Dump;
 use workload::Traffic;
 
-// The bytes of log that a workload has written, and whether the log has no space for its next record. The image and the
-// table's entries that it leaves, 8 bytes for each entry.
-#[derive(Clone, Copy)]
-pub struct Written {
-    pub bytes: usize,
-    pub full: bool,
-    pub image: [u8; 8192],
-    pub entries: [u8; 6144],
+// A workload's answer, its whole log, and the dump of what it leaves.
+#[derive(Drop)]
+pub struct Recording<'a> {
+    pub answer: Traffic,
+    pub log: &'a [u8],
+    pub dump: Dump,
+    ghost written_inside: { bytes_written answer ≤ length log.now },
+}
+
+impl Recording<'_> {
+    // The bytes of log that the workload has written.
+    pub fn written(&self) -> &[u8]
+        ensures { result.now ≡ take (bytes_written self.now.answer) self.now.log.now }
+    {
+        &self.log[..count(self.answer)]
+    }
+
+    // Whether the log has no space for the next record.
+    pub fn is_full(&self) -> bool
+        ensures { result ≡ is_full self.now.answer }
+    {
+        matches!(self.answer, Traffic::LogFull(..))
+    }
 }
 
 // Records a workload on an image of its own.
-pub fn recorded(generator: u64, draws: u64, log: &mut [u8]) -> Written
-    ensures prefix_len { IsPrefixLen result.bytes log.new }
-    ensures bytes_value { result.bytes ≡ bytes_written (program_run generator draws log.old).answer }
-    ensures full_value { result.full ≡ is_full (program_run generator draws log.old).answer }
-    ensures log_after { log.new ≡ (program_run generator draws log.old).log }
-    ensures image_value { result.image ≡ (program_run generator draws log.old).after.image }
-    ensures entries_value { result.entries ≡ table_bytes (program_run generator draws log.old).after.table }
-    ensures value { (8192 ≡ length result.image) × (6144 ≡ length result.entries) }
+pub fn recorded(generator: u64, draws: u64, log: &mut [u8]) -> Recording<'_>
+    ensures answer_value { result.answer ≡ (program_run generator draws log.old).answer }
+    ensures log_after { result.log.now ≡ (program_run generator draws log.old).log }
+    ensures image_value { result.dump.image ≡ (program_run generator draws log.old).after.image }
+    ensures entries_value { result.dump.entries ≡ table_bytes (program_run generator draws log.old).after.table }
 {
     let mut image = [0u8; 8192];
     let mut table = [0u64; 768];
     let answer = workload::traffic(&mut image, &mut table, 8, generator, draws, log);
-    let mut entries = [0u8; 6144];
-    dump::put_entries(&mut entries, &table);
+    Recording {
+        answer,
+        log,
+        dump: Dump::new(image, &table),
+    }
+}
+
+// How many bytes of log a workload has written.
+fn count(answer: Traffic) -> usize
+    ensures { result ≡ bytes_written answer }
+{
     match answer {
-        Traffic::Done(_, n) => Written {
-            bytes: n as usize,
-            full: false,
-            image,
-            entries,
-        },
-        Traffic::LogFull(_, n) => Written {
-            bytes: n as usize,
-            full: true,
-            image,
-            entries,
-        },
-        Traffic::Refused(_) => Written {
-            bytes: 0,
-            full: false,
-            image,
-            entries,
-        },
+        Traffic::Done(_, n) | Traffic::LogFull(_, n) => n as usize,
+        Traffic::Refused(_) => 0,
     }
 }

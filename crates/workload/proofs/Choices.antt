@@ -1,23 +1,14 @@
 -- What a draw asks for.
--- In order: when it allocates; the three choices, and that a pointer in one is a live one; the same with the pointers in an array. Assumes nothing.
-use Rattle.std.proofs.Common.{◌≡◌, ℕ, ◌+◌, ◌/◌, ◌%◌, ◌^◌, ◌<◌, ◌≤◌, true, false, eqb, ltb, List, length, get_or, take, sym, refl, ap, ◌∙◌, subst, mod-lt, arith, length-take-le, get_or-take, ltb-false, ltb-true, le-ltb, lt-ltb, eq-eqb, ne_eqb, eqb-true}
+-- In order: when it allocates; the three choices, and that a pointer in one is a live one. Assumes nothing.
+use Rattle.std.proofs.Common.{◌≡◌, ℕ, ◌+◌, ◌/◌, ◌%◌, ◌^◌, ◌<◌, ◌≤◌, true, false, eqb, ltb, List, length, get_or, sym, refl, subst, mod-lt, arith, ltb-false, ltb-true, eq-eqb, ne_eqb, eqb-true}
 use borrow.Author.Tests.{eqb-false}
 use Rattle.block.specs.laws.Booleans.{by_bool}
-use Rattle.workload.specs.Choice.{position, allocates, choice_of, HasRoom}
+use Rattle.workload.specs.Choice.{position, allocates, choice_of}
 use Rattle.workload.specs.declared.choosing.Choice.{Choice}
 use Rattle.workload.specs.declared.choosing.Choice.TheVariants.{Allocate, Free, Store}
 
--- by what is left of v modulo 4
-pub allocates_low : (v n : ℕ) → v % 4 < 2 → allocates v n ≡ ltb n 64
-unfolding allocates
-allocates_low v n l = rw (lt-ltb (v % 4) 2 l) refl
-
-pub allocates_high : (v n : ℕ) → 2 ≤ v % 4 → allocates v n ≡ eqb n 0
-unfolding allocates
-allocates_high v n l = rw (le-ltb (v % 4) 2 l) refl
-
 -- a draw that allocates has room for a pointer
-allocates_room : (v n : ℕ) → allocates v n ≡ true → n < 64
+pub allocates_room : (v n : ℕ) → allocates v n ≡ true → n < 64
 unfolding allocates
 allocates_room v n e =
     by_bool (ltb (v % 4) 2) (λ t. ltb-true n 64 (rw t at e)) (λ f. let z : n ≡ 0 = eqb-true n 0 (rw f at e) in omega arith)
@@ -62,45 +53,3 @@ chosen v ps =
     by_bool (eqb (v % 4) 3)
     (λ t. subst (Chosen ps) (sym (choice_stores v ps f (eqb-true (v % 4) 3 t))) (storing i (v % 256) l (mod-lt v (omega arith))))
     (λ t. subst (Chosen ps) (sym (choice_frees v ps f (eqb-false (v % 4) 3 t))) (freeing i l)))
-
--- so the pointers can be renewed, where 64 have room
-room : (ps : List ℕ) (c : Choice) → Chosen ps c → HasRoom 64 (length ps) c
-unfolding HasRoom
-room ps _ (allocation size n l m) = m
-room ps _ (freeing i l) = l
-room ps _ (storing i byte l b) = tt
-
--- the pointers are the first of an array
-module _ (v : ℕ) (held : List ℕ) (count : ℕ) (fits : count ≤ length held) where
-  -- there are as many
-  held_count : length (take count held) ≡ count
-  held_count = length-take-le count held fits
-
-  -- the pointer that the draw picks
-  held_picked : 1 ≤ count → get_or (take count held) (position v (length (take count held))) 0 ≡ get_or held (position v count) 0
-  held_picked l = rw held_count (get_or-take count held (position v count) 0 (mod-lt (v / 256) l))
-
-  pub held_allocates : allocates v count ≡ true → Allocate (1 + v / 256 % 97) ≡ choice_of v (take count held)
-  held_allocates e = sym (choice_allocates v (take count held) (ap (allocates v) held_count ∙ e))
-
-  -- i is the position that it picks
-  module _ (i : ℕ) (q : i ≡ position v count) (e : allocates v count ≡ false) where
-    pub held_stores : v % 4 ≡ 3 → Store (get_or held i 0) (v % 256) ≡ choice_of v (take count held)
-    held_stores t =
-        ap (λ (k : ℕ). Store (get_or held k 0) (v % 256)) q
-        ∙ sym (choice_stores v (take count held) (ap (allocates v) held_count ∙ e) t
-        ∙ ap (λ (p : ℕ). Store p (v % 256)) (held_picked (allocates_some v count e)))
-
-    pub held_frees : (v % 4 ≡ 3 → ⊥) → Free i (get_or held i 0) ≡ choice_of v (take count held)
-    held_frees t =
-        ap (λ (k : ℕ). Free k (get_or held k 0)) q
-        ∙ sym (choice_frees v (take count held) (ap (allocates v) held_count ∙ e) t
-        ∙ ap (λ (p : ℕ). Free (position v (length (take count held))) p) (held_picked (allocates_some v count e))
-        ∙ ap (λ (n : ℕ). Free (position v n) (get_or held (position v count) 0)) held_count)
-
-  -- 64 places have room
-  pub held_room : length held ≡ 64 → (c : Choice) → c ≡ choice_of v (take count held) → HasRoom (length held) count c
-  held_room e c q =
-      subst (λ (n : ℕ). HasRoom n count c) (sym e)
-      (subst (λ (n : ℕ). HasRoom 64 n c) held_count
-      (subst (HasRoom 64 (length (take count held))) (sym q) (room (take count held) _ (chosen v (take count held)))))

@@ -1,5 +1,5 @@
 -- The claims. In order: what follows an accepted set-up, field by field; a refused one; shapes. Assumes nothing.
-use Rattle.std.proofs.Common.{◌≡◌, ℕ, ◌<◌, ◌≤◌, Bool, true, false, eqb, ◌⊎◌, List, [], length, take, drop, sym, refl, ap, ◌∙◌, subst, inl, inr, arith, eqb-true}
+use Rattle.std.proofs.Common.{◌≡◌, ℕ, ◌<◌, ◌≤◌, Bool, true, false, eqb, ◌⊎◌, List, [], length, take, drop, sym, refl, ap, ◌∙◌, subst, inl, inr, arith, eqb-true, Err, Ok}
 use Rattle.std.specs.Prelude.{None}
 use borrow.Author.Tests.{eqb-false}
 use Rattle.block.specs.laws.Booleans.{by_bool, true_false}
@@ -9,8 +9,7 @@ use Rattle.store.specs.Claims.{KeepsShape}
 use Rattle.store.specs.laws.Refusals.{refused_some}
 use Rattle.store.specs.laws.SetUp.{set_up_lengths}
 use Rattle.store.specs.laws.Shapes.{shape_itself, shape_lengths}
-use Rattle.store.specs.declared.answer.Answer.{Answer}
-use Rattle.store.specs.declared.answer.Answer.TheVariants.{Accepted, Refused}
+use Rattle.store.specs.State.{Answer}
 use Rattle.store.proofs.Claims.{refusals_keep, shapes_kept}
 use Rattle.history.specs.History.{begun, all_admitted}
 use Rattle.call_log.specs.Records.{Records, records}
@@ -65,8 +64,8 @@ module _ (s g draws : ℕ) (x : State) (log : List ℕ) where
     followed = sym (go (set_up s x).answer e)
       where
         go : (a : Answer) → returned a ≡ 0 → after_set_up (set_up s x) g draws log a ≡ logged_by ends
-        go (Accepted v) q = refl
-        go (Refused r) q = absurd (refused_some r q)
+        go (Ok v) q = refl
+        go (Err r) q = absurd (refused_some r q)
 
     recorded_is : Recorded (calls_made s g draws x log) log (logged_by ends)
     recorded_is =
@@ -126,8 +125,8 @@ all_repeatable s g draws x log e =
 -- a refused set-up ends it
 refused-after : (s g draws : ℕ) (x : State) (log : List ℕ) → (IsAccepted (set_up s x) → ⊥) → (a : Answer) → (set_up s x).answer ≡ a
     → (traffic_number (after_set_up (set_up s x) g draws log a).answer ≡ returned a) × Untouched x log (after_set_up (set_up s x) g draws log a)
-refused-after s g draws x log n (Accepted v) q = absurd (n (ap returned q))
-refused-after s g draws x log n (Refused r) q =
+refused-after s g draws x log n (Ok v) q = absurd (n (ap returned q))
+refused-after s g draws x log n (Err r) q =
     (refl, record { store_kept = (refusals_keep.set_up_lem s x n).0; log_kept = refl; no_state = refl; none_written = refl })
 
 pub refused-set_up : RefusedSetUp

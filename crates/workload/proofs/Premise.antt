@@ -1,7 +1,7 @@
 -- Every workload's calls meet demand 3's premise; free and store are accepted, and allocate is declined only with 8.
 -- The induction is on the draws left. It carries an admitted list that leads to the workload's image and table with a heap, so that demand 3 holds of them, and that
 -- the pointers held are the heap's answers. In order: one draw; all draws; the shape that they keep. Assumes nothing.
-use Rattle.std.proofs.Common.{◌≡◌, ℕ, zero, suc, ◌^◌, ◌<◌, ◌≤◌, true, ltb, List, [], ◌∷◌, length, get_or, sym, refl, ap, ◌∙◌, subst, arith, length-append, length-drop, length-take, lt-ltb}
+use Rattle.std.proofs.Common.{◌≡◌, ℕ, zero, suc, ◌^◌, ◌<◌, ◌≤◌, true, ltb, List, [], ◌∷◌, length, get_or, sym, refl, ap, ◌∙◌, subst, arith, length-append, length-drop, length-take, lt-ltb, Err, Ok}
 use Rattle.block.specs.Layout.{slot_exponent}
 use Rattle.block.specs.laws.Booleans.{by_bool, and_both}
 use Rattle.store.specs.State.{State, IsAccepted, returned}
@@ -10,8 +10,7 @@ use Rattle.store.specs.Claims.{KeepsShape}
 use Rattle.store.specs.laws.Allocate.{allocate-word}
 use Rattle.store.specs.laws.Shapes.{shape_then}
 use Rattle.store.specs.Step as step
-use Rattle.store.specs.declared.answer.Answer.{Answer}
-use Rattle.store.specs.declared.answer.Answer.TheVariants.{Accepted, Refused}
+use Rattle.store.specs.State.{Answer}
 use Rattle.store.proofs.Claims.{shapes_kept}
 use Rattle.history.specs.Heap.{Heap, hear}
 use Rattle.history.specs.History.{admitted, Configuration, next, after, all_admitted, begun, Holds}
@@ -59,8 +58,8 @@ record Made (x : State) (heap : Heap) (ps : List ℕ) (c : Choice) : Type 0 wher
 
 -- one more pointer, where there is room
 joined_few : (a : Answer) (ps : List ℕ) → length ps < 64 → length (joined a ps) ≤ 64
-joined_few (Accepted p) ps l = simp length-append (omega arith)
-joined_few (Refused r) ps l = omega arith
+joined_few (Ok p) ps l = simp length-append (omega arith)
+joined_few (Err r) ps l = omega arith
 
 -- one less
 removed_few : (i : ℕ) (ps : List ℕ) → i < length ps → length (remove_at i ps) ≤ length ps
@@ -70,8 +69,8 @@ removed_few i ps l = simp (length-append, length-take, length-drop) (omega arith
 module _ {s : ℕ} (x : State) (heap : Heap) (k : Holds s (at x heap)) (plain : AllPlain heap) where
   -- an allocation's answer, where it has one, is the new object's pointer
   joined_held : (size : ℕ) → 0 < size → (a : Answer) → (allocate size 0 x).answer ≡ a → Held (hear heap (step.allocates size 0) a) (joined a (answers heap))
-  joined_held size n (Accepted p) e = allocate_held heap plain size 0 p n (allocate-word size 0 0 p x e)
-  joined_held size n (Refused r) e = declined_held heap plain size 0 r
+  joined_held size n (Ok p) e = allocate_held heap plain size 0 p n (allocate-word size 0 0 p x e)
+  joined_held size n (Err r) e = declined_held heap plain size 0 r
 
   made_call : (c : Choice) → Chosen (answers heap) c → Made x heap (answers heap) c
   unfolding pointers_after remove_at

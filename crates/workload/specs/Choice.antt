@@ -1,7 +1,6 @@
 -- What a draw asks for, and the live pointers after it: document 02, W10. Assumes nothing.
-use Rattle.std.specs.Prelude.{ℕ, ◌+◌, ◌/◌, ◌%◌, ◌<◌, Bool, cond, List, [], ◌∷◌, ◌++◌, length, take, drop, ◌==◌, nat_lt, slice_index_or}
-use Rattle.store.specs.declared.answer.Answer.{Answer}
-use Rattle.store.specs.declared.answer.Answer.TheVariants.{Accepted, Refused}
+use Rattle.std.specs.Prelude.{ℕ, ◌+◌, ◌/◌, ◌%◌, ◌<◌, Bool, cond, List, [], ◌∷◌, ◌++◌, length, take, drop, ◌==◌, nat_lt, slice_index_or, Err, Ok}
+use Rattle.store.specs.State.{Answer}
 use Rattle.call_log.specs.declared.record.Call.{Call}
 use Rattle.call_log.specs.declared.record.Call.TheVariants as call
 use Rattle.workload.specs.declared.choosing.Choice.{Choice}
@@ -36,8 +35,8 @@ remove_at i ps = take i ps ++ drop (i + 1) ps
 
 -- the live pointers after an allocation: one more, unless it was declined
 abbrev pub joined : Answer → List ℕ → List ℕ
-joined (Accepted p) ps = ps ++ (p ∷ [])
-joined (Refused r) ps = ps
+joined (Ok p) ps = ps ++ (p ∷ [])
+joined (Err r) ps = ps
 
 -- the live pointers after the call and its answer
 unfoldable pub pointers_after : Choice → Answer → List ℕ → List ℕ

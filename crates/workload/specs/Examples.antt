@@ -1,5 +1,5 @@
 -- By computation: the generator at chosen bits; each rule of a choice at its ends; short loads, with a full log and refused ones. Assumes nothing.
-use Rattle.std.specs.Prelude.{◌≡◌, ℕ, zero, suc, ◌+◌, ◌-◌, ◌*◌, ◌^◌, List, [], ◌∷◌, ◌++◌, take, replicate, refl}
+use Rattle.std.specs.Prelude.{◌≡◌, ℕ, zero, suc, ◌+◌, ◌-◌, ◌*◌, ◌^◌, List, [], ◌∷◌, ◌++◌, take, replicate, refl, Err, Ok}
 use Rattle.frame.specs.Frame.{frame_number, frame_number_in}
 use Rattle.frame.specs.Pointers.{unpack, pack, good_tag, reach}
 use Rattle.frame.specs.Tags.{wrapper, tag_number, pointer_to, tag_matches, used_entries, entry_at}
@@ -8,7 +8,6 @@ use Rattle.block.specs.Layout.{superblock, with_total, superblock_good, header, 
 use Rattle.block.specs.Walk.{walk_in, walk_from, walk, fit_of, first_fit, met_of, walk_to}
 use Rattle.store.specs.State.{state}
 use Rattle.store.specs.Calls.{set_up_checks, fresh, set_up, opening, entry_holds, fit_answer, taken_extent, allocate_checks, carved, noted, allocate_for, header_place, verified, leads_back, located, in_body, accessed, store_checks, store, merge_end, merge_start, released, free_checks, released_at, total_fits, totalled, free_release, merged, freed, free}
-use Rattle.store.specs.declared.answer.Answer.TheVariants as answer
 use Rattle.store.specs.declared.answer.Refusal.TheVariants.{BadExponent, BadLength, TooFewEntries, NoSpace}
 use Rattle.call_log.specs.Records.{field_bytes}
 use Rattle.call_log.specs.Written.{encode_all, fields_of, record_of, log_of}
@@ -84,12 +83,12 @@ choices = (refl, refl, refl, refl, refl, refl, refl, refl, refl, refl, refl, ref
 
 -- an accepted pointer goes behind the others, and a declined allocation adds none; the freed one goes out, and later ones move down; a store changes nothing
 pub pointers_after_lem :
-    (pointers_after (Allocate 1) (answer.Accepted 9) (7 ∷ 8 ∷ []) ≡ 7 ∷ 8 ∷ 9 ∷ [])
-    × (pointers_after (Allocate 1) (answer.Refused NoSpace) (7 ∷ 8 ∷ []) ≡ 7 ∷ 8 ∷ [])
-    × (pointers_after (Free 0 7) (answer.Accepted 0) (7 ∷ 8 ∷ 9 ∷ []) ≡ 8 ∷ 9 ∷ [])
-    × (pointers_after (Free 1 8) (answer.Accepted 0) (7 ∷ 8 ∷ 9 ∷ []) ≡ 7 ∷ 9 ∷ [])
-    × (pointers_after (Free 2 9) (answer.Accepted 0) (7 ∷ 8 ∷ 9 ∷ []) ≡ 7 ∷ 8 ∷ [])
-    × (pointers_after (Store 8 1) (answer.Accepted 0) (7 ∷ 8 ∷ 9 ∷ []) ≡ 7 ∷ 8 ∷ 9 ∷ [])
+    (pointers_after (Allocate 1) (Ok 9) (7 ∷ 8 ∷ []) ≡ 7 ∷ 8 ∷ 9 ∷ [])
+    × (pointers_after (Allocate 1) (Err NoSpace) (7 ∷ 8 ∷ []) ≡ 7 ∷ 8 ∷ [])
+    × (pointers_after (Free 0 7) (Ok 0) (7 ∷ 8 ∷ 9 ∷ []) ≡ 8 ∷ 9 ∷ [])
+    × (pointers_after (Free 1 8) (Ok 0) (7 ∷ 8 ∷ 9 ∷ []) ≡ 7 ∷ 9 ∷ [])
+    × (pointers_after (Free 2 9) (Ok 0) (7 ∷ 8 ∷ 9 ∷ []) ≡ 7 ∷ 8 ∷ [])
+    × (pointers_after (Store 8 1) (Ok 0) (7 ∷ 8 ∷ 9 ∷ []) ≡ 7 ∷ 8 ∷ 9 ∷ [])
 unfolding remove_at pointers_after
 pointers_after_lem = (refl, refl, refl, refl, refl, refl)
 

@@ -1,10 +1,9 @@
 -- The repeatable workload: document 02, W10. Assumes nothing.
-use Rattle.std.specs.Prelude.{ℕ, zero, suc, ◌+◌, Bool, true, false, cond, List, [], ◌∷◌, length, nat_le}
+use Rattle.std.specs.Prelude.{ℕ, zero, suc, ◌+◌, Bool, true, false, cond, List, [], ◌∷◌, length, nat_le, Err, Ok}
 use Rattle.block.specs.Bytes.{put}
 use Rattle.store.specs.State.{State, Outcome, refusal_number}
 use Rattle.store.specs.Calls.{set_up}
-use Rattle.store.specs.declared.answer.Answer.{Answer}
-use Rattle.store.specs.declared.answer.Answer.TheVariants as setting
+use Rattle.store.specs.State.{Answer}
 use Rattle.call_log.specs.Run.{made}
 use Rattle.call_log.specs.Written.{record_of}
 use Rattle.call_log.specs.declared.record.Call.{Call}
@@ -108,8 +107,8 @@ logged_by e = logged (answer_of e) e.at.store e.at.log
 
 -- what follows set-up
 abbrev pub after_set_up : Outcome → ℕ → ℕ → List ℕ → Answer → LoggedOutcome
-after_set_up o g draws log (setting.Refused r) = logged (Refused r) o.after log
-after_set_up o g draws log (setting.Accepted v) = logged_by (draws_from draws (started g o.after log))
+after_set_up o g draws log (Err r) = logged (Refused r) o.after log
+after_set_up o g draws log (Ok v) = logged_by (draws_from draws (started g o.after log))
 
 -- A workload of so many draws from the state g: 1, 2, 3, then 23 before each record.
 unfoldable pub traffic : ℕ → ℕ → ℕ → State → List ℕ → LoggedOutcome

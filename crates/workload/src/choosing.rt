@@ -1,6 +1,6 @@
 // What a draw asks for.
-ghost use Rattle.std.specs.Prelude.{◌≡◌, ◌≤◌, length, take};
-ghost use Rattle.workload.specs.Choice.{position, allocates, choice_of};
+ghost use Rattle.std.specs.Prelude.{◌≡◌, ◌≤◌, length};
+ghost use Rattle.workload.specs.Choice.{position, allocates, choice_of, HasRoom};
 
 // An allocation of so many bytes; a free of the pointer in a position, with that pointer; a store of a byte at a pointer.
 #[derive(Clone, Copy)]
@@ -11,6 +11,7 @@ pub enum Choice {
 }
 
 // Whether the draw v allocates, with so many live pointers.
+#[tactic(auto, unfolding(crate::specs::Choice::allocates))]
 fn allocates(v: u64, count: usize) -> bool
     ensures { result ≡ allocates v count }
 {
@@ -28,15 +29,16 @@ fn position(v: u64, count: usize) -> usize
     (v / 256 % count as u64) as usize
 }
 
-// What the draw v asks for. The live pointers are the first `count` held ones.
-pub fn choose(v: u64, held: &[u64], count: usize) -> Choice
-    requires { count ≤ length held.now }
-    ensures { result ≡ choice_of v (take count held.now) }
+// What the draw v asks for, with these live pointers in the order of their allocation.
+#[tactic(auto, using(crate::proofs::Choices::allocates_some, crate::proofs::Choices::allocates_room), unfolding(crate::specs::Choice::choice_of, crate::specs::Choice::HasRoom))]
+pub fn choose(v: u64, held: &[u64]) -> Choice
+    ensures choice { result ≡ choice_of v held.now }
+    ensures room { HasRoom 64 (length held.now) result }
 {
-    if allocates(v, count) {
+    if allocates(v, held.len()) {
         return Choice::Allocate((1 + v / 256 % 97) as u32);
     }
-    let i = position(v, count);
+    let i = position(v, held.len());
     let p = held[i];
     if v % 4 == 3 {
         return Choice::Store(p, (v % 256) as u8);

@@ -5,36 +5,36 @@ ghost use Rattle.workload.specs.Traffic.{draws_from, started, logged, logged_by,
 
 use crate::answer::Traffic;
 use crate::choosing::choose;
-use crate::generator::{advance, draw};
+use crate::generator::Generator;
+use crate::held::Held;
 use crate::making::make;
 use crate::recording::{put_record, record_length};
-use store::Answer;
 
 // Draws on an image and table that were set up: each call is made and recorded, until all draws are, or the log has no space for the next.
-fn run(image: &mut [u8], table: &mut [u64], generator: u64, draws: u64, log: &mut [u8]) -> Traffic
-    ensures { logged result (state image.new table.new) log.new ≡ logged_by (draws_from draws (started generator (state image.old table.old) log.old)) }
+fn run(
+    image: &mut [u8],
+    table: &mut [u64],
+    mut generator: Generator,
+    draws: u64,
+    log: &mut [u8],
+) -> Traffic
+    ensures { logged result (state image.new table.new) log.new ≡ logged_by (draws_from draws (started generator.state (state image.old table.old) log.old)) }
 {
-    let mut held = [0u64; 64];
-    let mut count = 0;
-    let mut g = generator;
+    let mut held = Held::new();
     let mut written = 0;
-    let mut left = draws;
-    loop {
-        if left == 0 {
-            break Traffic::Done(g, written as u64);
+    for _ in 0..draws {
+        let mut next = generator;
+        let c = choose(next.next(), held.live());
+        let end = written + record_length(c);
+        if log.len() < end {
+            return Traffic::LogFull(generator.state, written as u64);
         }
-        let next = advance(g);
-        let c = choose(draw(next), &held, count);
-        let len = record_length(c);
-        if log.len() - written < len {
-            break Traffic::LogFull(g, written as u64);
-        }
-        count = make(image, table, &mut held, count, c);
-        put_record(log, written, c);
-        written = written + len;
-        g = next;
-        left = left - 1;
+        put_record(&mut log[written..end], c);
+        make(image, table, &mut held, c);
+        written = end;
+        generator = next;
     }
+    Traffic::Done(generator.state, written as u64)
 }
 
 // A workload of so many draws on a fresh image and table, recorded in the log.
@@ -49,7 +49,7 @@ pub fn traffic(
     ensures { logged result (state image.new table.new) log.new ≡ traffic s generator draws (state image.old table.old) log.old }
 {
     match store::set_up(image, table, s) {
-        Answer::Refused(r) => Traffic::Refused(r),
-        Answer::Accepted(_) => run(image, table, generator, draws, log),
+        Err(r) => Traffic::Refused(r),
+        Ok(_) => run(image, table, Generator { state: generator }, draws, log),
     }
 }

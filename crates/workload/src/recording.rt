@@ -1,16 +1,16 @@
-// Writing the record of the call that a draw asks for.
-ghost use Rattle.std.specs.Prelude.{◌≡◌, ◌+◌, ◌≤◌, ◌++◌, length};
-ghost use Rattle.block.specs.Bytes.{encode, put};
+// The record of the call that a draw asks for.
+ghost use Rattle.std.specs.Prelude.{◌≡◌, ◌≤◌, length};
 ghost use Rattle.call_log.specs.Written.{record_of};
-ghost use Rattle.call_log.specs.declared.record.Call.TheVariants as call;
 ghost use Rattle.workload.specs.Choice.{call_of};
 
 use crate::choosing::Choice;
-use block::bytes::{write2, write4, write8};
+use block::bytes::write;
 
-// How long the record is.
+// How long it is: 22 bytes at most.
+#[tactic(auto, using(crate::proofs::Writers::length_allocate, crate::proofs::Writers::length_free, crate::proofs::Writers::length_store))]
 pub fn record_length(c: Choice) -> usize
-    ensures { result ≡ length (record_of (call_of c)) }
+    ensures value { result ≡ length (record_of (call_of c)) }
+    ensures most { result ≤ 22 }
 {
     match c {
         Choice::Allocate(_) => 10,
@@ -19,53 +19,30 @@ pub fn record_length(c: Choice) -> usize
     }
 }
 
-// Puts length and kind.
-fn put_head(log: &mut [u8], at: usize, len: u64, kind: u64)
-    requires { at + 4 ≤ length log.old }
-    ensures { log.new ≡ put log.old at (encode 2 len ++ encode 2 kind) }
-{
-    write2(log, at, len);
-    write2(log, at + 2, kind);
-}
-
-// Puts the record of an allocation of type 0.
-fn put_allocate(log: &mut [u8], at: usize, size: u32)
-    requires { at + 10 ≤ length log.old }
-    ensures { log.new ≡ put log.old at (record_of (call.Allocate size 0)) }
-{
-    put_head(log, at, 10, 16);
-    write4(log, at + 4, size as u64);
-    write2(log, at + 8, 0);
-}
-
-// Puts the record of a free.
-fn put_free(log: &mut [u8], at: usize, p: u64)
-    requires { at + 12 ≤ length log.old }
-    ensures { log.new ≡ put log.old at (record_of (call.Free p)) }
-{
-    put_head(log, at, 12, 17);
-    write8(log, at + 4, p);
-}
-
-// Puts the record of a store of one byte.
-fn put_store(log: &mut [u8], at: usize, p: u64, byte: u8)
-    requires { at + 22 ≤ length log.old }
-    ensures { log.new ≡ put log.old at (record_of (call.Store p 1 byte)) }
-{
-    put_head(log, at, 22, 20);
-    write8(log, at + 4, p);
-    write2(log, at + 12, 1);
-    write8(log, at + 14, byte as u64);
-}
-
-// Puts the record.
-pub fn put_record(log: &mut [u8], at: usize, c: Choice)
-    requires { at + length (record_of (call_of c)) ≤ length log.old }
-    ensures { log.new ≡ put log.old at (record_of (call_of c)) }
+// Fills its space with it: its length, the call's number, and the call's arguments.
+#[tactic(auto, using(crate::proofs::Writers::length_allocate, crate::proofs::Writers::length_free, crate::proofs::Writers::length_store, crate::proofs::Writers::allocate_put, crate::proofs::Writers::free_put, crate::proofs::Writers::store_put))]
+pub fn put_record(space: &mut [u8], c: Choice)
+    requires { length space.old ≡ length (record_of (call_of c)) }
+    ensures { space.new ≡ record_of (call_of c) }
 {
     match c {
-        Choice::Allocate(size) => put_allocate(log, at, size),
-        Choice::Free(_, p) => put_free(log, at, p),
-        Choice::Store(p, byte) => put_store(log, at, p, byte),
+        Choice::Allocate(size) => {
+            write::<2>(space, 0, 10);
+            write::<2>(space, 2, 16);
+            write::<4>(space, 4, size as u64);
+            write::<2>(space, 8, 0);
+        }
+        Choice::Free(_, p) => {
+            write::<2>(space, 0, 12);
+            write::<2>(space, 2, 17);
+            write::<8>(space, 4, p);
+        }
+        Choice::Store(p, byte) => {
+            write::<2>(space, 0, 22);
+            write::<2>(space, 2, 20);
+            write::<8>(space, 4, p);
+            write::<2>(space, 12, 1);
+            write::<8>(space, 14, byte as u64);
+        }
     }
 }

@@ -1,5 +1,5 @@
 -- Counting the blocks. Assumes nothing.
-use Rattle.std.specs.Prelude.{◌≡◌, ℕ, ◌+◌, true, List, length, ◌≢◌, refl}
+use Rattle.std.specs.Prelude.{◌≡◌, ℕ, ◌+◌, true, List, length, ◌≢◌, refl, Some}
 use Rattle.std.proofs.Common.{ap, arith, eq-eqb, ne_eqb, eqb-true}
 use Rattle.std.proofs.lemmas.Bool.{eqb-false}
 use Rattle.block.specs.laws.Booleans.{by_bool}
@@ -9,7 +9,6 @@ use Rattle.block.specs.Walk.{Walked, stopped, unsound, ended, walk, no_counts, w
 use Rattle.block.specs.laws.Walks.{walk_carries_on}
 use Rattle.block.specs.declared.header.Header.{Header}
 use Rattle.block.specs.declared.walk.Counts.{Counts}
-use Rattle.block.specs.declared.walk.Counted.TheVariants as counted
 
 -- counts are the same where each number is
 pub same-counts : {a b : Counts} → a.objects ≡ b.objects → a.live ≡ b.live → a.free ≡ b.free → a.overhead ≡ b.overhead → a ≡ b
@@ -25,12 +24,12 @@ module _ (a : Counts) (h : ℕ) (d : Header) where
   passes-free k = simp (ne_eqb _ _ k)
 
 -- the counts that the walk ends with are the answer
-pub count_is : (image : List ℕ) (a : Counts) → walk counting image no_counts ≡ ended a → count_blocks image ≡ counted.Counts a
+pub count_is : (image : List ℕ) (a : Counts) → walk counting image no_counts ≡ ended a → count_blocks image ≡ Some a
 unfolding count_blocks count_of
 count_is image a e = ap count_of e
 
 -- and no other are
-count_ended : (w : Walked Counts) (a : Counts) → count_of w ≡ counted.Counts a → w ≡ ended a
+count_ended : (w : Walked Counts) (a : Counts) → count_of w ≡ Some a → w ≡ ended a
 unfolding count_of
 count_ended (stopped b h) a e = let z : ◌≡◌ {A = ℕ} 0 1 = cc in absurd (omega arith)
 count_ended (unsound h) a e = let z : ◌≡◌ {A = ℕ} 0 1 = cc in absurd (omega arith)
@@ -49,7 +48,7 @@ passes_balanced image a h p o =
     (λ t. rw (passes-free a h (header_at image h) (eqb-false _ _ t)) (omega arith))
 
 -- live, free and overhead bytes are all bytes behind the superblock
-pub count_balanced : (image : List ℕ) (a : Counts) → count_blocks image ≡ counted.Counts a → 16 + (a.live + a.free + a.overhead) ≡ length image
+pub count_balanced : (image : List ℕ) (a : Counts) → count_blocks image ≡ Some a → 16 + (a.live + a.free + a.overhead) ≡ length image
 unfolding count_blocks
 count_balanced image a e =
     walk_carries_on counting image Balanced (λ b h p o t. passes_balanced image b h p o) no_counts a refl (count_ended (walk counting image no_counts) a e)

@@ -1,5 +1,5 @@
 -- Sound headers: taken apart, and how a header is sound. Assumes nothing.
-use Rattle.std.specs.Prelude.{◌≡◌, ℕ, ◌+◌, ◌<◌, ◌≤◌, Bool, true, false, cond, ◌&&◌, ◌⊎◌, List, length, ◌==◌, ◌≢◌, nat_le}
+use Rattle.std.specs.Prelude.{◌≡◌, ℕ, ◌+◌, ◌<◌, ◌≤◌, Bool, true, false, cond, ◌&&◌, ◌⊎◌, List, length, ◌==◌, ◌≢◌, nat_le, None, Option, Some}
 use Rattle.std.proofs.Math.Path.{refl}
 use Rattle.std.proofs.Common.{ap, ◌∙◌, ⊎_elim, inl, inr, arith}
 use Rattle.std.proofs.Math.Bool.{and-false}
@@ -7,10 +7,6 @@ use borrow.Author.Tests.{le-leb, lt-leb, eq-eqb, ne_eqb, leb-true, eqb-true}
 use Rattle.block.specs.laws.Booleans.{by_bool, and_left, and_right}
 use Rattle.block.specs.Layout.{fields, header_at, extent_at, kind_at, size_at, is_live, free_formed, live_formed, well_formed, sound}
 use Rattle.block.specs.declared.header.Header.{Header}
-use Rattle.block.specs.declared.header.Examined.TheVariants as examining
-use Rattle.block.specs.declared.header.Examined.{Examined}
-use Rattle.block.specs.declared.header.Object.TheVariants as object
-use Rattle.block.specs.declared.header.Object.{Object}
 
 -- well-formed headers, taken apart
 
@@ -159,62 +155,62 @@ module _ (image : List ℕ) (h : ℕ) where
   unsound_kind f l = simp (ne_eqb _ _ f, ne_eqb _ _ l, and-false)
 
 -- what `live_size` answers
-unfoldable pub object_at : List ℕ → ℕ → Object
-object_at image h = cond (sound image h && is_live image h) (object.Size (size_at image h)) object.None
+unfoldable pub object_at : List ℕ → ℕ → Option ℕ
+object_at image h = cond (sound image h && is_live image h) (Some (size_at image h)) None
 
 -- a sound header of a live block
-pub object_live : (image : List ℕ) (h : ℕ) → sound image h ≡ true → kind_at image h ≡ 2 → object_at image h ≡ object.Size (size_at image h)
+pub object_live : (image : List ℕ) (h : ℕ) → sound image h ≡ true → kind_at image h ≡ 2 → object_at image h ≡ Some (size_at image h)
 unfolding object_at
 object_live image h e k = rw (e, eq-eqb (kind_at image h) 2 k)
 
 -- none
-pub object_none : (image : List ℕ) (h : ℕ) → sound image h && is_live image h ≡ false → object_at image h ≡ object.None
+pub object_none : (image : List ℕ) (h : ℕ) → sound image h && is_live image h ≡ false → object_at image h ≡ None
 unfolding object_at
 object_none image h e = rw e
 
-pub object_unsound : (image : List ℕ) (h : ℕ) → sound image h ≡ false → object_at image h ≡ object.None
+pub object_unsound : (image : List ℕ) (h : ℕ) → sound image h ≡ false → object_at image h ≡ None
 object_unsound image h e = object_none image h (rw e)
 
-pub object_dead : (image : List ℕ) (h : ℕ) → (kind_at image h ≢ 2) → object_at image h ≡ object.None
+pub object_dead : (image : List ℕ) (h : ℕ) → (kind_at image h ≢ 2) → object_at image h ≡ None
 object_dead image h n = object_none image h (rw (ne_eqb (kind_at image h) 2 n) (and-false (sound image h)))
 
 -- and what its answer says
-pub object_is : (image : List ℕ) (h size : ℕ) → object_at image h ≡ object.Size size → (sound image h ≡ true) × (is_live image h ≡ true) × (size ≡ size_at image h)
+pub object_is : (image : List ℕ) (h size : ℕ) → object_at image h ≡ Some size → (sound image h ≡ true) × (is_live image h ≡ true) × (size ≡ size_at image h)
 unfolding object_at
 object_is image h size e =
     by_bool (sound image h && is_live image h)
-    (λ t. let x : object.Size (size_at image h) ≡ object.Size size = rw t at e in (and_left _ (is_live image h) t, and_right (sound image h) _ t, (cc)))
-    (λ t. let x : object.None ≡ object.Size size = rw t at e in let z : ◌≡◌ {A = ℕ} 0 1 = cc in absurd (omega arith))
+    (λ t. let x : Some (size_at image h) ≡ Some size = rw t at e in (and_left _ (is_live image h) t, and_right (sound image h) _ t, (cc)))
+    (λ t. let x : None ≡ Some size = rw t at e in let z : ◌≡◌ {A = ℕ} 0 1 = cc in absurd (omega arith))
 
-pub object_is_none : (image : List ℕ) (h : ℕ) → object_at image h ≡ object.None → sound image h && is_live image h ≡ false
+pub object_is_none : (image : List ℕ) (h : ℕ) → object_at image h ≡ None → sound image h && is_live image h ≡ false
 unfolding object_at
 object_is_none image h e =
     by_bool (sound image h && is_live image h)
-    (λ t. let x : object.Size (size_at image h) ≡ object.None = rw t at e in let z : ◌≡◌ {A = ℕ} 0 1 = cc in absurd (omega arith))
+    (λ t. let x : Some (size_at image h) ≡ None = rw t at e in let z : ◌≡◌ {A = ℕ} 0 1 = cc in absurd (omega arith))
     (λ t. t)
 
 -- what `examine` answers
-unfoldable pub examined : List ℕ → ℕ → Examined
-examined image h = cond (sound image h) (examining.Sound (header_at image h)) examining.Unsound
+unfoldable pub examined : List ℕ → ℕ → Option Header
+examined image h = cond (sound image h) (Some (header_at image h)) None
 
 -- what examining answers
-pub examined-sound : (image : List ℕ) (h : ℕ) → sound image h ≡ true → examined image h ≡ examining.Sound (header_at image h)
+pub examined-sound : (image : List ℕ) (h : ℕ) → sound image h ≡ true → examined image h ≡ Some (header_at image h)
 unfolding examined
 examined-sound image h e = simp e
 
-pub examined_unsound : (image : List ℕ) (h : ℕ) → sound image h ≡ false → examined image h ≡ examining.Unsound
+pub examined_unsound : (image : List ℕ) (h : ℕ) → sound image h ≡ false → examined image h ≡ None
 unfolding examined
 examined_unsound image h e = simp e
 
 -- and what its answer says
-pub examined_is_sound : (image : List ℕ) (h : ℕ) (d : Header) → examined image h ≡ examining.Sound d → (sound image h ≡ true) × (d ≡ header_at image h)
+pub examined_is_sound : (image : List ℕ) (h : ℕ) (d : Header) → examined image h ≡ Some d → (sound image h ≡ true) × (d ≡ header_at image h)
 examined_is_sound image h d e =
     by_bool (sound image h)
-    (λ t. let x : examined image h ≡ examining.Sound (header_at image h) = examined-sound image h t in (t, (cc)))
-    (λ t. let x : examined image h ≡ examining.Unsound = examined_unsound image h t in let z : ◌≡◌ {A = ℕ} 0 1 = cc in absurd (omega arith))
+    (λ t. let x : examined image h ≡ Some (header_at image h) = examined-sound image h t in (t, (cc)))
+    (λ t. let x : examined image h ≡ None = examined_unsound image h t in let z : ◌≡◌ {A = ℕ} 0 1 = cc in absurd (omega arith))
 
-pub examined_is_unsound : (image : List ℕ) (h : ℕ) → examined image h ≡ examining.Unsound → sound image h ≡ false
+pub examined_is_unsound : (image : List ℕ) (h : ℕ) → examined image h ≡ None → sound image h ≡ false
 examined_is_unsound image h e =
     by_bool (sound image h)
-    (λ t. let x : examined image h ≡ examining.Sound (header_at image h) = examined-sound image h t in let z : ◌≡◌ {A = ℕ} 0 1 = cc in absurd (omega arith))
+    (λ t. let x : examined image h ≡ Some (header_at image h) = examined-sound image h t in let z : ◌≡◌ {A = ℕ} 0 1 = cc in absurd (omega arith))
     (λ t. t)

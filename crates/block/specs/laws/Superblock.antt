@@ -1,13 +1,11 @@
 -- The superblock: taken apart, and how it is good. Assumes nothing.
-use Rattle.std.specs.Prelude.{◌≡◌, ℕ, ◌+◌, ◌^◌, ◌<◌, ◌≤◌, true, false, cond, List, ◌++◌, length, ◌==◌, nat_le, slice_index, refl}
+use Rattle.std.specs.Prelude.{◌≡◌, ℕ, ◌+◌, ◌^◌, ◌<◌, ◌≤◌, true, false, cond, List, ◌++◌, length, ◌==◌, nat_le, slice_index, refl, None, Option, Some}
 use Rattle.std.proofs.Common.{sym, ap, ◌∙◌, arith, length-append, lit<, le-leb, eq-eqb, leb-true, eqb-true}
 use Rattle.block.specs.Bytes.{encode, field, put}
 use Rattle.block.specs.laws.Fields.{decode-encode, field_ext}
 use Rattle.block.specs.laws.Writes.{length-put, get_or-put_below}
 use Rattle.block.specs.laws.Booleans.{by_bool, refuted, and_both, and_left, and_right}
 use Rattle.block.specs.Layout.{superblock, slot_exponent, stored_total, good_exponent, good_length, superblock_good}
-use Rattle.block.specs.declared.superblock.Opened.TheVariants as opening
-use Rattle.block.specs.declared.superblock.Opened.{Opened}
 
 -- the superblock
 
@@ -116,30 +114,30 @@ superblock_kept image at bs fits low =
     superblock-same (put image at bs) image (length-put image at bs fits) (λ k l. get_or-put_below image at bs fits k (omega arith))
 
 -- what `open` answers
-unfoldable pub opened : List ℕ → Opened
-opened image = cond (superblock_good image) (opening.Exponent (slot_exponent image)) opening.Bad
+unfoldable pub opened : List ℕ → Option ℕ
+opened image = cond (superblock_good image) (Some (slot_exponent image)) None
 
 -- what opening answers
-pub opened_good : (image : List ℕ) → superblock_good image ≡ true → opened image ≡ opening.Exponent (slot_exponent image)
+pub opened_good : (image : List ℕ) → superblock_good image ≡ true → opened image ≡ Some (slot_exponent image)
 unfolding opened
 opened_good image e = simp e
 
-pub opened-refused : (image : List ℕ) → superblock_good image ≡ false → opened image ≡ opening.Bad
+pub opened-refused : (image : List ℕ) → superblock_good image ≡ false → opened image ≡ None
 unfolding opened
 opened-refused image e = simp e
 
-pub opened_bad : (image : List ℕ) → (Superblock image → ⊥) → opened image ≡ opening.Bad
+pub opened_bad : (image : List ℕ) → (Superblock image → ⊥) → opened image ≡ None
 opened_bad image n = opened-refused image (refuted (superblock_good image) (λ e. n (superblock_parts image e)))
 
 -- and what its answer says
-pub opened_is_good : (image : List ℕ) (s : ℕ) → opened image ≡ opening.Exponent s → (superblock_good image ≡ true) × (s ≡ slot_exponent image)
+pub opened_is_good : (image : List ℕ) (s : ℕ) → opened image ≡ Some s → (superblock_good image ≡ true) × (s ≡ slot_exponent image)
 opened_is_good image s e =
     by_bool (superblock_good image)
-    (λ t. let x : opened image ≡ opening.Exponent (slot_exponent image) = opened_good image t in (t, (cc)))
-    (λ t. let x : opened image ≡ opening.Bad = opened-refused image t in let z : ◌≡◌ {A = ℕ} 0 1 = cc in absurd (omega arith))
+    (λ t. let x : opened image ≡ Some (slot_exponent image) = opened_good image t in (t, (cc)))
+    (λ t. let x : opened image ≡ None = opened-refused image t in let z : ◌≡◌ {A = ℕ} 0 1 = cc in absurd (omega arith))
 
-pub opened_is_bad : (image : List ℕ) → opened image ≡ opening.Bad → superblock_good image ≡ false
+pub opened_is_bad : (image : List ℕ) → opened image ≡ None → superblock_good image ≡ false
 opened_is_bad image e =
     by_bool (superblock_good image)
-    (λ t. let x : opened image ≡ opening.Exponent (slot_exponent image) = opened_good image t in let z : ◌≡◌ {A = ℕ} 0 1 = cc in absurd (omega arith))
+    (λ t. let x : opened image ≡ Some (slot_exponent image) = opened_good image t in let z : ◌≡◌ {A = ℕ} 0 1 = cc in absurd (omega arith))
     (λ t. t)

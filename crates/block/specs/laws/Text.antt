@@ -1,5 +1,5 @@
 -- Texts: their length, and a search that passes bytes without a zero among them. Assumes nothing.
-use Rattle.std.specs.Prelude.{◌≡◌, ℕ, zero, suc, ◌+◌, ◌-◌, ◌<◌, ◌≤◌, Bool, false, ◌||◌, List, [], ◌∷◌, length, take, drop, ◌==◌, ◌≢◌, slice_index, refl}
+use Rattle.std.specs.Prelude.{◌≡◌, ℕ, zero, suc, ◌+◌, ◌-◌, ◌<◌, ◌≤◌, Bool, false, ◌||◌, List, [], ◌∷◌, length, take, drop, ◌==◌, ◌≢◌, slice_index, refl, None, Option, Some}
 use Rattle.std.proofs.Common.{sym, ◌∙◌, zero-add, suc-add, add-zero, add-suc, drop-cons, eq-eqb, ne_eqb, eqb-true}
 use Rattle.std.proofs.Math.Path.{ap}
 use Rattle.std.proofs.Math.Bool.{or-false, or_assoc}
@@ -11,12 +11,10 @@ use Rattle.block.specs.Bytes.{field}
 use Rattle.block.specs.Text.{text_from, text_of}
 use Rattle.block.specs.laws.Booleans.{by_bool}
 use Rattle.block.specs.laws.Fields.{field_one}
-use Rattle.block.specs.declared.text.Text.{Text}
-use Rattle.block.specs.declared.text.Text.TheVariants.{Ends, Endless}
 
 -- a text, by its first byte
 
-text_ends : (n b : ℕ) (bs : List ℕ) → b ≡ 0 → text_from n (b ∷ bs) ≡ Ends n
+text_ends : (n b : ℕ) (bs : List ℕ) → b ≡ 0 → text_from n (b ∷ bs) ≡ Some n
 unfolding text_from
 text_ends n b bs e = rw (text_from, eq-eqb b 0 e)
 
@@ -30,7 +28,7 @@ unfolding text_of
 text_whole bs = refl
 
 -- its zero byte is one of the list's
-text_from_bound : (n : ℕ) (bs : List ℕ) (m : ℕ) → text_from n bs ≡ Ends m → m < n + length bs
+text_from_bound : (n : ℕ) (bs : List ℕ) (m : ℕ) → text_from n bs ≡ Some m → m < n + length bs
 unfolding text_from
 text_from_bound n [] m e = let z : ◌≡◌ {A = ℕ} 0 1 = cc in absurd (omega arith)
 text_from_bound n (b ∷ bs) m e =
@@ -38,7 +36,7 @@ text_from_bound n (b ∷ bs) m e =
     (λ t. let q : n ≡ m = cc (text_ends n b bs (eqb-true b 0 t)) in omega arith)
     (λ t. omega (arith, text_from_bound (n + 1) bs m (sym (text_goes_on n b bs (eqb-false b 0 t)) ∙ e)))
 
-pub text_bound : (bs : List ℕ) (m : ℕ) → text_of bs ≡ Ends m → m < length bs
+pub text_bound : (bs : List ℕ) (m : ℕ) → text_of bs ≡ Some m → m < length bs
 text_bound bs m e = omega (arith, text_from_bound 0 bs m (sym (text_whole bs) ∙ e))
 
 -- Zero bytes.
@@ -62,7 +60,7 @@ zero_parts image (suc v) w at =
     (sym (or_assoc (slice_index image at == 0) (any_zero image (suc at) v) (any_zero image (suc at + v) w)))
 
 -- the text in the n bytes at `at`, after the first i of them, of which none is zero
-abbrev pub text_after : List ℕ → ℕ → ℕ → ℕ → Text
+abbrev pub text_after : List ℕ → ℕ → ℕ → ℕ → Option ℕ
 text_after image at n i = text_from i (take (n - i) (drop (at + i) image))
 
 module _ (image : List ℕ) (at n : ℕ) where
@@ -71,7 +69,7 @@ module _ (image : List ℕ) (at n : ℕ) where
   text_start = simp (sub-zero, add-zero, text_whole)
 
   -- after all of them
-  pub text_end : (i : ℕ) → n ≤ i → text_after image at n i ≡ Endless
+  pub text_end : (i : ℕ) → n ≤ i → text_after image at n i ≡ None
   unfolding text_from
   text_end i l = let e : n - i ≡ 0 = omega arith in rw e
 
@@ -84,7 +82,7 @@ module _ (image : List ℕ) (at n : ℕ) where
         rw (e, d, drop-cons image (at + i) 0 (omega arith))
 
     -- it is zero
-    pub text_stops : (i : ℕ) → i < n → field image (at + i) 1 ≡ 0 → text_after image at n i ≡ Ends i
+    pub text_stops : (i : ℕ) → i < n → field image (at + i) 1 ≡ 0 → text_after image at n i ≡ Some i
     text_stops i l e = next_byte i l ∙ text_ends i _ _ (sym (field_one image (at + i)) ∙ e)
 
     -- a turn of a loop over them: none of their next w bytes is zero

@@ -1,5 +1,5 @@
 -- A turn of a loop that walks: what is left of the walk, the header that was examined, and how the walk ends or goes on. Assumes nothing.
-use Rattle.std.specs.Prelude.{◌≡◌, ℕ, ◌+◌, ◌≤◌, true, false, ◌⊎◌, List, length, ◌==◌, ◌≢◌}
+use Rattle.std.specs.Prelude.{◌≡◌, ℕ, ◌+◌, ◌≤◌, true, false, ◌⊎◌, List, length, ◌==◌, ◌≢◌, None, Some}
 use Rattle.std.proofs.Common.{sym, ap, ◌∙◌, subst, ⊎_elim, arith, eq-eqb, eqb-true}
 use Rattle.std.proofs.lemmas.Bool.{eqb-false}
 use Rattle.block.specs.laws.Booleans.{by_bool}
@@ -8,7 +8,6 @@ use Rattle.block.specs.laws.Soundness.{examined, Free, Live, sound_kinds, sound_
 use Rattle.block.specs.Walk.{stopped, unsound, ended, Search, walk_from, walk}
 use Rattle.block.specs.laws.Walks.{walk_begins, walk_ended, walk_unsound, walk_stopped, walk-next}
 use Rattle.block.specs.declared.header.Header.{Header}
-use Rattle.block.specs.declared.header.Examined.TheVariants as examining
 
 -- the loops' invariant: the walk from h on, with `a` gathered, is what is left of the whole walk
 pub record Walking {A : Type 0} (s : Search A) (image : List ℕ) (first a : A) (h : ℕ) : Type 0 where
@@ -21,7 +20,7 @@ pub record Seen (image : List ℕ) (h : ℕ) (d : Header) : Type 0 where
   pub inside : h + d.extent ≤ length image
   pub long : 16 ≤ d.extent
 
-pub seen_at : (image : List ℕ) (h : ℕ) (d : Header) → examined image h ≡ examining.Sound d → Seen image h d
+pub seen_at : (image : List ℕ) (h : ℕ) (d : Header) → examined image h ≡ Some d → Seen image h d
 seen_at image h d e =
     let (o, r) = examined_is_sound image h d e in
     record {
@@ -59,7 +58,7 @@ module _ {A : Type 0} {s : Search A} {image : List ℕ} {first a : A} {h : ℕ} 
   pub at-end : h ≡ length image → ended a ≡ walk s image first
   at-end e = sym (walk_ended s image a h e) ∙ w.rest
 
-  pub at_unsound : (h ≢ length image) → examined image h ≡ examining.Unsound → unsound h ≡ walk s image first
+  pub at_unsound : (h ≢ length image) → examined image h ≡ None → unsound h ≡ walk s image first
   at_unsound n e = sym (walk_unsound s image a h n (examined_is_unsound image h e)) ∙ w.rest
 
   module _ {d : Header} (e : Seen image h d) where

@@ -1,5 +1,5 @@
 -- The walk to a block. Assumes nothing.
-use Rattle.std.specs.Prelude.{◌≡◌, ℕ, ◌+◌, ◌≤◌, true, List, length, ◌==◌, refl}
+use Rattle.std.specs.Prelude.{◌≡◌, ℕ, ◌+◌, ◌≤◌, true, List, length, ◌==◌, refl, None, Some}
 use Rattle.std.proofs.Common.{sym, ap, ◌∙◌, subst, arith, le-leb, eq-eqb, eqb-true}
 use Rattle.std.proofs.lemmas.Bool.{lt-leb, eqb-false}
 use Rattle.block.specs.Layout.{extent_at, sound}
@@ -8,8 +8,6 @@ use Rattle.block.specs.laws.Soundness.{examined, sound_in, sound-extent}
 use Rattle.block.specs.Walk.{Walked, stopped, unsound, ended, walk, reaching, met_of, walk_to, OnWalk, first, next}
 use Rattle.block.specs.laws.Walks.{Ends, walk_begins, walk_stopped, walk-next, walk_carries, walk_reaches}
 use Rattle.block.specs.laws.Turns.{Walking, at-end, at_unsound}
-use Rattle.block.specs.declared.header.Examined.TheVariants as examining
-use Rattle.block.specs.declared.walk.Met.TheVariants as met
 
 -- a place before which a block ends: 16 with no block before it (0), or the end of the sound block at `before`
 pub data Behind (image : List ℕ) : ℕ → ℕ → Type 0 where
@@ -36,7 +34,7 @@ pub record MeetsBlock (image : List ℕ) (target before : ℕ) : Type 0 where
 Follows : List ℕ → ℕ → ℕ → Type 0
 Follows image before h = OnWalk image h × Behind image before h
 
-met_after : (image : List ℕ) (target before : ℕ) (w : Walked ℕ) → Ends (reaching target) image (Follows image) w → met_of target w ≡ met.After before → MeetsBlock image target before
+met_after : (image : List ℕ) (target before : ℕ) (w : Walked ℕ) → Ends (reaching target) image (Follows image) w → met_of target w ≡ Some before → MeetsBlock image target before
 unfolding Ends met_of Follows
 met_after image target before (stopped a h) r e =
     by_bool (h == target)
@@ -52,12 +50,12 @@ met_after image target before (unsound h) r e = let z : ◌≡◌ {A = ℕ} 0 1 
 met_after image target before (ended a) r e = let z : ◌≡◌ {A = ℕ} 0 1 = cc in absurd (omega arith)
 
 -- a walk that stops at the target meets it
-pub walk_to_stopped : (image : List ℕ) (target before : ℕ) → walk (reaching target) image 0 ≡ stopped before target → walk_to image target ≡ met.After before
+pub walk_to_stopped : (image : List ℕ) (target before : ℕ) → walk (reaching target) image 0 ≡ stopped before target → walk_to image target ≡ Some before
 unfolding walk_to met_of
 walk_to_stopped image target before e = rw (e, eq-eqb target target refl) refl
 
 -- a walk that comes to a place without a sound header is lost, whether it is the image's end or not
-pub walk_to_lost : {image : List ℕ} {before h : ℕ} (target : ℕ) → Walking (reaching target) image 0 before h → examined image h ≡ examining.Unsound → met.Lost ≡ walk_to image target
+pub walk_to_lost : {image : List ℕ} {before h : ℕ} (target : ℕ) → Walking (reaching target) image 0 before h → examined image h ≡ None → None ≡ walk_to image target
 unfolding walk_to met_of
 walk_to_lost {image} {before} {h} target w e =
     by_bool (h == length image)
@@ -65,7 +63,7 @@ walk_to_lost {image} {before} {h} target w e =
     (λ t. ap (met_of target) (at_unsound w (eqb-false _ _ t) e))
 
 -- the block that was met is on the walk, behind the one named
-pub walk_to_meets : (image : List ℕ) (target before : ℕ) → walk_to image target ≡ met.After before → MeetsBlock image target before
+pub walk_to_meets : (image : List ℕ) (target before : ℕ) → walk_to image target ≡ Some before → MeetsBlock image target before
 unfolding walk_to Follows
 walk_to_meets image target before e =
     met_after image target before (walk (reaching target) image 0)
@@ -73,13 +71,13 @@ walk_to_meets image target before e =
     e
 
 -- every sound block on the walk is met
-pub walk_to_block : (image : List ℕ) (target : ℕ) → OnWalk image target → sound image target ≡ true → (before : ℕ) × (walk_to image target ≡ met.After before)
+pub walk_to_block : (image : List ℕ) (target : ℕ) → OnWalk image target → sound image target ≡ true → (before : ℕ) × (walk_to image target ≡ Some before)
 walk_to_block image target w o =
     let r = walk_reaches (reaching target) image 0 target (λ k l. lt-leb target k l) target w (omega arith) in
     (r.0, walk_to_stopped image target r.0 (sym r.1 ∙ walk_stopped (reaching target) image r.0 target o (le-leb target target (omega arith))))
 
 -- the same, behind a block that is known
-pub behind_met : {image : List ℕ} {before h : ℕ} → Behind image before h → sound image h ≡ true → walk_to image h ≡ met.After before
+pub behind_met : {image : List ℕ} {before h : ℕ} → Behind image before h → sound image h ≡ true → walk_to image h ≡ Some before
 behind_met {image} at_first o =
     walk_to_stopped image 16 0 (sym (walk_begins (reaching 16) image 0) ∙ walk_stopped (reaching 16) image 0 16 o (le-leb 16 16 (omega arith)))
 behind_met {image} (at_later b w q) o =

@@ -1,16 +1,17 @@
--- `capi::cue_order`: `placement::order`'s answer as a number and four values, of which the order's places are bytes. Assumes nothing.
-use mathlib.Core.Path.{ap, ◌∙◌}
-use Prim.Native.Nat.{ℕ}
-use Rattle.placement.specs.laws.Rows.{placement_bytes}
+-- `capi::cue_order`: what `order` found, of which the order's places are bytes; or a refusal's number, and zeros. Assumes nothing.
+use Rattle.std.proofs.Common.{sym, ap, ◌∙◌, ℕ}
+use Rattle.placement.specs.Placement.{refusal_number}
+use Rattle.placement.specs.laws.Answered.{refused_word}
 use Rattle.capi.specs.Exports.{ordered, exported_placement}
 use Rattle.capi.proofs.cue_order.Goals as goal
 
--- every place of an answer is a byte
-pub order_word-requires : goal.order_word-requires
-order_word-requires c k = rw c.order-p.ensures (placement_bytes _ _ _ k)
+pub returns-in-Ok : goal.returns-in-Ok
+returns-in-Ok c =
+    let p = c.in-Ok.p in
+    ap (λ (word : ℕ). ordered 0 word p.large p.tried p.floor) c.order_word.ensures ∙ ap exported_placement c.in-Ok.ensures
 
--- what `order` answered
-pub returns : goal.returns
-returns c =
-    ap (λ (w : ℕ). ordered c.order-p.result.row w c.order-p.result.large c.order-p.result.tried c.order-p.result.floor) c.order_word.ensures
-    ∙ ap exported_placement c.order-p.ensures
+pub returns-in-Err : goal.returns-in-Err
+returns-in-Err c =
+    let row : ℕ = refusal_number c.in-Err.r in
+    ap (λ (n : ℕ). ordered n 0 0 0 0) c.number.ensures ∙ ap (λ (word : ℕ). ordered row word 0 0 0) (sym (refused_word row))
+    ∙ ap exported_placement c.in-Err.ensures

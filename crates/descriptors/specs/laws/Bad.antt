@@ -1,27 +1,19 @@
 -- What row 24 refuses, and what it lets pass, case by case. Assumes nothing.
-use Prim.Native.Nat.{ℕ, zero, suc, ◌+◌, ◌-◌, ◌%◌, ◌<◌}
-use Rattle.std.specs.Prelude.{◌≡◌, false, List, length, leb, ltb, eqb}
-use Rattle.std.proofs.Math.Path.{refl}
-use Rattle.std.proofs.Common.{sym, ap, ◌∙◌, eq-eqb, leb-false, ltb-false, eqb-true}
-use Rattle.std.proofs.Math.Bool.{true}
-use native.Mathlib.Omega.{arith}
+use Rattle.std.proofs.Common.{ℕ, zero, suc, ◌+◌, ◌<◌, ◌≡◌, false, List, length, leb, eqb, None, Option, Some, refl, sym, ap, ◌∙◌, leb-false, eqb-true, true, arith}
 use Rattle.std.proofs.lemmas.Bool.{eqb-false}
-use Rattle.block.specs.laws.Booleans.{by_bool, true_false}
+use Rattle.std.proofs.lemmas.Grind.{common_steps}
+use Rattle.block.specs.laws.Booleans.{by_bool}
 use Rattle.descriptors.specs.Descriptors.{descriptor_at, length_at, kind_at, type_at, size_at, field_count, field_at, WholeTo, start, look_up, field_end, good_fields_in, good_shape, good_head, good_descriptor, good_from_in, good_list, Stands}
 use Rattle.descriptors.specs.Claims.{Describes, BadFieldAt, no_earlier_type, overlaps, sticks_out, BadDescriptorAt, no_head, cut_short, unknown_kind, no_size, plain-length, record_length_lem, repeated_type, bad_field, SomeBad}
-use Rattle.descriptors.specs.laws.Lookups.{whole-inside, whole_boundary, at_injective, found_at, found_describes, missed}
+use Rattle.descriptors.specs.laws.Lookups.{whole-inside, whole_boundary, found_at, found_describes, missed}
 use Rattle.descriptors.specs.laws.Fields.{Fits, end_of, Tried, fits, unnamed, early, late, tried, fields_on, fields_apart}
-use Rattle.descriptors.specs.laws.Lists.{Shaped, plain, fielded, headed-length, headed-over, good_parts, good_here, field_fits, describes_stands, lookup-at}
-use Rattle.descriptors.specs.laws.Checks.{shape_record}
-use Rattle.descriptors.specs.declared.descriptor.FieldEnd.TheVariants.{EndsAt}
-use Rattle.descriptors.specs.declared.descriptor.Lookup.{Lookup}
-use Rattle.descriptors.specs.declared.descriptor.Lookup.TheVariants.{At, Nowhere}
+use Rattle.descriptors.specs.laws.Lists.{headed-length, headed-over, good_parts, good_here, length_here, field_fits, describes_stands, lookup-at}
 
 -- A list that is refused has a bad descriptor.
 
 module _ (list : List ℕ) (p : ℕ) (w : WholeTo list p) where
   -- what a lookup before p finds is described there
-  described : (type q : ℕ) → look_up list p type ≡ At q → Describes list p type q
+  described : (type q : ℕ) → look_up list p type ≡ Some q → Describes list p type q
   described type q e = found_describes list p type q (found_at list p type q w e)
 
   -- where field k may start: anywhere, or at the end of the field before it
@@ -35,7 +27,7 @@ module _ (list : List ℕ) (p : ℕ) (w : WholeTo list p) where
 
   bad_field_in : (n k from : ℕ) → From k from → good_fields_in n list p from k ≡ false → (j : ℕ) × (j < k + n) × BadFieldAt list p j
   unfolding good_fields_in
-  bad_field_in zero k from f g = absurd (true_false refl g)
+  bad_field_in zero k from f g = cc
   bad_field_in (suc n) k from f g =
       go (tried list p from (field_at list p k))
       (λ i e.
@@ -43,7 +35,7 @@ module _ (list : List ℕ) (p : ℕ) (w : WholeTo list p) where
       (sym (fields_on list p n from k _ e) ∙ g))
     where
       go : Tried list p from (field_at list p k)
-          → ((i : Fits list p from (field_at list p k)) → field_end list p from (field_at list p k) ≡ EndsAt (end_of list p from (field_at list p k) i)
+          → ((i : Fits list p from (field_at list p k)) → field_end list p from (field_at list p k) ≡ Some (end_of list p from (field_at list p k) i)
           → (j : ℕ) × (j < suc k + n) × BadFieldAt list p j)
           → (j : ℕ) × (j < k + suc n) × BadFieldAt list p j
       go (fits i e) rest = let (j, l, b) = rest i e in (j, omega arith, b)
@@ -54,15 +46,10 @@ module _ (list : List ℕ) (p : ℕ) (w : WholeTo list p) where
   bad_shape : good_shape (descriptor_at list p) ≡ false → BadDescriptorAt list p
   bad_shape g =
       by_bool (eqb (kind_at list p) 4)
-      (λ t. plain-length (eqb-true _ _ t) (eqb-false (length_at list p) 12 (rw t at g)))
+      (λ t. plain-length (eqb-true _ _ t) (λ e. grind (arith, common_steps)))
       (λ t.
       by_bool (eqb (kind_at list p) 5)
-      (λ u.
-      record_length_lem (eqb-true _ _ u)
-      (λ n e.
-      true_false
-      (sym (shape_record (descriptor_at list p) (eqb-false _ _ t) (eqb-true _ _ u) (omega arith)) ∙ eq-eqb ((length_at list p - 12) % 6) 0 (omega arith))
-      g))
+      (λ u. record_length_lem (eqb-true _ _ u) (λ n e. grind (arith, common_steps)))
       (λ u. unknown_kind (eqb-false _ _ t) (eqb-false _ _ u)))
 
   bad_head : good_head list p ≡ false → BadDescriptorAt list p
@@ -72,7 +59,7 @@ module _ (list : List ℕ) (p : ℕ) (w : WholeTo list p) where
       by_bool (leb (p + length_at list p) (length list))
       (λ b.
       by_bool (good_shape (descriptor_at list p))
-      (λ c. no_size (let t : ltb 0 (size_at list p) ≡ false = rw (a, b, c) at g in omega (arith, ltb-false 0 (size_at list p) t)))
+      (λ c. no_size (grind (arith, common_steps)))
       bad_shape)
       (λ b. cut_short (leb-false _ _ b)))
       (λ a. no_head (leb-false _ _ a))
@@ -81,9 +68,9 @@ module _ (list : List ℕ) (p : ℕ) (w : WholeTo list p) where
   unfolding good_descriptor
   bad_here g = by_bool (good_head list p) (λ t. go t (look_up list p (type_at list p)) refl) bad_head
     where
-      go : good_head list p ≡ true → (r : Lookup) → look_up list p (type_at list p) ≡ r → BadDescriptorAt list p
-      go t (At q) e = repeated_type q (described (type_at list p) q e)
-      go t Nowhere e =
+      go : good_head list p ≡ true → (r : Option ℕ) → look_up list p (type_at list p) ≡ r → BadDescriptorAt list p
+      go t (Some q) e = repeated_type q (described (type_at list p) q e)
+      go t None e =
           let (k, l, b) = bad_field_in (field_count list p) 0 0 anywhere (rw (good_descriptor, t, e) at g) in
           bad_field k (omega arith) b
 
@@ -92,7 +79,7 @@ unfolding good_from_in
 some_bad_in list zero p g w e = absurd (omega (arith, whole-inside list p w))
 some_bad_in list (suc k) p g w e =
     by_bool (eqb p (length list))
-    (λ t. absurd (true_false (rw (good_from_in, t) refl) g))
+    (λ t. grind (arith, common_steps))
     (λ t.
     let l : p < length list = omega (arith, whole-inside list p w, eqb-false p (length list) t) in
     by_bool (good_descriptor list p)
@@ -119,28 +106,16 @@ module _ (list : List ℕ) (p : ℕ) (s : Stands list p) where
       omega (arith, apart, l)
   no_bad_field k m (sticks_out q d l) =
       let f = field_fits list p s k m in
-      let same : q ≡ f.of = at_injective q f.of (sym (lookup-at list s.good p (field_at list p k).ty q s.whole d) ∙ f.named) in
+      let same : q ≡ f.of = cc (lookup-at list s.good p (field_at list p k).ty q s.whole d, f.named) in
       omega (arith, f.inside, l, ap (λ (x : ℕ). size_at list x) same)
 
   no_bad_descriptor : BadDescriptorAt list p → ⊥
   no_bad_descriptor (no_head l) = omega (arith, (good_here list p s).at_head.head)
   no_bad_descriptor (cut_short l) = omega (arith, (good_here list p s).at_head.whole)
-  no_bad_descriptor (unknown_kind a b) = go (good_here list p s).at_head.shape
-    where
-      go : Shaped (descriptor_at list p) → ⊥
-      go (plain k l) = a k
-      go (fielded k l) = b k
+  no_bad_descriptor (unknown_kind a b) = grind (arith, common_steps, (good_here list p s).at_head.shape)
   no_bad_descriptor (no_size e) = omega (arith, (good_here list p s).at_head.some_size)
-  no_bad_descriptor (plain-length a n) = go (good_here list p s).at_head.shape
-    where
-      go : Shaped (descriptor_at list p) → ⊥
-      go (plain k l) = n l
-      go (fielded k l) = omega arith
-  no_bad_descriptor (record_length_lem a n) = go (good_here list p s).at_head.shape
-    where
-      go : Shaped (descriptor_at list p) → ⊥
-      go (plain k l) = omega arith
-      go (fielded k l) = n (field_count list p) l
+  no_bad_descriptor (plain-length a n) = grind (arith, common_steps, (good_here list p s).at_head.shape)
+  no_bad_descriptor (record_length_lem a n) = n (field_count list p) (length_here list p s)
   no_bad_descriptor (repeated_type q d) = missed list p (type_at list p) q s.whole (good_here list p s).once d
   no_bad_descriptor (bad_field k m b) = no_bad_field k m b
 

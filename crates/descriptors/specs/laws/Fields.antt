@@ -1,49 +1,29 @@
 -- The fields of a record. Assumes nothing.
-use Rattle.std.specs.Prelude.{ℕ, zero, suc, ◌+◌, ◌≤◌, ◌<◌, ◌≡◌, refl, true, false, List, leb, ltb}
-use Rattle.std.proofs.Common.{sym, ap, ◌∙◌, subst, arith, le-leb, leb-true, leb-false, ltb-true, ltb-false}
-use Rattle.std.proofs.Math.Bool.{and-false}
-use Rattle.std.proofs.lemmas.Bool.{lt-leb}
-use Rattle.block.specs.laws.Booleans.{by_bool, true_false}
+use Rattle.std.proofs.Common.{ℕ, zero, suc, ◌+◌, ◌≤◌, ◌<◌, ◌≡◌, refl, true, false, List, leb, ltb, None, Option, Some, sym, ap, ◌∙◌, subst, arith, leb-true, leb-false, ltb-true, ltb-false}
+use Rattle.std.proofs.lemmas.Grind.{common_steps}
+use Rattle.block.specs.laws.Booleans.{by_bool}
 use Rattle.descriptors.specs.Descriptors.{size_at, field_at, look_up, end_within, field_end, good_fields_in}
-use Rattle.descriptors.specs.laws.Lookups.{at_injective}
 use Rattle.descriptors.specs.declared.descriptor.Field.{Field}
-use Rattle.descriptors.specs.declared.descriptor.FieldEnd.TheVariants.{EndsAt, BadField}
-use Rattle.descriptors.specs.declared.descriptor.Lookup.{Lookup}
-use Rattle.descriptors.specs.declared.descriptor.Lookup.TheVariants.{At, Nowhere}
-
--- Where bytes end.
-
-module _ (from size offset extent : ℕ) where
-  -- they start too early
-  pub ends_early : offset < from → end_within from size offset extent ≡ BadField
-  ends_early l = rw (lt-leb from offset l)
-
-  -- they end too late
-  pub ends_past : size < offset + extent → end_within from size offset extent ≡ BadField
-  ends_past l = rw (lt-leb (offset + extent) size l, and-false)
-
-  pub ends-inside : from ≤ offset → offset + extent ≤ size → end_within from size offset extent ≡ EndsAt (offset + extent)
-  ends-inside l m = rw (le-leb from offset l, le-leb (offset + extent) size m)
 
 -- Where a field ends, by its type's descriptor.
 
 module _ (list : List ℕ) (p from : ℕ) (d : Field) where
-  pub unnamed_ends : look_up list p d.ty ≡ Nowhere → field_end list p from d ≡ BadField
+  pub unnamed_ends : look_up list p d.ty ≡ None → field_end list p from d ≡ None
   unfolding field_end
   unnamed_ends e = rw (field_end, e)
 
-  pub named_ends : (q : ℕ) → look_up list p d.ty ≡ At q → field_end list p from d ≡ end_within from (size_at list p) d.offset (size_at list q)
+  pub named_ends : (q : ℕ) → look_up list p d.ty ≡ Some q → field_end list p from d ≡ end_within from (size_at list p) d.offset (size_at list q)
   unfolding field_end
   named_ends q e = rw (field_end, e)
 
 -- One turn over the fields.
 
 module _ (list : List ℕ) (p n from k : ℕ) where
-  pub fields_bad : field_end list p from (field_at list p k) ≡ BadField → good_fields_in (suc n) list p from k ≡ false
+  pub fields_bad : field_end list p from (field_at list p k) ≡ None → good_fields_in (suc n) list p from k ≡ false
   unfolding good_fields_in
   fields_bad e = rw (good_fields_in, e)
 
-  pub fields_on : (end : ℕ) → field_end list p from (field_at list p k) ≡ EndsAt end
+  pub fields_on : (end : ℕ) → field_end list p from (field_at list p k) ≡ Some end
       → good_fields_in (suc n) list p from k ≡ good_fields_in n list p end (suc k)
   unfolding good_fields_in
   fields_on end e = rw (good_fields_in, e)
@@ -52,7 +32,7 @@ module _ (list : List ℕ) (p n from k : ℕ) where
 
 pub record Fits (list : List ℕ) (p from : ℕ) (d : Field) : Type 0 where
   pub of : ℕ
-  pub named : look_up list p d.ty ≡ At of
+  pub named : look_up list p d.ty ≡ Some of
   pub after : from ≤ d.offset
   pub inside : d.offset + size_at list of ≤ size_at list p
 
@@ -62,33 +42,28 @@ end_of list p from d f = d.offset + size_at list f.of
 
 -- a field is good, and ends there; or it is bad
 pub data Tried (list : List ℕ) (p from : ℕ) (d : Field) : Type 0 where
-  fits : (f : Fits list p from d) → field_end list p from d ≡ EndsAt (end_of list p from d f) → Tried list p from d
-  unnamed : look_up list p d.ty ≡ Nowhere → field_end list p from d ≡ BadField → Tried list p from d
-  early : (q : ℕ) → look_up list p d.ty ≡ At q → d.offset < from → field_end list p from d ≡ BadField → Tried list p from d
+  fits : (f : Fits list p from d) → field_end list p from d ≡ Some (end_of list p from d f) → Tried list p from d
+  unnamed : look_up list p d.ty ≡ None → field_end list p from d ≡ None → Tried list p from d
+  early : (q : ℕ) → look_up list p d.ty ≡ Some q → d.offset < from → field_end list p from d ≡ None → Tried list p from d
   late :
-      (q : ℕ) → look_up list p d.ty ≡ At q → size_at list p < d.offset + size_at list q → field_end list p from d ≡ BadField
+      (q : ℕ) → look_up list p d.ty ≡ Some q → size_at list p < d.offset + size_at list q → field_end list p from d ≡ None
       → Tried list p from d
 
 pub tried : (list : List ℕ) (p from : ℕ) (d : Field) → Tried list p from d
 tried list p from d = go (look_up list p d.ty) refl
   where
-    go : (r : Lookup) → look_up list p d.ty ≡ r → Tried list p from d
-    go Nowhere e = unnamed e (unnamed_ends list p from d e)
-    go (At q) e =
+    go : (r : Option ℕ) → look_up list p d.ty ≡ r → Tried list p from d
+    go None e = unnamed e (unnamed_ends list p from d e)
+    go (Some q) e =
         let ends = named_ends list p from d q e in
         by_bool (leb from d.offset)
         (λ t.
-        let a = leb-true from d.offset t in
         by_bool (leb (d.offset + size_at list q) (size_at list p))
         (λ u.
-        let i = leb-true (d.offset + size_at list q) (size_at list p) u in
-        fits (record { of = q; named = e; after = a; inside = i }) (ends ∙ ends-inside from (size_at list p) d.offset (size_at list q) a i))
-        (λ u.
-        let i = leb-false (d.offset + size_at list q) (size_at list p) u in
-        late q e i (ends ∙ ends_past from (size_at list p) d.offset (size_at list q) i)))
-        (λ t.
-        let a = leb-false from d.offset t in
-        early q e a (ends ∙ ends_early from (size_at list p) d.offset (size_at list q) a))
+        let fit : Fits list p from d = record { of = q; named = e; after = leb-true _ _ t; inside = leb-true _ _ u } in
+        fits fit (grind (arith, common_steps)))
+        (λ u. late q e (leb-false _ _ u) (grind (arith, common_steps))))
+        (λ t. early q e (leb-false _ _ t) (grind (arith, common_steps)))
 
 -- Good fields.
 
@@ -100,8 +75,8 @@ pub record Turn (list : List ℕ) (p n from k : ℕ) : Type 0 where
 fields_turn : (list : List ℕ) (p n from k : ℕ) → good_fields_in (suc n) list p from k ≡ true → Turn list p n from k
 fields_turn list p n from k g = go (tried list p from (field_at list p k))
   where
-    bad : field_end list p from (field_at list p k) ≡ BadField → Turn list p n from k
-    bad e = absurd (true_false g (fields_bad list p n from k e))
+    bad : field_end list p from (field_at list p k) ≡ None → Turn list p n from k
+    bad e = cc (g, fields_bad list p n from k e)
 
     go : Tried list p from (field_at list p k) → Turn list p n from k
     go (fits f e) = record { this = f; rest = sym (fields_on list p n from k _ e) ∙ g }
@@ -128,7 +103,7 @@ fields_fit (suc n) list p from k g j a b =
 
 -- each starts at or after the end of every field before it
 pub fields_apart : (n : ℕ) (list : List ℕ) (p from k : ℕ) → good_fields_in n list p from k ≡ true → (i j : ℕ) → k ≤ i → i < j → j < k + n
-    → (q : ℕ) → look_up list p (field_at list p i).ty ≡ At q → (field_at list p i).offset + size_at list q ≤ (field_at list p j).offset
+    → (q : ℕ) → look_up list p (field_at list p i).ty ≡ Some q → (field_at list p i).offset + size_at list q ≤ (field_at list p j).offset
 fields_apart zero list p from k g i j a b c q e = absurd (omega arith)
 fields_apart (suc n) list p from k g i j a b c q e =
     let t = fields_turn list p n from k g in
@@ -137,8 +112,6 @@ fields_apart (suc n) list p from k g i j a b c q e =
     (λ u. fields_apart n list p end (suc k) t.rest i j (ltb-true k i u) b (omega arith) q e)
     (λ u.
     let i-is : i ≡ k = omega (arith, ltb-false k i u) in
-    let of_is : q ≡ t.this.of =
-    at_injective q t.this.of (sym e ∙ ap (λ (x : ℕ). look_up list p (field_at list p x).ty) i-is ∙ t.this.named)
-    in
+    let of_is : q ≡ t.this.of = cc (e, ap (λ (x : ℕ). look_up list p (field_at list p x).ty) i-is, t.this.named) in
     let f = fields_fit n list p end (suc k) t.rest j (omega arith) (omega arith) in
     omega (arith, f.after, ap (λ (x : ℕ). (field_at list p x).offset) i-is, ap (λ (x : ℕ). size_at list x) of_is))

@@ -1,22 +1,15 @@
 -- Which type has which at an offset: what is computed, the relation, and that one field alone need be asked. Assumes nothing.
-use Prim.Native.Nat.{ℕ, zero, suc, ◌+◌, ◌-◌, ◌≤◌, ◌<◌}
-use Rattle.std.proofs.Math.Path.{◌≡◌, refl, sym, ap, subst}
-use Rattle.std.proofs.Common.{◌∙◌, le_trans}
-use Rattle.std.specs.Prelude.{Bool, false, ◌&&◌, ◌||◌, List, length, ltb, eqb}
-use Rattle.std.proofs.Math.Bool.{true}
-use native.Mathlib.Omega.{arith}
-use Rattle.std.proofs.Math.Dec.{leb}
-use borrow.Author.Tests.{le-leb, lt-leb, eq-eqb, leb-true, leb-false, ltb-true, ltb-false, eqb-true, eqb-false}
-use Rattle.block.specs.laws.Booleans.{by_bool, true_false, refuted, and_left, and_right}
+use Rattle.std.proofs.Common.{ℕ, zero, suc, ◌+◌, ◌-◌, ◌≤◌, ◌<◌, ◌≡◌, refl, sym, ap, subst, ◌∙◌, le_trans, None, Option, Some, Bool, false, ◌&&◌, ◌||◌, List, length, ltb, eqb, true, arith, leb, le-leb, eq-eqb, leb-true, leb-false, ltb-true, ltb-false, eqb-true}
+use Rattle.std.proofs.lemmas.Bool.{lt-leb, eqb-false}
+use Rattle.std.proofs.lemmas.Grind.{common_steps}
+use Rattle.block.specs.laws.Booleans.{by_bool, refuted}
 use Rattle.descriptors.specs.Descriptors.{type_at, size_at, field_count, field_at, WholeTo, look_up, good_list, Stands}
 use Rattle.descriptors.specs.Layouts.{any_below, field_has, type_has_in, type_has, last_starting}
 use Rattle.descriptors.specs.Claims.{Describes, Has, itself, by_field}
-use Rattle.descriptors.specs.laws.Lookups.{at_injective, at_somewhere, found_at, found_describes}
+use Rattle.descriptors.specs.laws.Lookups.{found_at, found_describes}
 use Rattle.descriptors.specs.laws.Fields.{fields_apart}
 use Rattle.descriptors.specs.laws.Lists.{good_here, field_fits, named_stands, stands_describes, describes_stands, described_once}
 use Rattle.descriptors.specs.declared.descriptor.Field.{Field}
-use Rattle.descriptors.specs.declared.descriptor.Lookup.{Lookup}
-use Rattle.descriptors.specs.declared.descriptor.Lookup.TheVariants.{At, Nowhere}
 
 -- A test of the numbers below n.
 
@@ -26,7 +19,7 @@ or_true false b h = h
 
 any_some : (test : ℕ → Bool) (n : ℕ) → any_below test n ≡ true → (k : ℕ) × (k < n) × (test k ≡ true)
 unfolding any_below
-any_some test zero e = let z : ◌≡◌ {A = ℕ} 0 1 = cc in absurd (omega arith)
+any_some test zero e = cc
 any_some test (suc n) e =
     by_bool (any_below test n)
     (λ t. let (k, l, u) = any_some test n t in (k, omega arith, u))
@@ -38,7 +31,7 @@ some_any test zero k l e = absurd (omega arith)
 some_any test (suc n) k l e =
     by_bool (ltb k n)
     (λ t. rw (some_any test n k (ltb-true k n t) e) refl)
-    (λ t. or_true (any_below test n) (test n) (ap test (omega (arith, ltb-false k n t)) ∙ e))
+    (λ t. let last : n ≡ k = omega (arith, ltb-false k n t) in or_true (any_below test n) (test n) (rw last e))
 
 any_same : (f g : ℕ → Bool) (n : ℕ) → ((k : ℕ) → k < n → f k ≡ g k) → any_below f n ≡ any_below g n
 unfolding any_below
@@ -64,7 +57,7 @@ module _ (has : ℕ → ℕ → Bool) (list : List ℕ) (p o : ℕ) (d : Field) 
   record FieldHas : Type 0 where
     pub of : ℕ
     pub starts : d.offset ≤ o
-    pub named : look_up list p d.ty ≡ At of
+    pub named : look_up list p d.ty ≡ Some of
     pub has_it : has of (o - d.offset) ≡ true
 
   field_has_parts : field_has has list p o d ≡ true → FieldHas
@@ -72,14 +65,14 @@ module _ (has : ℕ → ℕ → Bool) (list : List ℕ) (p o : ℕ) (d : Field) 
   field_has_parts h =
       by_bool (leb d.offset o)
       (λ t. go t (look_up list p d.ty) refl)
-      (λ t. absurd (true_false h (rw (field_has, t) refl)))
+      (λ t. grind (arith, common_steps))
     where
-      go : leb d.offset o ≡ true → (r : Lookup) → look_up list p d.ty ≡ r → FieldHas
-      go t (At q) e = record { of = q; starts = leb-true _ _ t; named = e; has_it = rw (field_has, t, e) at h }
-      go t Nowhere e = absurd (true_false h (rw (field_has, t, e) refl))
+      go : leb d.offset o ≡ true → (r : Option ℕ) → look_up list p d.ty ≡ r → FieldHas
+      go t (Some q) e = record { of = q; starts = leb-true _ _ t; named = e; has_it = rw (field_has, t, e) at h }
+      go t None e = grind (arith, common_steps)
 
   -- its three ways out
-  pub field_at_lem : (q : ℕ) → d.offset ≤ o → look_up list p d.ty ≡ At q → field_has has list p o d ≡ has q (o - d.offset)
+  pub field_at_lem : (q : ℕ) → d.offset ≤ o → look_up list p d.ty ≡ Some q → field_has has list p o d ≡ has q (o - d.offset)
   unfolding field_has
   field_at_lem q l e = rw (field_has, le-leb _ _ l, e)
 
@@ -87,7 +80,7 @@ module _ (has : ℕ → ℕ → Bool) (list : List ℕ) (p o : ℕ) (d : Field) 
   unfolding field_has
   field-before l = rw (field_has, lt-leb _ _ l)
 
-  pub field_unnamed : d.offset ≤ o → look_up list p d.ty ≡ Nowhere → field_has has list p o d ≡ false
+  pub field_unnamed : d.offset ≤ o → look_up list p d.ty ≡ None → field_has has list p o d ≡ false
   unfolding field_has
   field_unnamed l e = rw (field_has, le-leb _ _ l, e)
 
@@ -99,11 +92,11 @@ field-same f g list p o d w e =
     (λ t. go (leb-true _ _ t) (look_up list p d.ty) refl)
     (λ t. field-before f list p o d (leb-false _ _ t) ∙ sym (field-before g list p o d (leb-false _ _ t)))
   where
-    go : d.offset ≤ o → (r : Lookup) → look_up list p d.ty ≡ r → field_has f list p o d ≡ field_has g list p o d
-    go l (At q) n =
+    go : d.offset ≤ o → (r : Option ℕ) → look_up list p d.ty ≡ r → field_has f list p o d ≡ field_has g list p o d
+    go l (Some q) n =
         let t = found_at list p d.ty q w n in
         field_at_lem f list p o d q l n ∙ e q (o - d.offset) t.whole t.before ∙ sym (field_at_lem g list p o d q l n)
-    go l Nowhere n = field_unnamed f list p o d l n ∙ sym (field_unnamed g list p o d l n)
+    go l None n = field_unnamed f list p o d l n ∙ sym (field_unnamed g list p o d l n)
 
 -- What a type has, without a count of steps.
 
@@ -116,7 +109,8 @@ abbrev some_field_has : List ℕ → ℕ → ℕ → ℕ → Bool
 some_field_has list wanted p o = any_below (λ k. field_has (type_has list wanted) list p o (field_at list p k)) (field_count list p)
 
 -- the count of steps is never used up
-in_enough : (k n : ℕ) (list : List ℕ) (wanted p o : ℕ) → WholeTo list p → p < k → p < n → type_has_in k list wanted p o ≡ type_has_in n list wanted p o
+in_enough : (k n : ℕ) (list : List ℕ) (wanted p o : ℕ) → WholeTo list p → p < k → p < n
+    → type_has_in k list wanted p o ≡ type_has_in n list wanted p o
 unfolding type_has_in
 in_enough zero n list wanted p o w hk hn = absurd (omega arith)
 in_enough (suc k) zero list wanted p o w hk hn = absurd (omega arith)
@@ -143,12 +137,12 @@ type_has_is list wanted p o w =
 module _ (list : List ℕ) where
   has_in : (steps wanted p o : ℕ) → Stands list p → type_has_in steps list wanted p o ≡ true → Has list (type_at list p) wanted o
   unfolding type_has_in
-  has_in zero wanted p o s h = let z : ◌≡◌ {A = ℕ} 0 1 = cc in absurd (omega arith)
+  has_in zero wanted p o s h = cc
   has_in (suc steps) wanted p o s h =
       by_bool (is_wanted list wanted p o)
       (λ t.
-      let a : wanted ≡ type_at list p = sym (eqb-true (type_at list p) wanted (and_left (eqb (type_at list p) wanted) (eqb o 0) t)) in
-      let b : 0 ≡ o = sym (eqb-true o 0 (and_right (eqb (type_at list p) wanted) (eqb o 0) t)) in
+      let a : wanted ≡ type_at list p = grind (arith, common_steps) in
+      let b : 0 ≡ o = grind (arith, common_steps) in
       subst (λ (x : ℕ). Has list (type_at list p) wanted x) b (subst (λ (x : ℕ). Has list x wanted 0) a (itself wanted)))
       (λ t.
       let (k, m, u) = any_some _ (field_count list p) (rw t at h) in
@@ -191,16 +185,16 @@ module _ (list : List ℕ) where
   -- nothing is had at a type's end or past it
   ends_in : (steps wanted p o : ℕ) → Stands list p → type_has_in steps list wanted p o ≡ true → o < size_at list p
   unfolding type_has_in
-  ends_in zero wanted p o s h = let z : ◌≡◌ {A = ℕ} 0 1 = cc in absurd (omega arith)
+  ends_in zero wanted p o s h = cc
   ends_in (suc steps) wanted p o s h =
       by_bool (is_wanted list wanted p o)
-      (λ t. omega (arith, eqb-true o 0 (and_right (eqb (type_at list p) wanted) (eqb o 0) t), (good_here list p s).at_head.some_size))
+      (λ t. grind (arith, common_steps, (good_here list p s).at_head.some_size))
       (λ t.
       let (k, m, u) = any_some _ (field_count list p) (rw t at h) in
       let d = field_at list p k in
       let f = field_has_parts (λ q r. type_has_in steps list wanted q r) list p o d u in
       let i = field_fits list p s k m in
-      let same : f.of ≡ i.of = at_injective f.of i.of (sym f.named ∙ i.named) in
+      let same : f.of ≡ i.of = cc (f.named, i.named) in
       let inner = ends_in steps wanted f.of (o - d.offset) (named_stands list p s d.ty f.of f.named) f.has_it in
       omega (arith, inner, f.starts, i.inside, ap (λ (x : ℕ). size_at list x) same))
 
@@ -209,14 +203,14 @@ module _ (list : List ℕ) where
   had_inside wanted p o s h = ends_in (suc p) wanted p o s h
 
   -- a field that ends at or before o has nothing there
-  field_past : (wanted p o k q : ℕ) → Stands list p → look_up list p (field_at list p k).ty ≡ At q
+  field_past : (wanted p o k q : ℕ) → Stands list p → look_up list p (field_at list p k).ty ≡ Some q
       → (field_at list p k).offset + size_at list q ≤ o → field_has (type_has list wanted) list p o (field_at list p k) ≡ false
   field_past wanted p o k q s n h =
       refuted (field_has (type_has list wanted) list p o (field_at list p k))
       (λ t.
       let d = field_at list p k in
       let f = field_has_parts (type_has list wanted) list p o d t in
-      let same : f.of ≡ q = at_injective f.of q (sym f.named ∙ n) in
+      let same : f.of ≡ q = cc (f.named, n) in
       let inner = had_inside wanted f.of (o - d.offset) (named_stands list p s d.ty f.of f.named) f.has_it in
       omega (arith, inner, f.starts, ap (λ (x : ℕ). size_at list x) same))
 
@@ -228,14 +222,14 @@ module _ (list : List ℕ) (p o : ℕ) where
     pub starts : (field_at list p k).offset ≤ o
     pub last : (j : ℕ) → k < j → j < n → o < (field_at list p j).offset
 
-  pub last_at : (n k : ℕ) → last_starting list p o n ≡ At k → LastAt n k
+  pub last_at : (n k : ℕ) → last_starting list p o n ≡ Some k → LastAt n k
   unfolding last_starting
-  last_at zero k e = absurd (at_somewhere k (sym e))
+  last_at zero k e = cc
   last_at (suc n) k e =
       by_bool (leb (field_at list p n).offset o)
       (λ t.
-      subst (λ (x : ℕ). LastAt (suc n) x) (at_injective n k (rw (last_starting, t) at e))
-      (record { below = omega arith; starts = leb-true _ _ t; last = λ j a b. absurd (omega arith) }))
+      let here : k ≡ n = cc (rw (last_starting, t) at e) in
+      rw here (record { below = omega arith; starts = leb-true _ _ t; last = λ j a b. absurd (omega arith) }))
       (λ t.
       let i = last_at n k (rw (last_starting, t) at e) in
       record {
@@ -247,36 +241,32 @@ module _ (list : List ℕ) (p o : ℕ) where
             (λ u. subst (λ (x : ℕ). o < (field_at list p x).offset) (omega (arith, ltb-false j n u)) (leb-false _ _ t));
       })
 
-  last_none : (n : ℕ) → last_starting list p o n ≡ Nowhere → (j : ℕ) → j < n → o < (field_at list p j).offset
+  last_none : (n : ℕ) → last_starting list p o n ≡ None → (j : ℕ) → j < n → o < (field_at list p j).offset
   unfolding last_starting
   last_none zero e j l = absurd (omega arith)
   last_none (suc n) e j l =
       by_bool (leb (field_at list p n).offset o)
-      (λ t. absurd (at_somewhere n (rw (last_starting, t) at e)))
+      (λ t. cc (rw (last_starting, t) at e))
       (λ t.
       by_bool (ltb j n)
       (λ u. last_none n (rw (last_starting, t) at e) j (ltb-true j n u))
       (λ u. subst (λ (x : ℕ). o < (field_at list p x).offset) (omega (arith, ltb-false j n u)) (leb-false _ _ t)))
 
   -- the turns of the search for it, from the last field down
-  pub last_ended : (k : ℕ) → k ≡ 0 → last_starting list p o k ≡ Nowhere
+  pub last_ended : (k : ℕ) → k ≤ 0 → last_starting list p o k ≡ None
   unfolding last_starting
   last_ended zero e = refl
   last_ended (suc k) e = absurd (omega arith)
 
-  pub last_found : (k : ℕ) → (k ≡ 0 → ⊥) → (field_at list p (k - 1)).offset ≤ o → last_starting list p o k ≡ At (k - 1)
+  pub last_found : (k : ℕ) → 0 < k → (field_at list p (k - 1)).offset ≤ o → last_starting list p o k ≡ Some (k - 1)
   unfolding last_starting
-  last_found zero n l = absurd (n refl)
-  last_found (suc k) n l =
-      let e : suc k - 1 ≡ k = omega arith in
-      rw (last_starting, le-leb _ _ (subst (λ (x : ℕ). (field_at list p x).offset ≤ o) e l)) (ap At (sym e))
+  last_found zero n l = absurd (omega arith)
+  last_found (suc k) n l = let e : suc k - 1 ≡ k = omega arith in rw (e, last_starting, le-leb _ _ (rw e at l))
 
-  pub last_on : (k : ℕ) → (k ≡ 0 → ⊥) → o < (field_at list p (k - 1)).offset → last_starting list p o k ≡ last_starting list p o (k - 1)
+  pub last_on : (k : ℕ) → 0 < k → o < (field_at list p (k - 1)).offset → last_starting list p o k ≡ last_starting list p o (k - 1)
   unfolding last_starting
-  last_on zero n l = absurd (n refl)
-  last_on (suc k) n l =
-      let e : suc k - 1 ≡ k = omega arith in
-      rw (last_starting, lt-leb _ _ (subst (λ (x : ℕ). o < (field_at list p x).offset) e l)) (ap (last_starting list p o) (sym e))
+  last_on zero n l = absurd (omega arith)
+  last_on (suc k) n l = let e : suc k - 1 ≡ k = omega arith in rw (e, last_starting, lt-leb _ _ (rw e at l))
 
 -- The ways out of a search: only the last field that starts at or before o can have it.
 
@@ -287,13 +277,13 @@ module _ (list : List ℕ) (wanted p o : ℕ) (s : Stands list p) where
   pub type_itself : is_wanted list wanted p o ≡ true → type_has list wanted p o ≡ true
   type_itself e = by_fields true e
 
-  pub type_no_field : is_wanted list wanted p o ≡ false → last_starting list p o (field_count list p) ≡ Nowhere → type_has list wanted p o ≡ false
+  pub type_no_field : is_wanted list wanted p o ≡ false → last_starting list p o (field_count list p) ≡ None → type_has list wanted p o ≡ false
   type_no_field e n =
       by_fields false e
       ∙ any_none (λ k. field_has (type_has list wanted) list p o (field_at list p k)) (field_count list p)
       (λ j m. field-before (type_has list wanted) list p o (field_at list p j) (last_none list p o (field_count list p) n j m))
 
-  pub type_by_field : (k : ℕ) → is_wanted list wanted p o ≡ false → last_starting list p o (field_count list p) ≡ At k
+  pub type_by_field : (k : ℕ) → is_wanted list wanted p o ≡ false → last_starting list p o (field_count list p) ≡ Some k
       → type_has list wanted p o ≡ field_has (type_has list wanted) list p o (field_at list p k)
   type_by_field k e n =
       let i = last_at list p o (field_count list p) k n in

@@ -1,67 +1,34 @@
 -- Good descriptors and good lists. Assumes nothing.
-use Prim.Native.Nat.{ℕ, zero, suc, ◌+◌, ◌-◌, ◌*◌, ◌/◌, ◌%◌, ◌≤◌, ◌<◌}
-use Rattle.std.proofs.Math.Path.{◌≡◌, subst}
-use Rattle.std.specs.Prelude.{refl, Bool, true, ◌&&◌, List, length, leb, ltb, eqb}
-use Rattle.std.proofs.Common.{sym, ap, ◌∙◌, arith}
-use borrow.Author.Tests.{ne_eqb, leb-true, ltb-true, ltb-false, eqb-true, eqb-false}
-use Rattle.block.specs.laws.Booleans.{by_bool, true_false, and_left, and_right}
+use Rattle.std.proofs.Common.{ℕ, zero, suc, ◌+◌, ◌*◌, ◌≤◌, ◌<◌, ◌≡◌, subst, refl, true, List, length, ltb, eqb, None, Option, Some, sym, ap, ◌∙◌, arith, ne_eqb, ltb-true, ltb-false, eqb-true, ◌-◌, false, eq-eqb}
+use Rattle.std.proofs.lemmas.Bool.{eqb-false}
+use Rattle.std.proofs.lemmas.Grind.{common_steps}
+use Rattle.block.specs.laws.Booleans.{by_bool}
 use Rattle.descriptors.specs.Descriptors.{descriptor_at, length_at, type_at, size_at, field_count, field_at, WholeTo, start, over, look_up, is_nowhere, good_fields_in, good_shape, good_head, good_descriptor, good_from_in, good_list, Stands}
 use Rattle.descriptors.specs.Claims.{Describes}
 use Rattle.descriptors.specs.laws.Lookups.{whole-inside, whole_boundary, boundary_whole, found_at, found_describes, missed}
 use Rattle.descriptors.specs.laws.Fields.{Fits, fields_fit}
 use Rattle.descriptors.specs.declared.descriptor.Descriptor.{Descriptor}
-use Rattle.descriptors.specs.declared.descriptor.Lookup.{Lookup}
-use Rattle.descriptors.specs.declared.descriptor.Lookup.TheVariants.{At, Nowhere}
-
--- A good shape.
-
--- a plain type of 12 bytes, or a record of 12 and whole fields
-pub data Shaped (d : Descriptor) : Type 0 where
-  plain : d.kind ≡ 4 → d.length ≡ 12 → Shaped d
-  fielded : d.kind ≡ 5 → d.length ≡ 12 + 6 * ((d.length - 12) / 6) → Shaped d
-
-shaped : (d : Descriptor) → good_shape d ≡ true → Shaped d
-shaped d g =
-    by_bool (eqb d.kind 4)
-    (λ t. plain (eqb-true _ _ t) (eqb-true _ _ (rw t at g)))
-    (λ t.
-    let r : eqb d.kind 5 && (leb 12 d.length && eqb ((d.length - 12) % 6) 0) ≡ true = rw t at g in
-    let q = and_right (eqb d.kind 5) _ r in
-    let l = leb-true 12 d.length (and_left (leb 12 d.length) (eqb ((d.length - 12) % 6) 0) q) in
-    let m = eqb-true ((d.length - 12) % 6) 0 (and_right (leb 12 d.length) (eqb ((d.length - 12) % 6) 0) q) in
-    fielded (eqb-true _ _ (and_left (eqb d.kind 5) _ r)) (omega arith))
-
--- its length, whatever the kind
-shaped_length : (d : Descriptor) → Shaped d → d.length ≡ 12 + 6 * ((d.length - 12) / 6)
-shaped_length d (plain k l) = omega arith
-shaped_length d (fielded k l) = l
 
 -- A good head.
 
 pub record Headed (list : List ℕ) (p : ℕ) : Type 0 where
   pub head : p + 12 ≤ length list
   pub whole : p + length_at list p ≤ length list
-  pub shape : Shaped (descriptor_at list p)
+  pub shape : good_shape (descriptor_at list p) ≡ true
   pub some_size : 0 < size_at list p
 
 pub headed : (list : List ℕ) (p : ℕ) → good_head list p ≡ true → Headed list p
 headed list p g =
-    let a : Bool = leb (p + 12) (length list) in
-    let b : Bool = leb (p + length_at list p) (length list) in
-    let c : Bool = good_shape (descriptor_at list p) in
-    let d : Bool = ltb 0 (size_at list p) in
-    let after-a = and_right a (b && (c && d)) g in
-    let after-b = and_right b (c && d) after-a in
     record {
-      head = leb-true (p + 12) (length list) (and_left a (b && (c && d)) g);
-      whole = leb-true (p + length_at list p) (length list) (and_left b (c && d) after-a);
-      shape = shaped (descriptor_at list p) (and_left c d after-b);
-      some_size = ltb-true 0 (size_at list p) (and_right c d after-b);
+      head = grind (arith, common_steps);
+      whole = grind (arith, common_steps);
+      shape = grind (arith, common_steps);
+      some_size = grind (arith, common_steps);
     }
 
 -- its length is 12 and whole fields
 pub headed-length : (list : List ℕ) (p : ℕ) → Headed list p → length_at list p ≡ 12 + 6 * field_count list p
-headed-length list p h = shaped_length (descriptor_at list p) h.shape
+headed-length list p h = grind (arith, common_steps, h.shape)
 
 -- the walk goes on behind it
 pub headed-over : (list : List ℕ) (p : ℕ) → WholeTo list p → Headed list p → WholeTo list (p + length_at list p)
@@ -71,65 +38,87 @@ headed-over list p w h = over p w h.head (omega (arith, headed-length list p h))
 
 pub record Good (list : List ℕ) (p : ℕ) : Type 0 where
   pub at_head : Headed list p
-  pub once : look_up list p (type_at list p) ≡ Nowhere
+  pub once : look_up list p (type_at list p) ≡ None
   pub fields : good_fields_in (field_count list p) list p 0 0 ≡ true
 
-nowhere : (r : Lookup) → is_nowhere r ≡ true → r ≡ Nowhere
-nowhere (At q) e = let z : ◌≡◌ {A = ℕ} 0 1 = cc in absurd (omega arith)
-nowhere Nowhere e = refl
+nowhere : (r : Option ℕ) → is_nowhere r ≡ true → r ≡ None
+nowhere (Some q) e = cc
+nowhere None e = refl
 
 pub good_parts : (list : List ℕ) (p : ℕ) → good_descriptor list p ≡ true → Good list p
 unfolding good_descriptor
 good_parts list p g =
-    by_bool (good_head list p)
-    (λ t.
-    let r : is_nowhere (look_up list p (type_at list p)) && good_fields_in (field_count list p) list p 0 0 ≡ true = rw (good_descriptor, t) at g in
     record {
-      at_head = headed list p t;
-      once = nowhere (look_up list p (type_at list p)) (and_left _ (good_fields_in (field_count list p) list p 0 0) r);
-      fields = and_right (is_nowhere (look_up list p (type_at list p))) _ r;
-    })
-    (λ t. absurd (true_false g (rw (good_descriptor, t) refl)))
+      at_head = headed list p (grind (arith, common_steps));
+      once = nowhere (look_up list p (type_at list p)) (grind (arith, common_steps));
+      fields = grind (arith, common_steps);
+    }
+
+-- The check of the list: what is left of it from p on says what the whole list says.
+
+pub record Checking (list : List ℕ) (p : ℕ) : Type 0 where
+  pub whole : WholeTo list p
+  pub steps : ℕ
+  pub enough : length list ≤ p + steps
+  pub same : good_from_in (suc steps) list p ≡ good_list list
+
+pub check_begins : (list : List ℕ) → Checking list 0
+unfolding good_list
+check_begins list = record { whole = start; steps = length list; enough = omega arith; same = refl }
+
+module _ (list : List ℕ) (p : ℕ) (now : Checking list p) where
+  pub check_ends : length list ≤ p → true ≡ good_list list
+  unfolding good_from_in
+  check_ends l = rw (good_from_in, eq-eqb p (length list) (omega (arith, whole-inside list p now.whole))) at now.same
+
+  -- the descriptor d is read at p, before the end
+  module _ (l : p < length list) where
+    apart : p ≡ length list → ⊥
+    apart e = omega arith
+
+    pub check_fails : good_descriptor list p ≡ false → false ≡ good_list list
+    unfolding good_from_in
+    check_fails g = rw (good_from_in, ne_eqb p (length list) apart, g) at now.same
+
+    pub check_goes_on : good_descriptor list p ≡ true → (d : Descriptor) → d ≡ descriptor_at list p → Checking list (p + d.length)
+    unfolding good_from_in
+    check_goes_on g d is =
+        let h = (good_parts list p g).at_head in
+        let left : suc (now.steps - 1) ≡ now.steps = omega arith in
+        rw is
+        (record {
+          whole = headed-over list p now.whole h;
+          steps = now.steps - 1;
+          enough = omega (arith, headed-length list p h);
+          same = rw left (rw (good_from_in, ne_eqb p (length list) apart, g) at now.same);
+        })
 
 -- A good list.
 
 module _ (list : List ℕ) where
   -- one turn of the walk, where it comes to true
-  turn : (k p : ℕ) → good_from_in (suc k) list p ≡ true → p < length list → (good_descriptor list p ≡ true) × (good_from_in k list (p + length_at list p) ≡ true)
+  turn : (k p : ℕ) → good_from_in (suc k) list p ≡ true → p < length list
+      → (good_descriptor list p ≡ true) × (good_from_in k list (p + length_at list p) ≡ true)
   unfolding good_from_in
   turn k p g l =
       by_bool (good_descriptor list p)
       (λ t. (t, rw (good_from_in, ne_eqb p (length list) (λ e. omega arith), t) at g))
-      (λ t. absurd (true_false g (rw (good_from_in, ne_eqb p (length list) (λ e. omega arith), t) refl)))
+      (λ t. grind (arith, common_steps))
 
-  -- the walk comes to p, with steps enough for what is left
-  record Comes (p : ℕ) : Type 0 where
-    pub steps : ℕ
-    pub enough : length list < p + steps
-    pub good : good_from_in steps list p ≡ true
+  good_at : good_list list ≡ true → (p : ℕ) → p < length list → Checking list p → good_descriptor list p ≡ true
+  good_at g p l now = (turn now.steps p (now.same ∙ g) l).0
 
-  comes_next : (p : ℕ) → p + 12 ≤ length list → 12 ≤ length_at list p → Comes p → Comes (p + length_at list p)
-  comes_next p h l c = go c.steps c.enough c.good
-    where
-      go : (k : ℕ) → length list < p + k → good_from_in k list p ≡ true → Comes (p + length_at list p)
-      go zero e g = absurd (omega arith)
-      go (suc k) e g = record { steps = k; enough = omega arith; good = (turn k p g (omega arith)).1 }
-
-  comes : good_list list ≡ true → (p : ℕ) → WholeTo list p → Comes p
-  unfolding good_list
-  comes g _ start = record { steps = suc (length list); enough = omega arith; good = g }
-  comes g _ (over p w a b c) = comes_next p a b (comes g p w)
-
-  good_at : (p : ℕ) → p < length list → Comes p → good_descriptor list p ≡ true
-  good_at p l c = go c.steps c.enough c.good
-    where
-      go : (k : ℕ) → length list < p + k → good_from_in k list p ≡ true → good_descriptor list p ≡ true
-      go zero e h = absurd (omega arith)
-      go (suc k) e h = (turn k p h l).0
+  -- the check comes to every position that is reached
+  comes : good_list list ≡ true → (p : ℕ) → WholeTo list p → Checking list p
+  comes g _ start = check_begins list
+  comes g _ (over p w a b c) =
+      let now = comes g p w in
+      let l : p < length list = omega arith in
+      check_goes_on list p now l (good_at g p l now) (descriptor_at list p) refl
 
   end_in : (k p : ℕ) → good_from_in k list p ≡ true → WholeTo list p → p ≤ length list → WholeTo list (length list)
   unfolding good_from_in
-  end_in zero p g w l = let z : ◌≡◌ {A = ℕ} 0 1 = cc in absurd (omega arith)
+  end_in zero p g w l = cc
   end_in (suc k) p g w l =
       by_bool (eqb p (length list))
       (λ t. subst (λ (x : ℕ). WholeTo list x) (eqb-true p (length list) t) w)
@@ -142,11 +131,15 @@ module _ (list : List ℕ) where
 
 module _ (list : List ℕ) (p : ℕ) (s : Stands list p) where
   pub good_here : Good list p
-  good_here = good_parts list p (good_at list p s.inside (comes list s.good p s.whole))
+  good_here = good_parts list p (good_at list s.good p s.inside (comes list s.good p s.whole))
 
   -- its first 12 bytes lie in the list
   pub head_here : p + 12 ≤ length list
   head_here = good_here.at_head.head
+
+  -- and so do all its bytes
+  pub whole_here : p + length_at list p ≤ length list
+  whole_here = good_here.at_head.whole
 
   -- its length is 12 and whole fields
   pub length_here : length_at list p ≡ 12 + 6 * field_count list p
@@ -157,7 +150,7 @@ module _ (list : List ℕ) (p : ℕ) (s : Stands list p) where
   field_fits k m = fields_fit (field_count list p) list p 0 0 good_here.fields k (omega arith) (omega arith)
 
   -- and the types that they name are described on it
-  pub named_stands : (type q : ℕ) → look_up list p type ≡ At q → Stands list q
+  pub named_stands : (type q : ℕ) → look_up list p type ≡ Some q → Stands list q
   named_stands type q e =
       let f = found_at list p type q s.whole e in
       record { good = s.good; whole = f.whole; inside = omega (arith, f.before, s.inside) }
@@ -191,20 +184,20 @@ module _ (list : List ℕ) (g : good_list list ≡ true) where
           (record { boundary = da.boundary; before = l; type_is = da.type_is ∙ sym db.type_is })
 
   -- looking a type up before any position that is reached finds its descriptor
-  pub lookup-at : (end type p : ℕ) → WholeTo list end → Describes list end type p → look_up list end type ≡ At p
+  pub lookup-at : (end type p : ℕ) → WholeTo list end → Describes list end type p → look_up list end type ≡ Some p
   lookup-at end type p we d = go (look_up list end type) refl
     where
       inside : (q : ℕ) → Describes list end type q → Describes list (length list) type q
       inside q e = record { boundary = e.boundary; before = omega (arith, e.before, whole-inside list end we); type_is = e.type_is }
 
-      go : (r : Lookup) → look_up list end type ≡ r → r ≡ At p
-      go (At q) e =
-          ap At (described_once q p type (inside q (found_describes list end type q (found_at list end type q we e))) (inside p d))
-      go Nowhere e = absurd (missed list end type p we e d)
+      go : (r : Option ℕ) → look_up list end type ≡ r → r ≡ Some p
+      go (Some q) e =
+          ap Some (described_once q p type (inside q (found_describes list end type q (found_at list end type q we e))) (inside p d))
+      go None e = absurd (missed list end type p we e d)
 
   -- what is found on all of it is described there
-  pub lookup_describes : (type p : ℕ) → look_up list (length list) type ≡ At p → Describes list (length list) type p
+  pub lookup_describes : (type p : ℕ) → look_up list (length list) type ≡ Some p → Describes list (length list) type p
   lookup_describes type p e = found_describes list (length list) type p (found_at list (length list) type p end_reached e)
 
-  pub lookup_stands : (type p : ℕ) → look_up list (length list) type ≡ At p → Stands list p
+  pub lookup_stands : (type p : ℕ) → look_up list (length list) type ≡ Some p → Stands list p
   lookup_stands type p e = describes_stands type p (lookup_describes type p e)

@@ -1,14 +1,10 @@
 -- Positions in a list of descriptors, and looking a type up. Assumes nothing.
-use Prim.Native.Nat.{ℕ, zero, suc, ◌+◌, ◌≤◌, ◌<◌}
-use Rattle.std.specs.Prelude.{◌≡◌, Bool, true, false, List, length, leb, ltb, eqb}
-use Rattle.std.proofs.Math.Path.{refl}
-use Rattle.std.proofs.Common.{sym, ap, ◌∙◌, subst, arith}
+use Rattle.std.proofs.Common.{ℕ, zero, suc, ◌+◌, ◌≤◌, ◌<◌, ◌≡◌, Bool, true, false, List, length, leb, ltb, eqb, None, Some, refl, sym, ap, ◌∙◌, arith, le-ltb, lt-ltb, eq-eqb, ne_eqb, leb-true, leb-false, ltb-true, ltb-false, eqb-true}
+use Rattle.std.proofs.lemmas.Bool.{eqb-false}
 use Rattle.std.proofs.Math.Decide.{ℕ_discrete}
-use borrow.Author.Tests.{le-ltb, lt-ltb, eq-eqb, ne_eqb, leb-true, leb-false, ltb-true, ltb-false, eqb-true, eqb-false}
 use Rattle.block.specs.laws.Booleans.{by_bool}
 use Rattle.descriptors.specs.Descriptors.{length_at, type_at, WholeTo, start, over, look_up_in, look_up}
 use Rattle.descriptors.specs.Claims.{Boundary, first, next, Describes}
-use Rattle.descriptors.specs.declared.descriptor.Lookup.TheVariants.{At, Nowhere}
 
 -- Positions.
 
@@ -25,7 +21,8 @@ module _ (list : List ℕ) where
     pub ends : p + length_at list p ≤ q
     pub reached : WholeTo list (p + length_at list p)
 
-  here : (p q : ℕ) → p ≡ q → q + 12 ≤ length list → 12 ≤ length_at list q → WholeTo list (q + length_at list q) → Step p (q + length_at list q)
+  here : (p q : ℕ) → p ≡ q → q + 12 ≤ length list → 12 ≤ length_at list q → WholeTo list (q + length_at list q)
+      → Step p (q + length_at list q)
   here p q e a b w = rw e (record { head = a; long = b; ends = omega arith; reached = w })
 
   further : (p q r : ℕ) → q ≤ r → Step p q → Step p r
@@ -63,15 +60,15 @@ module _ (list : List ℕ) where
 -- The turns of a lookup.
 
 module _ (list : List ℕ) (steps end type p : ℕ) where
-  pub lookup-end : end ≤ p → look_up_in steps list end type p ≡ Nowhere
+  pub lookup-end : end ≤ p → look_up_in steps list end type p ≡ None
   unfolding look_up_in
   lookup-end l = go steps
     where
-      go : (k : ℕ) → look_up_in k list end type p ≡ Nowhere
+      go : (k : ℕ) → look_up_in k list end type p ≡ None
       go zero = refl
       go (suc k) = rw (look_up_in, le-ltb p end l)
 
-  pub lookup-found : p < end → type_at list p ≡ type → look_up_in (suc steps) list end type p ≡ At p
+  pub lookup-found : p < end → type_at list p ≡ type → look_up_in (suc steps) list end type p ≡ Some p
   unfolding look_up_in
   lookup-found l e = rw (look_up_in, lt-ltb p end l, eq-eqb _ _ e)
 
@@ -82,38 +79,36 @@ module _ (list : List ℕ) (steps end type p : ℕ) where
 
 -- What it finds.
 
-pub at_injective : (p q : ℕ) → At p ≡ At q → p ≡ q
-at_injective p q e = cc
-
-pub at_somewhere : (q : ℕ) → At q ≡ Nowhere → ⊥
-at_somewhere q e = let z : ◌≡◌ {A = ℕ} 0 1 = cc in omega arith
-
 -- a whole descriptor of the type stands at q, before `end`
 pub record FoundAt (list : List ℕ) (end type q : ℕ) : Type 0 where
   pub whole : WholeTo list q
   pub before : q < end
   pub type_is : type_at list q ≡ type
 
-found_in : (k : ℕ) (list : List ℕ) (end type p q : ℕ) → WholeTo list p → WholeTo list end → look_up_in k list end type p ≡ At q
+found_in : (k : ℕ) (list : List ℕ) (end type p q : ℕ) → WholeTo list p → WholeTo list end → look_up_in k list end type p ≡ Some q
     → FoundAt list end type q
 unfolding look_up_in
-found_in zero list end type p q w we e = absurd (at_somewhere q (sym e))
+found_in zero list end type p q w we e = cc
 found_in (suc k) list end type p q w we e =
     by_bool (ltb p end)
     (λ t.
     let l = ltb-true p end t in
     by_bool (eqb (type_at list p) type)
     (λ u.
-    subst (λ (x : ℕ). FoundAt list end type x) (at_injective p q (sym (lookup-found list k end type p l (eqb-true _ _ u)) ∙ e))
-    (record { whole = w; before = l; type_is = eqb-true _ _ u }))
+    let here : q ≡ p = cc (e, lookup-found list k end type p l (eqb-true _ _ u)) in
+    rw here (record { whole = w; before = l; type_is = eqb-true _ _ u }))
     (λ u.
     found_in k list end type (p + length_at list p) q (step list p end w we l).reached we
     (sym (lookup_on list k end type p l (eqb-false _ _ u)) ∙ e)))
-    (λ t. absurd (at_somewhere q (sym e ∙ lookup-end list (suc k) end type p (ltb-false p end t))))
+    (λ t. cc (e, lookup-end list (suc k) end type p (ltb-false p end t)))
 
-pub found_at : (list : List ℕ) (end type q : ℕ) → WholeTo list end → look_up list end type ≡ At q → FoundAt list end type q
+pub found_at : (list : List ℕ) (end type q : ℕ) → WholeTo list end → look_up list end type ≡ Some q → FoundAt list end type q
 unfolding look_up
 found_at list end type q we e = found_in (suc end) list end type 0 q start we e
+
+-- its first 12 bytes lie in the list
+pub found_head : (list : List ℕ) (end type q : ℕ) → WholeTo list end → look_up list end type ≡ Some q → q + 12 ≤ length list
+found_head list end type q we e = let f = found_at list end type q we e in (step list q end f.whole we f.before).head
 
 -- as the claims have it
 pub found_describes : (list : List ℕ) (end type q : ℕ) → FoundAt list end type q → Describes list end type q
@@ -122,19 +117,19 @@ found_describes list end type q f = record { boundary = whole_boundary list q f.
 -- What it does not find is not there.
 
 missed_in : (k : ℕ) (list : List ℕ) (end type p q : ℕ) → WholeTo list p → WholeTo list end → end < p + k
-    → look_up_in k list end type p ≡ Nowhere → WholeTo list q → p ≤ q → q < end → type_at list q ≡ type → ⊥
+    → look_up_in k list end type p ≡ None → WholeTo list q → p ≤ q → q < end → type_at list q ≡ type → ⊥
 missed_in zero list end type p q wp we h e wq a b t = omega arith
 missed_in (suc k) list end type p q wp we h e wq a b t =
     let l : p < end = omega arith in
     by_bool (eqb (type_at list p) type)
-    (λ u. at_somewhere p (sym (lookup-found list k end type p l (eqb-true _ _ u)) ∙ e))
+    (λ u. cc (e, lookup-found list k end type p l (eqb-true _ _ u)))
     (λ u.
     let n : p ≡ q → ⊥ = λ i. eqb-false (type_at list p) type u (ap (λ (x : ℕ). type_at list x) i ∙ t) in
     let s = step list p q wp wq (omega (arith, n)) in
     missed_in k list end type (p + length_at list p) q s.reached we (omega (arith, s.long))
     (sym (lookup_on list k end type p l (eqb-false _ _ u)) ∙ e) wq s.ends b t)
 
-pub missed : (list : List ℕ) (end type q : ℕ) → WholeTo list end → look_up list end type ≡ Nowhere → Describes list end type q → ⊥
+pub missed : (list : List ℕ) (end type q : ℕ) → WholeTo list end → look_up list end type ≡ None → Describes list end type q → ⊥
 unfolding look_up
 missed list end type q we e d =
     missed_in (suc end) list end type 0 q start we (omega arith) e (boundary_whole list end we q d.boundary d.before) (omega arith) d.before

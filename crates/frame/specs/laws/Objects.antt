@@ -1,12 +1,11 @@
 -- Pointers of an object: its flag and tag number, and an address in its slot or wrapper frame. Assumes nothing.
-use Rattle.std.specs.Prelude.{ℕ, ◌+◌, ◌/◌, ◌^◌, ◌≤◌, ◌<◌, ◌≡◌, true, ℤ}
+use Rattle.std.specs.Prelude.{ℕ, ◌+◌, ◌/◌, ◌^◌, ◌≤◌, ◌<◌, ◌≡◌, true, ℤ, Some}
 use Rattle.std.proofs.Common.{sym, ap, ◌∙◌}
 use Rattle.frame.specs.Pointers.{unpack, pack, good_tag, reach, at, moved}
 use Rattle.frame.specs.laws.Pointers.{moved_to, moved_range, moved_at, unpack-pack, unpack_range, pack-unpack, good_at, reach-at}
 use Rattle.frame.specs.Tags.{pointer_to, tag_matches}
 use Rattle.frame.specs.laws.Tags.{pointer_good, pointer_range, pointer_matches, pointer_address, pointer_at, matches_at, matches_pointer}
 use Rattle.frame.specs.declared.parts.Pointer.{Pointer}
-use Rattle.frame.specs.declared.parts.Moved.TheVariants.{To}
 
 -- the word is a pointer of the object of `size` bytes whose header stands at h
 pub record PointerOf (s h size word : ℕ) : Type 0 where
@@ -38,7 +37,7 @@ module _ (s h size word : ℕ) where
       ap (tag_matches s h size) g.shape ∙ matches_at s h size (pointer_to s h size) (unpack word).address ∙ pointer_matches s h size
 
   -- an accepted move gives another one
-  pub moved_pointer : (q : Pointer) (d : ℤ) → PointerOf s h size word → moved (unpack word) (reach s (unpack word)) d ≡ To q → PointerOf s h size (pack q)
+  pub moved_pointer : (q : Pointer) (d : ℤ) → PointerOf s h size word → moved (unpack word) (reach s (unpack word)) d ≡ Some q → PointerOf s h size (pack q)
   moved_pointer q d g e =
       let n : ℕ = reach s (unpack word) in
       let m = moved_to (unpack word) q n d e in

@@ -1,12 +1,9 @@
 -- Tagged pointers: packing, tag numbers, moves. Assumes nothing.
-use Rattle.std.specs.Prelude.{ℕ, zero, suc, ◌+◌, ◌*◌, ◌/◌, ◌%◌, ◌^◌, ◌≤◌, ◌<◌, ◌≡◌, refl, Bool, true, false, cond, ◌&&◌, leb, ltb, eqb, ℤ, pos, negsuc, ◌+ℤ◌}
+use Rattle.std.specs.Prelude.{ℕ, zero, suc, ◌+◌, ◌*◌, ◌/◌, ◌%◌, ◌^◌, ◌≤◌, ◌<◌, ◌≡◌, refl, Bool, true, false, cond, ◌&&◌, leb, ltb, eqb, ℤ, pos, negsuc, ◌+ℤ◌, None, Option, Some}
 use Rattle.std.proofs.Common.{sym, subst, mod-lt, arith, pow_pos, eq-eqb, ne_eqb, eqb-true, ltb-true, leb-true}
 use Rattle.frame.specs.Frame.{same_frame}
 use Rattle.frame.specs.Pointers.{bit, unpack, pack, InRange, good_tag, reach, at, landed, moved}
 use Rattle.frame.specs.declared.parts.Pointer.{Pointer}
-use Rattle.frame.specs.declared.parts.Moved.TheVariants.{To, Outside}
-use Rattle.frame.specs.declared.parts.Reach.TheVariants.{Within, BadTag}
-use Rattle.frame.specs.declared.parts.Reach.{Reach}
 
 -- tests that hold together are equal
 pub iff_equal : {a b : Bool} → (a ≡ true → b ≡ true) → (b ≡ true → a ≡ true) → a ≡ b
@@ -94,14 +91,14 @@ unfolding reach
 reach-large s p f = rw f
 
 -- what `reach` answers: the exponent of the slot or frame that the address may move in, where the tag number is good
-unfoldable pub reach_of : ℕ → Pointer → Reach
-reach_of s p = cond (good_tag s p) (Within (reach s p)) BadTag
+unfoldable pub reach_of : ℕ → Pointer → Option ℕ
+reach_of s p = cond (good_tag s p) (Some (reach s p)) None
 
-pub reach_bad : (s : ℕ) (p : Pointer) → reach_of s p ≡ BadTag → good_tag s p ≡ false
+pub reach_bad : (s : ℕ) (p : Pointer) → reach_of s p ≡ None → good_tag s p ≡ false
 unfolding reach_of
 reach_bad s p h = go (good_tag s p) refl h
   where
-    go : (b : Bool) → good_tag s p ≡ b → cond b (Within (reach s p)) BadTag ≡ BadTag → good_tag s p ≡ false
+    go : (b : Bool) → good_tag s p ≡ b → cond b (Some (reach s p)) None ≡ None → good_tag s p ≡ false
     go true g e = let z : ◌≡◌ {A = ℕ} 0 1 = cc in absurd (omega arith)
     go false g e = g
 
@@ -119,11 +116,11 @@ reach_bound s p g l = go p.flag refl
     go true f = l
     go false f = (good_large s p f g).1
 
-pub reach-within : (s : ℕ) (p : Pointer) (n : ℕ) → reach_of s p ≡ Within n → Reaches s p n
+pub reach-within : (s : ℕ) (p : Pointer) (n : ℕ) → reach_of s p ≡ Some n → Reaches s p n
 unfolding reach_of
 reach-within s p n h = go (good_tag s p) refl h
   where
-    go : (b : Bool) → good_tag s p ≡ b → cond b (Within (reach s p)) BadTag ≡ Within n → Reaches s p n
+    go : (b : Bool) → good_tag s p ≡ b → cond b (Some (reach s p)) None ≡ Some n → Reaches s p n
     go true g e = let q : n ≡ reach s p = cc in record { good = g; exponent = q; small = λ l. rw q (reach_bound s p g l) }
     go false g e = let z : ◌≡◌ {A = ℕ} 0 1 = cc in absurd (omega arith)
 
@@ -136,7 +133,7 @@ pub record Move (p : Pointer) (n : ℕ) (d : ℤ) (q : Pointer) : Type 0 where
   pub frame : q.address / 2 ^ n ≡ p.address / 2 ^ n
 
 landed_if : (p q : Pointer) (n a : ℕ) (d : ℤ) (b : Bool) → b ≡ ltb a (2 ^ 48) && same_frame n a p.address → pos a ≡ pos p.address +ℤ d
-    → cond b (To (at p a)) Outside ≡ To q → Move p n d q
+    → cond b (Some (at p a)) None ≡ Some q → Move p n d q
 landed_if p q n a d true e z h =
     let f : at p a ≡ q = cc in
     let inside = sym e in
@@ -150,18 +147,18 @@ landed_if p q n a d true e z h =
     })
 landed_if p q n a d false e z h = let z : ◌≡◌ {A = ℕ} 0 1 = cc in absurd (omega arith)
 
-landed-to : (p q : Pointer) (n : ℕ) (d z : ℤ) → z ≡ pos p.address +ℤ d → landed p n z ≡ To q → Move p n d q
+landed-to : (p q : Pointer) (n : ℕ) (d z : ℤ) → z ≡ pos p.address +ℤ d → landed p n z ≡ Some q → Move p n d q
 unfolding landed
 landed-to p q n d (pos a) e h = landed_if p q n a d (ltb a (2 ^ 48) && same_frame n a p.address) refl e h
 landed-to p q n d (negsuc a) e h = let z : ◌≡◌ {A = ℕ} 0 1 = cc in absurd (omega arith)
 
-pub moved_to : (p q : Pointer) (n : ℕ) (d : ℤ) → moved p n d ≡ To q → Move p n d q
+pub moved_to : (p q : Pointer) (n : ℕ) (d : ℤ) → moved p n d ≡ Some q → Move p n d q
 unfolding moved
 moved_to p q n d h = landed-to p q n d (pos p.address +ℤ d) refl h
 
-pub moved_range : (p q : Pointer) (n : ℕ) (d : ℤ) → InRange p → moved p n d ≡ To q → InRange q
+pub moved_range : (p q : Pointer) (n : ℕ) (d : ℤ) → InRange p → moved p n d ≡ Some q → InRange q
 moved_range p q n d r h = let m = moved_to p q n d h in record { tag = rw m.tag r.tag; address = m.address }
 
 -- a moved pointer is the same one at another address
-pub moved_at : (p q : Pointer) (n : ℕ) (d : ℤ) → moved p n d ≡ To q → q ≡ at p q.address
+pub moved_at : (p q : Pointer) (n : ℕ) (d : ℤ) → moved p n d ≡ Some q → q ≡ at p q.address
 moved_at p q n d e = let m = moved_to p q n d e in λ i. record { flag = m.flag i; tag = m.tag i; address = q.address }

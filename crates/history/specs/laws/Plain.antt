@@ -1,11 +1,10 @@
 -- Heaps of plain objects, each with one pointer, allocate's answer, and one byte or more: what lists without moves and empty objects leave.
 -- In order: allocate's answers; one object more, written, less; a pointer's owner; what allocate and store do (free: `proofs/PlainFrees`). Not here: the
 -- image. Assumes nothing.
-use Rattle.std.specs.Prelude.{ℕ, zero, suc, ◌+◌, ◌-◌, ◌^◌, ◌<◌, ◌≡◌, refl, Bool, true, false, cond, ◌&&◌, List, [], ◌∷◌, ◌++◌, length, take, drop, get_or, eqb}
+use Rattle.std.specs.Prelude.{ℕ, zero, suc, ◌+◌, ◌-◌, ◌^◌, ◌<◌, ◌≡◌, refl, Bool, true, false, cond, ◌&&◌, List, [], ◌∷◌, ◌++◌, length, take, drop, get_or, eqb, Err, Ok, Option, None, Some}
 use Rattle.std.proofs.Common.{sym, ap, ◌∙◌, subst, suc-add, arith, eq-eqb, ne_eqb, eqb-true, le-leb}
 use Rattle.std.proofs.Math.Bool.{or-false}
 use mathlib.Core.List.Memᴰ
-use Rattle.std.proofs.Math.Option.{Option, none, some}
 use Rattle.std.proofs.Math.Dec.{ltb}
 use Rattle.frame.specs.Pointers.{unpack}
 use Rattle.block.specs.Bytes.{encode}
@@ -14,8 +13,7 @@ use Rattle.store.specs.State.{returned}
 use Rattle.store.specs.Calls.{good_width}
 use Rattle.store.specs.Step.{allocates, stores}
 use Rattle.store.specs.laws.Refusals.{refused_some}
-use Rattle.store.specs.declared.answer.Answer.{Answer}
-use Rattle.store.specs.declared.answer.Answer.TheVariants.{Accepted, Refused}
+use Rattle.store.specs.State.{Answer}
 use Rattle.store.specs.declared.answer.Refusal.{Refusal}
 use Rattle.history.specs.Heap.{Object, Heap, start, member, holds, owner_of, inside, written, new_object, change, without, write, hear}
 use Rattle.history.specs.History.{In, Pairwise, header_of, known}
@@ -98,8 +96,8 @@ change_alike p bytes (x ∷ xs) q =
 -- whoever owns the pointer, and whether the bytes lie inside
 write_alike : (owner : Option Object) (p n : ℕ) (bytes : List ℕ) (heap : Heap) → Alike heap (write owner p n bytes heap)
 unfolding write
-write_alike none p n bytes heap = alike_itself heap
-write_alike (some o) p n bytes heap = alike_cond (inside o p n) (change_alike p bytes heap p) (alike_itself heap)
+write_alike None p n bytes heap = alike_itself heap
+write_alike (Some o) p n bytes heap = alike_cond (inside o p n) (change_alike p bytes heap p) (alike_itself heap)
 
 -- One object less.
 
@@ -135,7 +133,7 @@ plain-without (x ∷ xs) p a =
 -- the object whose answer the pointer is
 pub record Owner (heap : Heap) (p : ℕ) : Type 0 where
   pub object : Object
-  pub owns : owner_of heap p ≡ some object
+  pub owns : owner_of heap p ≡ Some object
   pub is_known : known heap p ≡ true
   pub lives : In object heap
   pub plain : Plain object
@@ -199,7 +197,7 @@ held_none = record { same = answers_none; plain = tt }
 
 module _ (heap : Heap) (plain : AllPlain heap) where
   -- one more, with its answer
-  pub allocate_held : (size type p : ℕ) → 0 < size → p < 2 ^ 64 → Held (hear heap (allocates size type) (Accepted p)) (answers heap ++ (p ∷ []))
+  pub allocate_held : (size type p : ℕ) → 0 < size → p < 2 ^ 64 → Held (hear heap (allocates size type) (Ok p)) (answers heap ++ (p ∷ []))
   unfolding hear
   allocate_held size type p n l =
       record {
@@ -208,9 +206,9 @@ module _ (heap : Heap) (plain : AllPlain heap) where
       }
 
   -- a declined one adds none
-  pub declined_held : (size type : ℕ) (r : Refusal) → Held (hear heap (allocates size type) (Refused r)) (answers heap)
+  pub declined_held : (size type : ℕ) (r : Refusal) → Held (hear heap (allocates size type) (Err r)) (answers heap)
   unfolding hear
-  declined_held size type r = rw (ne_eqb (returned (Refused r)) 0 (refused_some r)) (record { same = refl; plain = plain })
+  declined_held size type r = rw (ne_eqb (returned (Err r)) 0 (refused_some r)) (record { same = refl; plain = plain })
 
   -- a store changes bytes alone
   pub store_held : (p width v : ℕ) (a : Answer) → Held (hear heap (stores p width v) a) (answers heap)

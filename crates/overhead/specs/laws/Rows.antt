@@ -4,8 +4,7 @@ use Rattle.std.proofs.Common.{arith, leb-true, leb-false, le-leb}
 use Rattle.std.proofs.lemmas.Bool.{lt-leb}
 use Rattle.block.specs.laws.Booleans.{by_bool}
 use Rattle.overhead.specs.declared.answer.Fraction.{Fraction}
-use Rattle.overhead.specs.declared.answer.Sums.{Sums}
-use Rattle.overhead.specs.Overhead.{good_sizes, sums, fraction, report_of, refused, report}
+use Rattle.overhead.specs.Overhead.{good_sizes, sums, fraction, report_of, refused, report, Sums}
 use Rattle.overhead.specs.Claims.{BadSize, no_bytes, too_large}
 use Rattle.overhead.specs.laws.Totals.{good_head_lem, good_tail}
 

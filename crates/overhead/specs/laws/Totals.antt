@@ -2,8 +2,7 @@
 use Rattle.std.specs.Prelude.{ℕ, suc, ◌+◌, ◌*◌, ◌≤◌, ◌<◌, ◌≡◌, refl, true, List, [], ◌∷◌, length, leb}
 use Rattle.std.proofs.Common.{sym, ap, ◌∙◌, subst, add-zero, mul_assoc, suc-mul, suc-add, add-suc, arith, leb-true}
 use Rattle.block.specs.laws.Booleans.{and_left, and_right}
-use Rattle.overhead.specs.declared.answer.Sums.{Sums}
-use Rattle.overhead.specs.Overhead.{good_size, good_sizes, padded, block_start, block_end, end_from, headed, total, sums, report_of}
+use Rattle.overhead.specs.Overhead.{good_size, good_sizes, padded, block_start, block_end, end_from, headed, total, sums, report_of, Sums}
 use Rattle.overhead.specs.Claims.{LowestMultiple, Placed, none, next, Fits}
 use Rattle.overhead.specs.laws.Padding.{lowest_power, one_power, padded_most, padded_some, padded_divides, lowest_multiple, one_multiple}
 
@@ -21,7 +20,7 @@ good_tail size sizes e = and_right (good_size size) (good_sizes sizes) e
 
 -- Bounds.
 
-total_most :
+pub total_most :
     (f : ℕ → ℕ) (c : ℕ) → ((size : ℕ) → size ≤ 65536 → f size ≤ c) → (sizes : List ℕ) → good_sizes sizes ≡ true
     → total f sizes ≤ length sizes * c
 unfolding total

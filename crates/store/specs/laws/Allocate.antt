@@ -1,7 +1,7 @@
 -- Allocate.
 -- In order: the extent that is taken; what is known where its rows are passed; each row, and what is left by the answer; its outcomes; the carved image;
 -- the image that is left. Assumes nothing.
-use Rattle.std.specs.Prelude.{ℕ, ◌+◌, ◌^◌, ◌≤◌, ◌<◌, ◌-◌, ◌≡◌, true, false, List, leb, ltb, length}
+use Rattle.std.specs.Prelude.{ℕ, ◌+◌, ◌^◌, ◌≤◌, ◌<◌, ◌-◌, ◌≡◌, true, false, List, leb, ltb, length, Err, Ok, Result}
 use Rattle.std.proofs.Math.Path.{refl}
 use Rattle.std.proofs.Common.{sym, ap, ◌∙◌, arith, inl}
 use borrow.Author.Tests.{leb-true, le-leb, lt-leb, ltb-true, lt-ltb, le-ltb, ltb-false}
@@ -27,11 +27,9 @@ use Rattle.store.specs.laws.Refusals.{demand_met, and_then_met}
 use Rattle.store.specs.laws.Opening.{Open, opening_parts, entry_in}
 use Rattle.store.specs.declared.answer.Refusal.{Refusal}
 use Rattle.store.specs.declared.answer.Refusal.TheVariants.{Unsound, NoSpace, EntryTaken, WrongTotal}
-use Rattle.store.specs.declared.answer.Answer.{Answer}
+use Rattle.store.specs.State.{Answer}
 use Rattle.store.specs.declared.allocation.Site.{Site}
-use Rattle.store.specs.declared.allocation.Site.TheVariants as site
 use Rattle.frame.specs.declared.tag.Tagged.{Tagged}
-use Rattle.store.specs.declared.answer.Answer.TheVariants.{Accepted, Refused}
 use Rattle.block.specs.declared.walk.Fit.TheVariants as fit
 
 -- The extent that is taken, for that of the free block that was read.
@@ -50,7 +48,7 @@ module _ (image : List ℕ) (h size extent : ℕ) (e : extent ≡ extent_at imag
 -- What is known where its rows are passed.
 
 -- a fit that came through is a block's place
-pub fit_met : (f : Fit) (next : ℕ → Answer) (v : ℕ) → fit_answer f next ≡ Accepted v → (h : ℕ) × (f ≡ fit.At h) × (next h ≡ Accepted v)
+pub fit_met : (f : Fit) (next : ℕ → Answer) (v : ℕ) → fit_answer f next ≡ Ok v → (h : ℕ) × (f ≡ fit.At h) × (next h ≡ Ok v)
 unfolding fit_answer
 fit_met (fit.At h) next v e = (h, refl, e)
 fit_met (fit.Unsound h) next v e = let z : ◌≡◌ {A = ℕ} 0 1 = cc in absurd (omega arith)
@@ -67,7 +65,7 @@ pub record Allocates (size : ℕ) (x : State) (h : ℕ) : Type 0 where
   pub indexed : entry_of (slot_exponent x.image) h size < length x.table
 
 -- an accepted allocation passes them
-pub allocate_parts : (size : ℕ) (x : State) (h : ℕ) → allocate_checks size x ≡ Accepted h → Allocates size x h
+pub allocate_parts : (size : ℕ) (x : State) (h : ℕ) → allocate_checks size x ≡ Ok h → Allocates size x h
 unfolding allocate_checks
 allocate_parts size x h e =
     let (s, a, b) = and_then_met (opening x) _ h e in
@@ -94,96 +92,102 @@ allocate_parts size x h e =
 
 module _ (size : ℕ) (x : State) where
   -- row 4 or 5
-  pub allocate_shut : (r : Refusal) → opening x ≡ Refused r → Refused r ≡ allocate_checks size x
+  pub allocate_shut : (r : Refusal) → opening x ≡ Err r → Err r ≡ allocate_checks size x
   unfolding allocate_checks
   allocate_shut r e = rw e
 
-  module _ (s : ℕ) (o : opening x ≡ Accepted s) where
+  module _ (s : ℕ) (o : opening x ≡ Ok s) where
     -- row 7
-    pub allocate_unsound : (h : ℕ) → first_fit x.image (16 + size) ≡ fit.Unsound h → Refused Unsound ≡ allocate_checks size x
+    pub allocate_unsound : (h : ℕ) → first_fit x.image (16 + size) ≡ fit.Unsound h → Err Unsound ≡ allocate_checks size x
     unfolding allocate_checks fit_answer
     allocate_unsound h f = rw (o, f)
 
     -- row 8
-    pub allocate_full : first_fit x.image (16 + size) ≡ fit.End → Refused NoSpace ≡ allocate_checks size x
+    pub allocate_full : first_fit x.image (16 + size) ≡ fit.End → Err NoSpace ≡ allocate_checks size x
     unfolding allocate_checks fit_answer
     allocate_full f = rw (o, f)
 
     -- row 9
-    pub allocate_taken : (h : ℕ) → first_fit x.image (16 + size) ≡ fit.At h → entry_holds s h size 0 x.table ≡ false → Refused EntryTaken ≡ allocate_checks size x
+    pub allocate_taken : (h : ℕ) → first_fit x.image (16 + size) ≡ fit.At h → entry_holds s h size 0 x.table ≡ false → Err EntryTaken ≡ allocate_checks size x
     unfolding allocate_checks fit_answer
     allocate_taken h f t = rw (o, f, t)
 
     -- row 22
     pub allocate_wrong : (h : ℕ) → first_fit x.image (16 + size) ≡ fit.At h → entry_holds s h size 0 x.table ≡ true
-        → stored_total x.image < taken_extent x.image h size → Refused WrongTotal ≡ allocate_checks size x
+        → stored_total x.image < taken_extent x.image h size → Err WrongTotal ≡ allocate_checks size x
     unfolding allocate_checks fit_answer
     allocate_wrong h f t l = rw (o, f, t, lt-leb _ _ l)
 
     -- all are passed
     pub allocate-given : (h : ℕ) → first_fit x.image (16 + size) ≡ fit.At h → entry_holds s h size 0 x.table ≡ true
-        → taken_extent x.image h size ≤ stored_total x.image → Accepted h ≡ allocate_checks size x
+        → taken_extent x.image h size ≤ stored_total x.image → Ok h ≡ allocate_checks size x
     unfolding allocate_checks fit_answer
     allocate-given h f t l = rw (o, f, t, le-leb _ _ l)
 
   -- a refusal leaves all as it was
-  pub allocate_declined : (type cue : ℕ) (r : Refusal) → allocate_checks size x ≡ Refused r → outcome (Refused r) x.image x.table ≡ allocate_for size type cue x
+  pub allocate_declined : (type cue : ℕ) (r : Refusal) → allocate_checks size x ≡ Err r → outcome (Err r) x.image x.table ≡ allocate_for size type cue x
   unfolding allocate_for
   allocate_declined type cue r e = rw e
 
   -- otherwise the block is carved, its extent taken from the total, and its entry noted
-  pub allocate_done : (type cue h s word : ℕ) (p : Pointer) (image table : List ℕ) → allocate_checks size x ≡ Accepted h → s ≡ slot_exponent x.image
+  pub allocate_done : (type cue h s word : ℕ) (p : Pointer) (image table : List ℕ) → allocate_checks size x ≡ Ok h → s ≡ slot_exponent x.image
       → image ≡ allotted x.image h size type cue → p ≡ pointer_to s h size → table ≡ noted s h size h x.table → word ≡ pack p
-      → outcome (Accepted word) image table ≡ allocate_for size type cue x
+      → outcome (Ok word) image table ≡ allocate_for size type cue x
   unfolding allocate_for
   allocate_done type cue h s word p image table e k i q t w = rw (e, w, q, i, t, k)
 
 -- an accepted one gives a pointer of 64 bits
-pub allocate-word : (size type cue p : ℕ) (x : State) → (allocate_for size type cue x).answer ≡ Accepted p → p < 2 ^ 64
+pub allocate-word : (size type cue p : ℕ) (x : State) → (allocate_for size type cue x).answer ≡ Ok p → p < 2 ^ 64
 allocate-word size type cue p x e = go (allocate_checks size x) refl
   where
     go : (a : Answer) → allocate_checks size x ≡ a → p < 2 ^ 64
-    go (Refused r) q =
+    go (Err r) q =
         let d = ap (λ (o : Outcome). o.answer) (allocate_declined size x type cue r q) in
         let z : ◌≡◌ {A = ℕ} 0 1 = cc in
         absurd (omega arith)
-    go (Accepted h) q =
+    go (Ok h) q =
         let s : ℕ = slot_exponent x.image in
         let t = allocate_parts size x h q in
         let d = ap (λ (o : Outcome). o.answer) (allocate_done size x type cue h s (pack (pointer_to s h size)) _ _ _ q refl refl refl refl refl) in
         let w : p ≡ pack (pointer_to s h size) = cc in
         rw w (pack_small (pointer_to s h size) (pointer_range s h size t.opens.high (omega (arith, t.inside, t.opens.short))))
 
--- The answer of its tests, with the object's pointer and entry.
-unfoldable pub site_of : ℕ → ℕ → Answer → Site
-site_of s size (Accepted h) = site.At h (tagged s h size)
-site_of s size (Refused r) = site.Refused r
+-- where a new object goes, with its pointer and entry
+abbrev pub site_with : ℕ → Tagged → Result Site Refusal
+site_with h t = Ok (record { header = h; tagged = t })
 
-pub site_refused : (s size : ℕ) (r : Refusal) (a : Answer) → Refused r ≡ a → site.Refused r ≡ site_of s size a
+-- The answer of its tests, with the object's pointer and entry.
+unfoldable pub site_of : ℕ → ℕ → Answer → Result Site Refusal
+site_of s size (Ok h) = site_with h (tagged s h size)
+site_of s size (Err r) = Err r
+
+pub site_refused : (s size : ℕ) (r : Refusal) (a : Answer) → Err r ≡ a → Err r ≡ site_of s size a
 unfolding site_of
 site_refused s size r a e = rw (← e) refl
 
-pub site_at : (s size h : ℕ) (t : Tagged) (a : Answer) → t ≡ tagged s h size → Accepted h ≡ a → site.At h t ≡ site_of s size a
+pub site_at : (s size h : ℕ) (t : Tagged) (a : Answer) → t ≡ tagged s h size → Ok h ≡ a → site_with h t ≡ site_of s size a
 unfolding site_of
 site_at s size h t a p e = rw (p, ← e) refl
 
 -- and back
-pub site_declined : (s size : ℕ) (a : Answer) (r : Refusal) → site_of s size a ≡ site.Refused r → a ≡ Refused r
+pub site_declined : (s size : ℕ) (a : Answer) (r : Refusal) → site_of s size a ≡ Err r → a ≡ Err r
 unfolding site_of
-site_declined s size (Accepted h) r e = let z : ◌≡◌ {A = ℕ} 0 1 = cc in absurd (omega arith)
-site_declined s size (Refused t) r e = let w : t ≡ r = cc in ap Refused w
+site_declined s size (Ok h) r e = let z : ◌≡◌ {A = ℕ} 0 1 = cc in absurd (omega arith)
+site_declined s size (Err t) r e = let w : t ≡ r = cc in ap Err w
 
-pub site_chosen : (s size : ℕ) (a : Answer) (h : ℕ) (t : Tagged) → site_of s size a ≡ site.At h t → (a ≡ Accepted h) × (t ≡ tagged s h size)
+pub site_chosen : (s size : ℕ) (a : Answer) (h : ℕ) (t : Tagged) → site_of s size a ≡ site_with h t → (a ≡ Ok h) × (t ≡ tagged s h size)
 unfolding site_of
-site_chosen s size (Accepted k) h t e =
-    let p : k ≡ h = cc in
-    let q : tagged s k size ≡ t = cc in
-    (ap Accepted p, sym q ∙ ap (λ (j : ℕ). tagged s j size) p)
-site_chosen s size (Refused r) h t e = let z : ◌≡◌ {A = ℕ} 0 1 = cc in absurd (omega arith)
+site_chosen s size (Ok k) h t e =
+    let chosen : Site = record { header = k; tagged = tagged s k size } in
+    let wanted : Site = record { header = h; tagged = t } in
+    let q : chosen ≡ wanted = cc in
+    let p : k ≡ h = ap (λ (x : Site). x.header) q in
+    (ap Ok p, sym (ap (λ (x : Site). x.tagged) q) ∙ ap (λ (j : ℕ). tagged s j size) p)
+site_chosen s size (Err r) h t e = let z : ◌≡◌ {A = ℕ} 0 1 = cc in absurd (omega arith)
 
 -- What it comes to, where rows 4 and 5 are passed.
 
-module _ (s : ℕ) (x : State) (o : opening x ≡ Accepted s) (size type cue : ℕ) where
+module _ (s : ℕ) (x : State) (o : opening x ≡ Ok s) (size type cue : ℕ) where
   -- no block fits
   pub allocate_refuses_full : first_fit x.image (16 + size) ≡ fit.End → allocate_for size type cue x ≡ refuse NoSpace x
   allocate_refuses_full f = sym (allocate_declined size x type cue NoSpace (sym (allocate_full size x s o f)))
@@ -191,7 +195,7 @@ module _ (s : ℕ) (x : State) (o : opening x ≡ Accepted s) (size type cue : �
   -- the block at h is taken
   pub allocate-at : (h : ℕ) → slot_exponent x.image ≡ s → first_fit x.image (16 + size) ≡ fit.At h → entry_holds s h size 0 x.table ≡ true
       → taken_extent x.image h size ≤ stored_total x.image
-      → allocate_for size type cue x ≡ outcome (Accepted (pack (pointer_to s h size))) (allotted x.image h size type cue) (noted s h size h x.table)
+      → allocate_for size type cue x ≡ outcome (Ok (pack (pointer_to s h size))) (allotted x.image h size type cue) (noted s h size h x.table)
   allocate-at h q f g l =
       sym (allocate_done size x type cue h s _ _ _ _ (sym (allocate-given size x s o h f g l)) (sym q) refl refl refl refl)
 

@@ -1,5 +1,5 @@
 -- Compare: what it answers, what is known where its rows are passed, and that it is an order. Assumes nothing.
-use Rattle.std.specs.Prelude.{ℕ, ◌<◌, ◌≡◌, refl, Bool, true, false, cond, ◌&&◌, List, ltb, pos, neg_ℤ, length, take, drop}
+use Rattle.std.specs.Prelude.{ℕ, ◌<◌, ◌≡◌, refl, Bool, true, false, cond, ◌&&◌, List, ltb, pos, neg_ℤ, length, take, drop, Err, Ok}
 use Rattle.std.proofs.Common.{sym, ap, ◌∙◌, arith, length-drop, length-take-le, ltb-true}
 use Rattle.std.specs.Int.Signed.{le_z}
 use Rattle.frame.specs.Pointers.{unpack}
@@ -12,9 +12,7 @@ use Rattle.store.specs.laws.Access.{accessed_parts}
 use Rattle.store.specs.laws.Copy.{copy-refused, copy_access}
 use Rattle.store.specs.declared.answer.Refusal.{Refusal}
 use Rattle.store.specs.declared.answer.Refusal.TheVariants.{Empty, OutOfBounds}
-use Rattle.store.specs.declared.answer.Answer.{Answer}
-use Rattle.store.specs.declared.answer.Answer.TheVariants.{Accepted, Refused}
-use Rattle.store.specs.declared.comparing.Comparison.TheVariants as comparison
+use Rattle.store.specs.State.{Answer}
 
 -- the n bytes through a pointer
 abbrev pub bytes_through : State → ℕ → ℕ → List ℕ
@@ -22,27 +20,27 @@ bytes_through x n p = take n (drop (unpack p).address x.image)
 
 module _ (p q n : ℕ) (x : State) where
   -- row 4, 5, 6, 10, 11 or 13
-  pub compare_declined : (r : Refusal) → copy_checks p q n x ≡ Refused r → comparison.Refused r ≡ compare p q n x
+  pub compare_declined : (r : Refusal) → copy_checks p q n x ≡ Err r → Err r ≡ compare p q n x
   unfolding compare compared
   compare_declined r e = rw e
 
   -- all are passed
-  pub compare_done : (b : ℕ) → copy_checks p q n x ≡ Accepted b
-      → comparison.Ordered (compare_bytes (take n (drop (unpack p).address x.image)) (take n (drop b x.image))) ≡ compare p q n x
+  pub compare_done : (b : ℕ) → copy_checks p q n x ≡ Ok b
+      → Ok (compare_bytes (take n (drop (unpack p).address x.image)) (take n (drop b x.image))) ≡ compare p q n x
   unfolding compare compared
   compare_done b e = rw e
 
 -- the rows of compare are passed: the n bytes through each pointer lie in its object's body
 record Compares (p q n : ℕ) (x : State) : Type 0 where
   pub exponent : ℕ
-  pub opens : opening x ≡ Accepted exponent
+  pub opens : opening x ≡ Ok exponent
   pub some : 0 < n
-  pub left : accessed exponent (unpack p) n x ≡ Accepted (unpack p).address
-  pub right : accessed exponent (unpack q) n x ≡ Accepted (unpack q).address
+  pub left : accessed exponent (unpack p) n x ≡ Ok (unpack p).address
+  pub right : accessed exponent (unpack q) n x ≡ Ok (unpack q).address
 
 -- an access gives the pointer's address
-accessed_address : (s p n : ℕ) (x : State) (a : ℕ) → accessed s (unpack p) n x ≡ Accepted a → accessed s (unpack p) n x ≡ Accepted (unpack p).address
-accessed_address s p n x a e = e ∙ ap Accepted (accessed_parts s (unpack p) n x a e).address
+accessed_address : (s p n : ℕ) (x : State) (a : ℕ) → accessed s (unpack p) n x ≡ Ok a → accessed s (unpack p) n x ≡ Ok (unpack p).address
+accessed_address s p n x a e = e ∙ ap Ok (accessed_parts s (unpack p) n x a e).address
 
 -- an accepted compare passes them
 compare_parts : (p q n : ℕ) (x : State) → comparison_number (compare p q n x) ≡ 0 → Compares p q n x
@@ -50,8 +48,8 @@ unfolding copy_checks
 compare_parts p q n x e = go (copy_checks p q n x) refl
   where
     go : (a : Answer) → copy_checks p q n x ≡ a → Compares p q n x
-    go (Refused r) c = absurd (refused_some r (ap comparison_number (compare_declined p q n x r c) ∙ e))
-    go (Accepted b) c =
+    go (Err r) c = absurd (refused_some r (ap comparison_number (compare_declined p q n x r c) ∙ e))
+    go (Ok b) c =
         let (s, o, m) = and_then_met (opening x) _ b c in
         let l = demand_met (ltb 0 n) Empty _ b m in
         let (a, u, v) = and_then_met (accessed s (unpack p) n x) _ b l.1 in
@@ -64,17 +62,17 @@ compare_parts p q n x e = go (copy_checks p q n x) refl
         }
 
 -- and what it gives then
-compare-gives : (p q n : ℕ) (x : State) → Compares p q n x → compare p q n x ≡ comparison.Ordered (compare_bytes (bytes_through x n p) (bytes_through x n q))
+compare-gives : (p q n : ℕ) (x : State) → Compares p q n x → compare p q n x ≡ Ok (compare_bytes (bytes_through x n p) (bytes_through x n q))
 compare-gives p q n x c =
     sym
     (compare_done p q n x (unpack q).address
     (sym (copy_access x c.exponent c.opens p q n c.some (unpack p).address c.left) ∙ c.right))
 
 -- What it comes to, where rows 4 and 5 are passed and the tests of the bytes are known.
-pub compare-through : (s : ℕ) (x : State) → opening x ≡ Accepted s → (p q n : ℕ) (b c : Bool) → ltb 0 n ≡ true
-    → accessed s (unpack p) n x ≡ demand b OutOfBounds (Accepted (unpack p).address)
-    → accessed s (unpack q) n x ≡ demand c OutOfBounds (Accepted (unpack q).address)
-    → compare p q n x ≡ cond (b && c) (comparison.Ordered (compare_bytes (bytes_through x n p) (bytes_through x n q))) (comparison.Refused OutOfBounds)
+pub compare-through : (s : ℕ) (x : State) → opening x ≡ Ok s → (p q n : ℕ) (b c : Bool) → ltb 0 n ≡ true
+    → accessed s (unpack p) n x ≡ demand b OutOfBounds (Ok (unpack p).address)
+    → accessed s (unpack q) n x ≡ demand c OutOfBounds (Ok (unpack q).address)
+    → compare p q n x ≡ cond (b && c) (Ok (compare_bytes (bytes_through x n p) (bytes_through x n q))) (Err OutOfBounds)
 compare-through s x o p q n true true l e f = compare-gives p q n x (record { exponent = s; opens = o; some = ltb-true 0 n l; left = e; right = f })
 compare-through s x o p q n true false l e f = sym (compare_declined p q n x OutOfBounds (sym (copy_access x s o p q n (ltb-true 0 n l) _ e) ∙ f))
 compare-through s x o p q n false c l e f = sym (compare_declined p q n x OutOfBounds (sym (copy-refused x s o p q n (ltb-true 0 n l) OutOfBounds e)))
@@ -99,7 +97,7 @@ compares_chained p q r n x c d =
     record { exponent = c.exponent; opens = c.opens; some = c.some; left = c.left; right = rw same d.right }
 
 -- n bytes stand through each pointer
-length-through : (s p n : ℕ) (x : State) → accessed s (unpack p) n x ≡ Accepted (unpack p).address → length (bytes_through x n p) ≡ n
+length-through : (s p n : ℕ) (x : State) → accessed s (unpack p) n x ≡ Ok (unpack p).address → length (bytes_through x n p) ≡ n
 length-through s p n x e =
     length-take-le n (drop (unpack p).address x.image) (simp length-drop (omega (arith, (accessed_parts s (unpack p) n x _ e).inside)))
 

@@ -1,5 +1,5 @@
 -- Copy: its rows, what is known where they are passed, and what it leaves. Assumes nothing.
-use Rattle.std.specs.Prelude.{ℕ, ◌≤◌, ◌<◌, ◌≡◌, true, false, ◌&&◌, Bool, ltb, take, drop}
+use Rattle.std.specs.Prelude.{ℕ, ◌≤◌, ◌<◌, ◌≡◌, true, false, ◌&&◌, Bool, ltb, take, drop, Err, Ok}
 use Rattle.std.proofs.Common.{sym, ◌∙◌, subst, arith}
 use borrow.Author.Tests.{lt-ltb, ltb-true, ltb-false}
 use Rattle.frame.specs.Pointers.{unpack}
@@ -11,29 +11,28 @@ use Rattle.store.specs.laws.Opening.{Open, opening_parts}
 use Rattle.store.specs.laws.Access.{Accessed, accessed_parts, through}
 use Rattle.store.specs.declared.answer.Refusal.{Refusal}
 use Rattle.store.specs.declared.answer.Refusal.TheVariants.{Empty, OutOfBounds}
-use Rattle.store.specs.declared.answer.Answer.TheVariants.{Accepted, Refused}
 
-module _ (x : State) (r : Refusal) (e : opening x ≡ Refused r) where
+module _ (x : State) (r : Refusal) (e : opening x ≡ Err r) where
   -- row 4 or 5
-  pub copy_shut : (target source n : ℕ) → Refused r ≡ copy_checks target source n x
+  pub copy_shut : (target source n : ℕ) → Err r ≡ copy_checks target source n x
   unfolding copy_checks
   copy_shut target source n = rw e
 
-module _ (x : State) (s : ℕ) (e : opening x ≡ Accepted s) where
+module _ (x : State) (s : ℕ) (e : opening x ≡ Ok s) where
   module _ (target source n : ℕ) where
     -- row 6
-    pub copy_empty : n ≡ 0 → Refused Empty ≡ copy_checks target source n x
+    pub copy_empty : n ≡ 0 → Err Empty ≡ copy_checks target source n x
     unfolding copy_checks
     copy_empty z = rw (e, z)
 
     module _ (l : 0 < n) where
       -- the target's rows 10, 11 and 13
-      pub copy-refused : (r : Refusal) → accessed s (unpack target) n x ≡ Refused r → Refused r ≡ copy_checks target source n x
+      pub copy-refused : (r : Refusal) → accessed s (unpack target) n x ≡ Err r → Err r ≡ copy_checks target source n x
       unfolding copy_checks
       copy-refused r a = rw (e, lt-ltb 0 n l, a)
 
       -- then the source's
-      pub copy_access : (at : ℕ) → accessed s (unpack target) n x ≡ Accepted at → accessed s (unpack source) n x ≡ copy_checks target source n x
+      pub copy_access : (at : ℕ) → accessed s (unpack target) n x ≡ Ok at → accessed s (unpack source) n x ≡ copy_checks target source n x
       unfolding copy_checks
       copy_access at a = rw (e, lt-ltb 0 n l, a)
 
@@ -46,7 +45,7 @@ pub record Copies (target source n : ℕ) (x : State) (a : ℕ) : Type 0 where
   pub from : Accessed exponent (unpack source) n x a
 
 -- an accepted copy passes them
-pub copy_parts : (target source n : ℕ) (x : State) (a : ℕ) → copy_checks target source n x ≡ Accepted a → Copies target source n x a
+pub copy_parts : (target source n : ℕ) (x : State) (a : ℕ) → copy_checks target source n x ≡ Ok a → Copies target source n x a
 unfolding copy_checks
 copy_parts target source n x a e =
     let (s, o, m) = and_then_met (opening x) _ a e in
@@ -62,23 +61,23 @@ copy_parts target source n x a e =
     }
 
 -- a refused copy leaves all as it was
-pub copy_declined : (target source n : ℕ) (x : State) (r : Refusal) → copy_checks target source n x ≡ Refused r
-    → outcome (Refused r) x.image x.table ≡ copy target source n x
+pub copy_declined : (target source n : ℕ) (x : State) (r : Refusal) → copy_checks target source n x ≡ Err r
+    → outcome (Err r) x.image x.table ≡ copy target source n x
 unfolding copy
 copy_declined target source n x r e = rw e
 
 -- an accepted one puts the source's bytes at the target
-pub copy_done : (target source n : ℕ) (x : State) (at : ℕ) → copy_checks target source n x ≡ Accepted at
-    → outcome (Accepted 0) (put x.image (unpack target).address (take n (drop at x.image))) x.table ≡ copy target source n x
+pub copy_done : (target source n : ℕ) (x : State) (at : ℕ) → copy_checks target source n x ≡ Ok at
+    → outcome (Ok 0) (put x.image (unpack target).address (take n (drop at x.image))) x.table ≡ copy target source n x
 unfolding copy
 copy_done target source n x at e = rw e
 
 -- What it comes to, where rows 4 and 5 are passed.
 
-module _ (s : ℕ) (x : State) (o : opening x ≡ Accepted s) where
+module _ (s : ℕ) (x : State) (o : opening x ≡ Ok s) where
   -- where the tests of the bytes are known
-  pub copy-through : (t p n a : ℕ) (b c : Bool) → ltb 0 n ≡ true → accessed s (unpack t) n x ≡ demand b OutOfBounds (Accepted (unpack t).address)
-      → accessed s (unpack p) n x ≡ demand c OutOfBounds (Accepted a)
+  pub copy-through : (t p n a : ℕ) (b c : Bool) → ltb 0 n ≡ true → accessed s (unpack t) n x ≡ demand b OutOfBounds (Ok (unpack t).address)
+      → accessed s (unpack p) n x ≡ demand c OutOfBounds (Ok a)
       → copy t p n x ≡ through x 0 (b && c) (unpack t).address (take n (drop a x.image))
   copy-through t p n a true true l e f = sym (copy_done t p n x a (sym (copy_access x s o t p n (ltb-true 0 n l) _ e) ∙ f))
   copy-through t p n a true false l e f = sym (copy_declined t p n x OutOfBounds (sym (copy_access x s o t p n (ltb-true 0 n l) _ e) ∙ f))

@@ -1,5 +1,5 @@
 -- Text copy: its rows, what is known where they are passed, and what it leaves. Assumes nothing.
-use Rattle.std.specs.Prelude.{ℕ, ◌+◌, ◌-◌, ◌≤◌, ◌<◌, ◌≡◌, Bool, true, false, ◌&&◌, leb, length, take, drop}
+use Rattle.std.specs.Prelude.{ℕ, ◌+◌, ◌-◌, ◌≤◌, ◌<◌, ◌≡◌, Bool, true, false, ◌&&◌, leb, length, take, drop, Err, None, Ok, Option, Some}
 use Rattle.std.proofs.Math.Path.{refl}
 use Rattle.std.proofs.Common.{sym, ap, subst, arith, length-take}
 use Rattle.frame.specs.Pointers.{unpack}
@@ -8,8 +8,6 @@ use Rattle.block.specs.Bytes.{put}
 use Rattle.block.specs.Layout.{size_at}
 use Rattle.block.specs.Text.{text_of}
 use Rattle.block.specs.laws.Text.{text_bound}
-use Rattle.block.specs.declared.text.Text.{Text}
-use Rattle.block.specs.declared.text.Text.TheVariants.{Ends, Endless}
 use Rattle.store.specs.State.{State, outcome, demand, refuse}
 use Rattle.store.specs.Calls.{opening, located, in_body, accessed, text_answer, body_from, text_at, copy_text_checks, copy_text}
 use Rattle.store.specs.laws.Refusals.{demand_met, and_then_met}
@@ -17,27 +15,26 @@ use Rattle.store.specs.laws.TagReading.{located_parts, located-inside}
 use Rattle.store.specs.laws.Access.{Accessed, body_range, accessed_parts, through}
 use Rattle.store.specs.declared.answer.Refusal.{Refusal}
 use Rattle.store.specs.declared.answer.Refusal.TheVariants.{OutOfBounds, Unterminated}
-use Rattle.store.specs.declared.answer.Answer.TheVariants.{Accepted, Refused}
 
 -- The text at a pointer.
 
 -- row 20, or its length
-pub text_ended : (n : ℕ) → Accepted n ≡ text_answer (Ends n)
+pub text_ended : (n : ℕ) → Ok n ≡ text_answer (Some n)
 unfolding text_answer
 text_ended n = refl
 
-pub text_endless : Refused Unterminated ≡ text_answer Endless
+pub text_endless : Err Unterminated ≡ text_answer None
 unfolding text_answer
 text_endless = refl
 
 -- an accepted one ends
-text_answered : (t : Text) (n : ℕ) → text_answer t ≡ Accepted n → t ≡ Ends n
+text_answered : (t : Option ℕ) (n : ℕ) → text_answer t ≡ Ok n → t ≡ Some n
 unfolding text_answer
-text_answered (Ends m) n e = let q : m ≡ n = cc in ap Ends q
-text_answered Endless n e = let z : ◌≡◌ {A = ℕ} 0 1 = cc in absurd (omega arith)
+text_answered (Some m) n e = let q : m ≡ n = cc in ap Some q
+text_answered None n e = let z : ◌≡◌ {A = ℕ} 0 1 = cc in absurd (omega arith)
 
 -- rows 13 and 20, where rows 10 and 11 are passed
-pub text_located : (s : ℕ) (p : Pointer) (x : State) (h : ℕ) → located s p x ≡ Accepted h
+pub text_located : (s : ℕ) (p : Pointer) (x : State) (h : ℕ) → located s p x ≡ Ok h
     → text_at s p x
     ≡ demand (leb (h + 16) p.address && leb (p.address + 1) (h + 16 + size_at x.image h)) OutOfBounds
     (text_answer (text_of (body_from x.image h p)))
@@ -47,12 +44,12 @@ text_located s p x h e = rw e
 -- each way out
 
 module _ (s : ℕ) (p : Pointer) (x : State) where
-  pub text_unread : (r : Refusal) → located s p x ≡ Refused r → Refused r ≡ text_at s p x
+  pub text_unread : (r : Refusal) → located s p x ≡ Err r → Err r ≡ text_at s p x
   unfolding text_at
   text_unread r e = rw e
 
-  module _ (h : ℕ) (l : located s p x ≡ Accepted h) where
-    pub text_outside : in_body x.image h p 1 ≡ false → Refused OutOfBounds ≡ text_at s p x
+  module _ (h : ℕ) (l : located s p x ≡ Ok h) where
+    pub text_outside : in_body x.image h p 1 ≡ false → Err OutOfBounds ≡ text_at s p x
     unfolding text_at
     text_outside b = rw (l, b)
 
@@ -61,7 +58,7 @@ module _ (s : ℕ) (p : Pointer) (x : State) where
     text_within b = rw (l, b) refl
 
 -- where rows 10, 11, 13 and 20 are passed, the text and its zero byte lie in the image
-pub text_inside : (s : ℕ) (p : Pointer) (x : State) (n : ℕ) → text_at s p x ≡ Accepted n → p.address + (n + 1) ≤ length x.image
+pub text_inside : (s : ℕ) (p : Pointer) (x : State) (n : ℕ) → text_at s p x ≡ Ok n → p.address + (n + 1) ≤ length x.image
 unfolding text_at
 text_inside s p x n e =
     let (h, l, m) = and_then_met (located s p x) _ n e in
@@ -73,27 +70,27 @@ text_inside s p x n e =
 
 -- The rows.
 
-module _ (x : State) (r : Refusal) (e : opening x ≡ Refused r) where
+module _ (x : State) (r : Refusal) (e : opening x ≡ Err r) where
   -- row 4 or 5
-  pub copy_text_shut : (target source : ℕ) → Refused r ≡ copy_text_checks target source x
+  pub copy_text_shut : (target source : ℕ) → Err r ≡ copy_text_checks target source x
   unfolding copy_text_checks
   copy_text_shut target source = rw e
 
-module _ (x : State) (s : ℕ) (e : opening x ≡ Accepted s) where
+module _ (x : State) (s : ℕ) (e : opening x ≡ Ok s) where
   module _ (target source : ℕ) where
     -- the source's rows 10, 11, 13 and 20
-    pub copy_text_unread : (r : Refusal) → text_at s (unpack source) x ≡ Refused r → Refused r ≡ copy_text_checks target source x
+    pub copy_text_unread : (r : Refusal) → text_at s (unpack source) x ≡ Err r → Err r ≡ copy_text_checks target source x
     unfolding copy_text_checks
     copy_text_unread r t = rw (e, t)
 
-    module _ (n : ℕ) (t : text_at s (unpack source) x ≡ Accepted n) where
+    module _ (n : ℕ) (t : text_at s (unpack source) x ≡ Ok n) where
       -- then the target's 10, 11 and 13, of m bytes
-      pub copy_text-refused : (m : ℕ) → m ≡ n + 1 → (r : Refusal) → accessed s (unpack target) m x ≡ Refused r → Refused r ≡ copy_text_checks target source x
+      pub copy_text-refused : (m : ℕ) → m ≡ n + 1 → (r : Refusal) → accessed s (unpack target) m x ≡ Err r → Err r ≡ copy_text_checks target source x
       unfolding copy_text_checks
       copy_text-refused m q r a = rw (e, t, ← q, a)
 
       -- all are passed
-      pub copy_text_passed : (m : ℕ) → m ≡ n + 1 → (at : ℕ) → accessed s (unpack target) m x ≡ Accepted at → Accepted (n + 1) ≡ copy_text_checks target source x
+      pub copy_text_passed : (m : ℕ) → m ≡ n + 1 → (at : ℕ) → accessed s (unpack target) m x ≡ Ok at → Ok (n + 1) ≡ copy_text_checks target source x
       unfolding copy_text_checks
       copy_text_passed m q at a = rw (e, t, ← q, a)
 
@@ -104,7 +101,7 @@ pub record CopiesText (target source : ℕ) (x : State) (n : ℕ) : Type 0 where
   pub to : Accessed exponent (unpack target) n x (unpack target).address
 
 -- an accepted text copy passes them
-pub copy_text_parts : (target source : ℕ) (x : State) (n : ℕ) → copy_text_checks target source x ≡ Accepted n → CopiesText target source x n
+pub copy_text_parts : (target source : ℕ) (x : State) (n : ℕ) → copy_text_checks target source x ≡ Ok n → CopiesText target source x n
 unfolding copy_text_checks
 copy_text_parts target source x n e =
     let (s, o, m) = and_then_met (opening x) _ n e in
@@ -120,27 +117,27 @@ copy_text_parts target source x n e =
     })
 
 -- a refused text copy leaves all as it was
-pub copy_text_declined : (target source : ℕ) (x : State) (r : Refusal) → copy_text_checks target source x ≡ Refused r
-    → outcome (Refused r) x.image x.table ≡ copy_text target source x
+pub copy_text_declined : (target source : ℕ) (x : State) (r : Refusal) → copy_text_checks target source x ≡ Err r
+    → outcome (Err r) x.image x.table ≡ copy_text target source x
 unfolding copy_text
 copy_text_declined target source x r e = rw e
 
 -- an accepted one puts the text and its zero byte at the target
-pub copy_text_done : (target source : ℕ) (x : State) (n : ℕ) → copy_text_checks target source x ≡ Accepted n
-    → outcome (Accepted n) (put x.image (unpack target).address (take n (drop (unpack source).address x.image))) x.table ≡ copy_text target source x
+pub copy_text_done : (target source : ℕ) (x : State) (n : ℕ) → copy_text_checks target source x ≡ Ok n
+    → outcome (Ok n) (put x.image (unpack target).address (take n (drop (unpack source).address x.image))) x.table ≡ copy_text target source x
 unfolding copy_text
 copy_text_done target source x n e = rw e
 
 -- What it comes to, where rows 4 and 5 are passed.
 
-module _ (s : ℕ) (x : State) (o : opening x ≡ Accepted s) (t p : ℕ) where
+module _ (s : ℕ) (x : State) (o : opening x ≡ Ok s) (t p : ℕ) where
   -- where the text is known, and the test of the target's bytes
-  pub copy_text-through : (n : ℕ) (b : Bool) → text_at s (unpack p) x ≡ Accepted n
-      → accessed s (unpack t) (n + 1) x ≡ demand b OutOfBounds (Accepted (unpack t).address)
+  pub copy_text-through : (n : ℕ) (b : Bool) → text_at s (unpack p) x ≡ Ok n
+      → accessed s (unpack t) (n + 1) x ≡ demand b OutOfBounds (Ok (unpack t).address)
       → copy_text t p x ≡ through x (n + 1) b (unpack t).address (take (n + 1) (drop (unpack p).address x.image))
   copy_text-through n true e f = sym (copy_text_done t p x (n + 1) (sym (copy_text_passed x s o t p n e (n + 1) refl _ f)))
   copy_text-through n false e f = sym (copy_text_declined t p x OutOfBounds (sym (copy_text-refused x s o t p n e (n + 1) refl OutOfBounds f)))
 
   -- where there is none
-  pub copy_text_refuses : (r : Refusal) → text_at s (unpack p) x ≡ Refused r → copy_text t p x ≡ refuse r x
+  pub copy_text_refuses : (r : Refusal) → text_at s (unpack p) x ≡ Err r → copy_text t p x ≡ refuse r x
   copy_text_refuses r e = sym (copy_text_declined t p x r (sym (copy_text_unread x s o t p r e)))

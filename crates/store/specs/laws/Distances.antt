@@ -1,5 +1,6 @@
 -- Distances: what the two numbers say, and the call's rows. Assumes nothing.
-use Rattle.std.specs.Prelude.{ℕ, zero, suc, ◌+◌, ◌-◌, ◌≤◌, ◌<◌, ◌≡◌, ◌&&◌, List, ◌↔◌, ltb, ℤ, pos, negsuc, ◌+ℤ◌, ◌-ℤ◌}
+use Rattle.store.specs.State.{measured_as}
+use Rattle.std.specs.Prelude.{ℕ, zero, suc, ◌+◌, ◌-◌, ◌≤◌, ◌<◌, ◌≡◌, ◌&&◌, List, ◌↔◌, ltb, ℤ, pos, negsuc, ◌+ℤ◌, ◌-ℤ◌, Err, Ok, Result}
 use Rattle.std.proofs.Math.Path.{refl, sym, ap}
 use Rattle.std.proofs.Common.{◌∙◌, arith, ltb-true, ltb-false, leb-true, leb-false, lt-ltb, le-ltb, le-leb}
 use Rattle.std.proofs.Math.Dec.{leb}
@@ -14,13 +15,9 @@ use Rattle.store.specs.State.{State}
 use Rattle.store.specs.Calls.{opening, located, found_at, read_tag, from_start, to_end, in_body, distances_checks, distances_at, distances}
 use Rattle.store.specs.laws.TagReading.{FoundAt}
 use Rattle.store.specs.declared.answer.Refusal.{Refusal}
-use Rattle.store.specs.declared.answer.Answer.{Answer}
-use Rattle.store.specs.declared.answer.Answer.TheVariants.{Accepted, Refused}
-use Rattle.store.specs.declared.locate.Found.{Found}
-use Rattle.store.specs.declared.locate.Found.TheVariants as found
-use Rattle.store.specs.declared.measuring.Measurement.{Measurement}
+use Rattle.store.specs.State.{Answer}
+use Rattle.store.specs.declared.measuring.BodyEnds.{BodyEnds}
 use Rattle.store.specs.declared.locate.Reading.{Reading}
-use Rattle.store.specs.declared.measuring.Measurement.TheVariants as measurement
 
 -- The difference of two numbers.
 
@@ -133,48 +130,48 @@ module _ (s : ℕ) (p : Pointer) (x : State) (o : Reading) (f : FoundAt s p x o)
 -- The call's rows.
 
 -- by what reading the tag gave
-unfoldable pub measured_by : Found → Measurement
-measured_by (found.At o) = measurement.Distances o.offset o.remaining
-measured_by (found.Refused r) = measurement.Refused r
+unfoldable pub measured_by : Result Reading Refusal → Result BodyEnds Refusal
+measured_by (Ok o) = measured_as o.offset o.remaining
+measured_by (Err r) = Err r
 
-module _ (x : State) (r : Refusal) (e : opening x ≡ Refused r) where
+module _ (x : State) (r : Refusal) (e : opening x ≡ Err r) where
   -- row 4 or 5
-  pub distances_shut : (word : ℕ) → measurement.Refused r ≡ distances word x
+  pub distances_shut : (word : ℕ) → Err r ≡ distances word x
   unfolding distances distances_checks distances_at
   distances_shut word = rw e
 
-module _ (x : State) (s : ℕ) (e : opening x ≡ Accepted s) (word : ℕ) where
+module _ (x : State) (s : ℕ) (e : opening x ≡ Ok s) (word : ℕ) where
   -- rows 10 and 11, or the distances
   pub distances-read : measured_by (read_tag s (unpack word) x) ≡ distances word x
   unfolding distances distances_checks read_tag measured_by found_at distances_at
   distances-read = rw e (go (located s (unpack word) x))
     where
       go : (a : Answer) → measured_by (found_at a x.image (unpack word)) ≡ distances_at a x.image (unpack word)
-      go (Accepted h) = refl
-      go (Refused r) = refl
+      go (Ok h) = refl
+      go (Err r) = refl
 
-  pub distances-found : (o : Reading) → read_tag s (unpack word) x ≡ found.At o → distances word x ≡ measurement.Distances o.offset o.remaining
+  pub distances-found : (o : Reading) → read_tag s (unpack word) x ≡ Ok o → distances word x ≡ measured_as o.offset o.remaining
   unfolding measured_by
   distances-found o q = sym distances-read ∙ ap measured_by q
 
-  pub distances_refused : (r : Refusal) → read_tag s (unpack word) x ≡ found.Refused r → distances word x ≡ measurement.Refused r
+  pub distances_refused : (r : Refusal) → read_tag s (unpack word) x ≡ Err r → distances word x ≡ Err r
   unfolding measured_by
   distances_refused r q = sym distances-read ∙ ap measured_by q
 
   -- row 10 or 11
-  pub distances_unread : (r : Refusal) → located s (unpack word) x ≡ Refused r → measurement.Refused r ≡ distances word x
+  pub distances_unread : (r : Refusal) → located s (unpack word) x ≡ Err r → Err r ≡ distances word x
   unfolding distances distances_checks distances_at
   distances_unread r l = rw (e, l)
 
   -- all are passed
-  pub distances-given : (h : ℕ) → located s (unpack word) x ≡ Accepted h
-      → measurement.Distances (from_start h (unpack word)) (to_end h (size_at x.image h) (unpack word)) ≡ distances word x
+  pub distances-given : (h : ℕ) → located s (unpack word) x ≡ Ok h
+      → measured_as (from_start h (unpack word)) (to_end h (size_at x.image h) (unpack word)) ≡ distances word x
   unfolding distances distances_checks distances_at
   distances-given h l = rw (e, l)
 
   -- in numbers
-  pub distances-located : (h : ℕ) → located s (unpack word) x ≡ Accepted h
+  pub distances-located : (h : ℕ) → located s (unpack word) x ≡ Ok h
       → distances word x
-      ≡ measurement.Distances (sub_ℕ (unpack word).address (h + 16)) (sub_ℕ (h + 16 + size_at x.image h) (unpack word).address)
+      ≡ measured_as (sub_ℕ (unpack word).address (h + 16)) (sub_ℕ (h + 16 + size_at x.image h) (unpack word).address)
   unfolding from_start to_end
   distances-located h l = sym (distances-given h l)

@@ -1,6 +1,6 @@
 -- Objects of no bytes: nothing is read or written through a tag that leads to one, whatever the other pointer of the call. (The refusal `Empty` is of lengths.)
 -- Assumes nothing.
-use Rattle.std.specs.Prelude.{ℕ, ◌+◌, ◌^◌, ◌<◌, ◌≡◌, refl, ltb}
+use Rattle.std.specs.Prelude.{ℕ, ◌+◌, ◌^◌, ◌<◌, ◌≡◌, refl, ltb, Err, Ok}
 use Rattle.std.proofs.Common.{sym, ap, ◌∙◌, arith, ltb-true, ltb-false}
 use Rattle.frame.specs.Pointers.{unpack}
 use Rattle.block.specs.Layout.{size_at}
@@ -18,20 +18,19 @@ use Rattle.store.specs.laws.Compare.{compare_declined}
 use Rattle.store.specs.laws.CopyText.{text_outside, copy_text_unread, copy_text-refused, copy_text_declined}
 use Rattle.store.specs.declared.answer.Refusal.{Refusal}
 use Rattle.store.specs.declared.answer.Refusal.TheVariants.{Empty, OutOfBounds, BadWidth, TooLarge}
-use Rattle.store.specs.declared.answer.Answer.{Answer}
-use Rattle.store.specs.declared.answer.Answer.TheVariants.{Accepted, Refused}
+use Rattle.store.specs.State.{Answer}
 
 -- the tests refuse
 abbrev Declines : Answer → Type 0
-Declines a = (r : Refusal) × (Refused r ≡ a)
+Declines a = (r : Refusal) × (Err r ≡ a)
 
-module _ (s p : ℕ) (x : State) (h : ℕ) (o : opening x ≡ Accepted s) (l : located s (unpack p) x ≡ Accepted h) (z : size_at x.image h ≡ 0) where
+module _ (s p : ℕ) (x : State) (h : ℕ) (o : opening x ≡ Ok s) (l : located s (unpack p) x ≡ Ok h) (z : size_at x.image h ≡ 0) where
   -- row 13, for any number of bytes
-  no_byte : (n : ℕ) → 0 < n → accessed s (unpack p) n x ≡ Refused OutOfBounds
+  no_byte : (n : ℕ) → 0 < n → accessed s (unpack p) n x ≡ Err OutOfBounds
   no_byte n g = sym (outside_body s (unpack p) n x h l (empty_body x.image h (unpack p) n z g))
 
   -- and for a text, by its first byte
-  no_text : text_at s (unpack p) x ≡ Refused OutOfBounds
+  no_text : text_at s (unpack p) x ≡ Err OutOfBounds
   no_text = sym (text_outside s (unpack p) x h l (empty_body x.image h (unpack p) 1 z (omega arith)))
 
   -- the tests of each call
@@ -65,15 +64,15 @@ module _ (s p : ℕ) (x : State) (h : ℕ) (o : opening x ≡ Accepted s) (l : l
       (λ g. (Empty, copy_empty x s o target p n (omega (arith, ltb-false 0 n g))))
     where
       go : 0 < n → (a : Answer) → accessed s (unpack target) n x ≡ a → Declines (copy_checks target p n x)
-      go k (Refused r) a = (r, copy-refused x s o target p n k r a)
-      go k (Accepted at) a = (OutOfBounds, sym (no_byte n k) ∙ copy_access x s o target p n k at a)
+      go k (Err r) a = (r, copy-refused x s o target p n k r a)
+      go k (Ok at) a = (OutOfBounds, sym (no_byte n k) ∙ copy_access x s o target p n k at a)
 
   text_to_declines : (source : ℕ) → Declines (copy_text_checks p source x)
   text_to_declines source = go (text_at s (unpack source) x) refl
     where
       go : (a : Answer) → text_at s (unpack source) x ≡ a → Declines (copy_text_checks p source x)
-      go (Refused r) t = (r, copy_text_unread x s o p source r t)
-      go (Accepted n) t = (OutOfBounds, copy_text-refused x s o p source n t (n + 1) refl OutOfBounds (no_byte (n + 1) (omega arith)))
+      go (Err r) t = (r, copy_text_unread x s o p source r t)
+      go (Ok n) t = (OutOfBounds, copy_text-refused x s o p source n t (n + 1) refl OutOfBounds (no_byte (n + 1) (omega arith)))
 
   -- No call is accepted.
 
@@ -83,7 +82,7 @@ module _ (s p : ℕ) (x : State) (h : ℕ) (o : opening x ≡ Accepted s) (l : l
       (λ g. refuses OutOfBounds (load-refused x s o p width g OutOfBounds (no_byte width (width_range width g).0)))
       (λ g. refuses BadWidth (load_width x s o p width g))
     where
-      refuses : (r : Refusal) → Refused r ≡ load_answer p width x → IsAccepted (load p width x) → ⊥
+      refuses : (r : Refusal) → Err r ≡ load_answer p width x → IsAccepted (load p width x) → ⊥
       refuses r q = not-accepted r (ap (λ (a : Answer). record { answer = a; after = x }) q ∙ sym (load_leaves p width x))
 
   pub empty_access : NoAccess p x

@@ -1,5 +1,5 @@
 -- Fill: its rows, what is known where they are passed, and what it leaves. Assumes nothing.
-use Rattle.std.specs.Prelude.{ℕ, ◌≤◌, ◌<◌, ◌≡◌, true, false, Bool, ltb, replicate}
+use Rattle.std.specs.Prelude.{ℕ, ◌≤◌, ◌<◌, ◌≡◌, true, false, Bool, ltb, replicate, Err, Ok}
 use Rattle.std.proofs.Common.{sym, ◌∙◌, arith}
 use borrow.Author.Tests.{lt-ltb, ltb-true, ltb-false}
 use Rattle.frame.specs.Pointers.{unpack}
@@ -11,18 +11,17 @@ use Rattle.store.specs.laws.Opening.{Open, opening_parts}
 use Rattle.store.specs.laws.Access.{Accessed, accessed_parts, through}
 use Rattle.store.specs.declared.answer.Refusal.{Refusal}
 use Rattle.store.specs.declared.answer.Refusal.TheVariants.{Empty, OutOfBounds}
-use Rattle.store.specs.declared.answer.Answer.TheVariants.{Accepted, Refused}
 
-module _ (x : State) (r : Refusal) (e : opening x ≡ Refused r) where
+module _ (x : State) (r : Refusal) (e : opening x ≡ Err r) where
   -- row 4 or 5
-  pub fill_shut : (word n : ℕ) → Refused r ≡ fill_checks word n x
+  pub fill_shut : (word n : ℕ) → Err r ≡ fill_checks word n x
   unfolding fill_checks
   fill_shut word n = rw e
 
-module _ (x : State) (s : ℕ) (e : opening x ≡ Accepted s) where
+module _ (x : State) (s : ℕ) (e : opening x ≡ Ok s) where
   module _ (word n : ℕ) where
     -- row 6
-    pub fill_empty : n ≡ 0 → Refused Empty ≡ fill_checks word n x
+    pub fill_empty : n ≡ 0 → Err Empty ≡ fill_checks word n x
     unfolding fill_checks
     fill_empty z = rw (e, z)
 
@@ -39,7 +38,7 @@ pub record Fills (word n : ℕ) (x : State) (a : ℕ) : Type 0 where
   pub bytes : Accessed exponent (unpack word) n x a
 
 -- an accepted fill passes them
-pub fill_parts : (word n : ℕ) (x : State) (a : ℕ) → fill_checks word n x ≡ Accepted a → Fills word n x a
+pub fill_parts : (word n : ℕ) (x : State) (a : ℕ) → fill_checks word n x ≡ Ok a → Fills word n x a
 unfolding fill_checks
 fill_parts word n x a e =
     let (s, o, m) = and_then_met (opening x) _ a e in
@@ -52,21 +51,21 @@ fill_parts word n x a e =
     }
 
 -- a refused fill leaves all as it was
-pub fill_declined : (word n byte : ℕ) (x : State) (r : Refusal) → fill_checks word n x ≡ Refused r → outcome (Refused r) x.image x.table ≡ fill word n byte x
+pub fill_declined : (word n byte : ℕ) (x : State) (r : Refusal) → fill_checks word n x ≡ Err r → outcome (Err r) x.image x.table ≡ fill word n byte x
 unfolding fill
 fill_declined word n byte x r e = rw e
 
 -- an accepted one puts the byte n times into the image
-pub fill_done : (word n byte : ℕ) (x : State) (at : ℕ) → fill_checks word n x ≡ Accepted at
-    → outcome (Accepted 0) (put x.image at (replicate n byte)) x.table ≡ fill word n byte x
+pub fill_done : (word n byte : ℕ) (x : State) (at : ℕ) → fill_checks word n x ≡ Ok at
+    → outcome (Ok 0) (put x.image at (replicate n byte)) x.table ≡ fill word n byte x
 unfolding fill
 fill_done word n byte x at e = rw e
 
 -- What it comes to, where rows 4 and 5 are passed.
 
-module _ (s : ℕ) (x : State) (o : opening x ≡ Accepted s) where
+module _ (s : ℕ) (x : State) (o : opening x ≡ Ok s) where
   -- where the test of the bytes is known
-  pub fill-through : (p n byte a : ℕ) (b : Bool) → ltb 0 n ≡ true → accessed s (unpack p) n x ≡ demand b OutOfBounds (Accepted a)
+  pub fill-through : (p n byte a : ℕ) (b : Bool) → ltb 0 n ≡ true → accessed s (unpack p) n x ≡ demand b OutOfBounds (Ok a)
       → fill p n byte x ≡ through x 0 b a (replicate n byte)
   fill-through p n byte a true l e = sym (fill_done p n byte x a (sym (fill_access x s o p n (ltb-true 0 n l)) ∙ e))
   fill-through p n byte a false l e = sym (fill_declined p n byte x OutOfBounds (sym (fill_access x s o p n (ltb-true 0 n l)) ∙ e))

@@ -1,7 +1,8 @@
 -- Free.
 -- In order: where the merged block starts and ends; what is known where the rows are passed; each row, and what is left by the answer; its outcomes; the merged
 -- image; the image that is left. Assumes nothing.
-use Rattle.std.specs.Prelude.{ℕ, ◌+◌, ◌-◌, ◌^◌, ◌≤◌, ◌<◌, Bool, true, false, cond, ◌&&◌, ◌||◌, leb, ltb, eqb, replicate}
+use Rattle.store.specs.Calls.{merge_of}
+use Rattle.std.specs.Prelude.{ℕ, ◌+◌, ◌-◌, ◌^◌, ◌≤◌, ◌<◌, Bool, true, false, cond, ◌&&◌, ◌||◌, leb, ltb, eqb, replicate, Err, None, Ok, Option, Result, Some}
 use Rattle.std.proofs.Math.Path.{◌≡◌, refl, ap}
 use Rattle.std.proofs.Common.{sym, ◌∙◌, inl, inr, length-append}
 use Rattle.std.proofs.Math.Bool.{and-false}
@@ -22,7 +23,6 @@ use Rattle.block.specs.laws.Total.{length-with_total, with_total_opens, with_tot
 use Rattle.block.specs.laws.WalkTo.{Behind, at_first, at_later, MeetsBlock, walk_to_meets}
 use Rattle.block.specs.laws.Writes.{length-put, put_def, drop-put, put_again}
 use Rattle.block.specs.laws.Headers.{length-header, header_at-drop, header_at-put_other}
-use Rattle.block.specs.declared.walk.Met.{Met}
 use Rattle.store.specs.State.{State, outcome, refuse, demand, and_then}
 use Rattle.store.specs.Calls.{opening, noted, located, found_at, read_tag, merge_start, merge_end, released, free_checks, released_at, total_fits, totalled, free_release, merged, given_back, freed, free}
 use Rattle.store.specs.laws.Refusals.{demand_met, and_then_met}
@@ -31,14 +31,10 @@ use Rattle.store.specs.laws.TagReading.{Located, located_parts}
 use Rattle.store.specs.laws.Total.{total-within}
 use Rattle.store.specs.declared.answer.Refusal.{Refusal}
 use Rattle.store.specs.declared.answer.Refusal.TheVariants.{Unsound, NotBase, WrongTotal}
-use Rattle.store.specs.declared.answer.Answer.TheVariants.{Accepted, Refused}
-use Rattle.store.specs.declared.answer.Answer.{Answer}
+use Rattle.store.specs.State.{Answer}
 use Rattle.frame.specs.declared.parts.Pointer.{Pointer}
-use Rattle.store.specs.declared.locate.Found.{Found}
-use Rattle.store.specs.declared.locate.Found.TheVariants as found
-use Rattle.block.specs.declared.walk.Met.TheVariants as met
-use Rattle.store.specs.declared.release.Release.{Release}
-use Rattle.store.specs.declared.release.Release.TheVariants as release
+use Rattle.store.specs.declared.locate.Reading.{Reading}
+use Rattle.store.specs.declared.release.FreedBlock.{FreedBlock}
 
 -- where the merged block starts
 
@@ -86,18 +82,18 @@ module _ (image : List ℕ) (next : ℕ) where
 module _ (image : List ℕ) (h : ℕ) where
   -- the next header is sound, or there is none
   pub released_merges : (before : ℕ) → leb (length image) (h + extent_at image h) || sound image (h + extent_at image h) ≡ true
-      → released image h (met.After before) ≡ release.Merges h (merge_start image before h) (merge_end image (h + extent_at image h))
+      → released image h (Some before) ≡ merge_of h (merge_start image before h) (merge_end image (h + extent_at image h))
   unfolding released
   released_merges before e = rw e
 
   -- it is unsound
   pub released_unsound : (before : ℕ) → leb (length image) (h + extent_at image h) || sound image (h + extent_at image h) ≡ false
-      → released image h (met.After before) ≡ release.Refused Unsound
+      → released image h (Some before) ≡ Err Unsound
   unfolding released
   released_unsound before e = rw e
 
   -- the walk does not meet the object
-  pub released_lost : released image h met.Lost ≡ release.Refused Unsound
+  pub released_lost : released image h None ≡ Err Unsound
   unfolding released
   released_lost = refl
 
@@ -123,71 +119,85 @@ merge_end_in image next l e =
 
 -- the walk meets the block at h behind the one at `before`, the next header is sound where there is one, and this is where the merged block starts and ends
 pub record Releases (image : List ℕ) (h from to before : ℕ) : Type 0 where
-  pub meets : walk_to image h ≡ met.After before
+  pub meets : walk_to image h ≡ Some before
   pub next_good : leb (length image) (h + extent_at image h) || sound image (h + extent_at image h) ≡ true
   pub starts : from ≡ merge_start image before h
   pub ends : to ≡ merge_end image (h + extent_at image h)
 
 -- what a release that merges was made of
-released_parts : (image : List ℕ) (k h from to : ℕ) → released image k (walk_to image k) ≡ release.Merges h from to → (h ≡ k) × (before : ℕ) × Releases image k from to before
+released_parts : (image : List ℕ) (k h from to : ℕ) → released image k (walk_to image k) ≡ merge_of h from to → (h ≡ k) × (before : ℕ) × Releases image k from to before
 unfolding released
 released_parts image k h from to e = go (walk_to image k) refl e
   where
     ok : Bool
     ok = leb (length image) (k + extent_at image k) || sound image (k + extent_at image k)
 
-    go : (m : Met) → walk_to image k ≡ m → released image k m ≡ release.Merges h from to → (h ≡ k) × (before : ℕ) × Releases image k from to before
-    go (met.After before) p e =
+    go : (m : Option ℕ) → walk_to image k ≡ m → released image k m ≡ merge_of h from to → (h ≡ k) × (before : ℕ) × Releases image k from to before
+    go (Some before) p e =
         by_bool ok
         (λ t.
-        let q : release.Merges k (merge_start image before k) (merge_end image (k + extent_at image k)) ≡ release.Merges h from to = rw t at e in
-        (cc, before, record { meets = p; next_good = t; starts = cc; ends = cc }))
+        let found : FreedBlock = record { header = k; from = merge_start image before k; to = merge_end image (k + extent_at image k) } in
+        let wanted : FreedBlock = record { header = h; from = from; to = to } in
+        let q : Ok found ≡ Ok wanted = rw t at e in
+        let w : found ≡ wanted = cc in
+        (
+          sym (ap (λ (b : FreedBlock). b.header) w),
+          before,
+          record {
+            meets = p;
+            next_good = t;
+            starts = sym (ap (λ (b : FreedBlock). b.from) w);
+            ends = sym (ap (λ (b : FreedBlock). b.to) w);
+          },
+        ))
         (λ t. let z : ◌≡◌ {A = ℕ} 0 1 = cc in absurd (omega arith))
-    go met.Lost p e = let z : ◌≡◌ {A = ℕ} 0 1 = cc in absurd (omega arith)
+    go None p e = let z : ◌≡◌ {A = ℕ} 0 1 = cc in absurd (omega arith)
 
 -- the same, with the test that found the object
-released_at_parts : (a : Answer) (image : List ℕ) (h from to : ℕ) → released_at a image ≡ release.Merges h from to
-    → (a ≡ Accepted h) × (before : ℕ) × Releases image h from to before
+released_at_parts : (a : Answer) (image : List ℕ) (h from to : ℕ) → released_at a image ≡ merge_of h from to
+    → (a ≡ Ok h) × (before : ℕ) × Releases image h from to before
 unfolding released_at
-released_at_parts (Accepted k) image h from to e =
+released_at_parts (Ok k) image h from to e =
     let (q, before, r) = released_parts image k h from to e in
     rw q (refl, before, r)
-released_at_parts (Refused r) image h from to e = let z : ◌≡◌ {A = ℕ} 0 1 = cc in absurd (omega arith)
+released_at_parts (Err r) image h from to e = let z : ◌≡◌ {A = ℕ} 0 1 = cc in absurd (omega arith)
 
 -- the place in a release is that of the block that is asked for
-pub released-place : (image : List ℕ) (k h from to : ℕ) → released image k (walk_to image k) ≡ release.Merges h from to → h ≡ k
+pub released-place : (image : List ℕ) (k h from to : ℕ) → released image k (walk_to image k) ≡ merge_of h from to → h ≡ k
 released-place image k h from to e = (released_parts image k h from to e).0
 
 -- row 22
 
 module _ (image : List ℕ) where
   -- it is passed
-  pub totalled_merges : (h from to : ℕ) → total_fits image (extent_at image h) ≡ true → totalled (release.Merges h from to) image ≡ release.Merges h from to
+  pub totalled_merges : (h from to : ℕ) → total_fits image (extent_at image h) ≡ true → totalled (merge_of h from to) image ≡ merge_of h from to
   unfolding totalled
   totalled_merges h from to e = rw e refl
 
   -- it is not
-  pub totalled_wrong : (h from to : ℕ) → total_fits image (extent_at image h) ≡ false → totalled (release.Merges h from to) image ≡ release.Refused WrongTotal
+  pub totalled_wrong : (h from to : ℕ) → total_fits image (extent_at image h) ≡ false → totalled (merge_of h from to) image ≡ Err WrongTotal
   unfolding totalled
   totalled_wrong h from to e = rw e refl
 
   -- it is not reached
-  pub totalled-refused : (r : Refusal) → totalled (release.Refused r) image ≡ release.Refused r
+  pub totalled-refused : (r : Refusal) → totalled (Err r) image ≡ Err r
   unfolding totalled
   totalled-refused r = refl
 
   -- a release that passed it
-  totalled_parts : (a : Release) (h from to : ℕ) → totalled a image ≡ release.Merges h from to
-      → (a ≡ release.Merges h from to) × (total_fits image (extent_at image h) ≡ true)
+  totalled_parts : (a : Result FreedBlock Refusal) (h from to : ℕ) → totalled a image ≡ merge_of h from to
+      → (a ≡ merge_of h from to) × (total_fits image (extent_at image h) ≡ true)
   unfolding totalled
-  totalled_parts (release.Merges k f t) h from to e =
-      by_bool (total_fits image (extent_at image k))
+  totalled_parts (Ok m) h from to e =
+      by_bool (total_fits image (extent_at image m.header))
       (λ b.
-      let q : release.Merges k f t ≡ release.Merges h from to = rw b at e in
-      let k-is : k ≡ h = cc in
-      (q, ap (λ (j : ℕ). total_fits image (extent_at image j)) (sym k-is) ∙ b))
-      (λ b. let q : release.Refused WrongTotal ≡ release.Merges h from to = rw b at e in let z : ◌≡◌ {A = ℕ} 0 1 = cc in absurd (omega arith))
-  totalled_parts (release.Refused r) h from to e = let z : ◌≡◌ {A = ℕ} 0 1 = cc in absurd (omega arith)
+      let wanted : FreedBlock = record { header = h; from = from; to = to } in
+      let q : Ok m ≡ Ok wanted = rw b at e in
+      let w : m ≡ wanted = cc in
+      let is_place : m.header ≡ h = ap (λ (d : FreedBlock). d.header) w in
+      (q, ap (λ (j : ℕ). total_fits image (extent_at image j)) (sym is_place) ∙ b))
+      (λ b. let q : Err WrongTotal ≡ merge_of h from to = rw b at e in let z : ◌≡◌ {A = ℕ} 0 1 = cc in absurd (omega arith))
+  totalled_parts (Err r) h from to e = let z : ◌≡◌ {A = ℕ} 0 1 = cc in absurd (omega arith)
 
 -- the rows of free are passed: the object at h goes, and a free block reaches from `from` to `to`
 pub record Frees (word : ℕ) (x : State) (h from to : ℕ) : Type 0 where
@@ -207,7 +217,7 @@ pub record Frees (word : ℕ) (x : State) (h from to : ℕ) : Type 0 where
   pub indexed : entry_of (slot_exponent x.image) h (size_at x.image h) < length x.table
 
 -- a free that merges passes them
-pub free_parts : (word : ℕ) (x : State) (h from to : ℕ) → free_release word x ≡ release.Merges h from to → Frees word x h from to
+pub free_parts : (word : ℕ) (x : State) (h from to : ℕ) → free_release word x ≡ merge_of h from to → Frees word x h from to
 unfolding free_release free_checks
 free_parts word x h from to e =
     let (m, fits) = totalled_parts x.image (released_at (free_checks word x) x.image) h from to e in
@@ -219,7 +229,7 @@ free_parts word x h from to e =
     let b : (unpack word).address ≡ h + 16 = eqb-true _ _ d.0 ∙ ap (λ (j : ℕ). j + 16) (sym g) in
     let q : s ≡ slot_exponent x.image = (opening_parts x s o).exponent in
     let op : Open x (slot_exponent x.image) = opening_parts x (slot_exponent x.image) (rw (← q) o) in
-    let ob : Located (slot_exponent x.image) (unpack word) x h = located_parts (slot_exponent x.image) (unpack word) x h (rw (← q) (l ∙ ap Accepted (sym g))) in
+    let ob : Located (slot_exponent x.image) (unpack word) x h = located_parts (slot_exponent x.image) (unpack word) x h (rw (← q) (l ∙ ap Ok (sym g))) in
     let so = ob.header.is_sound in
     let w = walk_to_meets x.image h before r.meets in
     let end = sound-end x.image h so in
@@ -248,31 +258,31 @@ free_parts word x h from to e =
 -- The rows, and what is left by the answer.
 
 -- row 15, by what reading the tag gave
-unfoldable pub based_by : Found → Pointer → Answer
-based_by (found.At o) p = demand (eqb p.address o.base) NotBase (Accepted o.header)
-based_by (found.Refused r) p = Refused r
+unfoldable pub based_by : Result Reading Refusal → Pointer → Answer
+based_by (Ok o) p = demand (eqb p.address o.base) NotBase (Ok o.header)
+based_by (Err r) p = Err r
 
 module _ (word : ℕ) (x : State) where
   -- the rows up to 15, where 4 and 5 are passed
-  pub free_based : (s : ℕ) → opening x ≡ Accepted s → based_by (read_tag s (unpack word) x) (unpack word) ≡ free_checks word x
+  pub free_based : (s : ℕ) → opening x ≡ Ok s → based_by (read_tag s (unpack word) x) (unpack word) ≡ free_checks word x
   unfolding free_checks read_tag based_by found_at
   free_based s o = rw o (go (located s (unpack word) x))
     where
       go : (a : Answer) → based_by (found_at a x.image (unpack word)) (unpack word)
-          ≡ and_then a (λ h. demand (eqb (unpack word).address (h + 16)) NotBase (Accepted h))
-      go (Accepted h) = refl
-      go (Refused r) = refl
+          ≡ and_then a (λ h. demand (eqb (unpack word).address (h + 16)) NotBase (Ok h))
+      go (Ok h) = refl
+      go (Err r) = refl
 
   -- by their answer
-  pub free_unchecked : (r : Refusal) → free_checks word x ≡ Refused r → release.Refused r ≡ free_release word x
+  pub free_unchecked : (r : Refusal) → free_checks word x ≡ Err r → Err r ≡ free_release word x
   unfolding free_release totalled released_at
   free_unchecked r e = rw e
 
-  pub free_checked : (h : ℕ) → free_checks word x ≡ Accepted h → totalled (released x.image h (walk_to x.image h)) x.image ≡ free_release word x
+  pub free_checked : (h : ℕ) → free_checks word x ≡ Ok h → totalled (released x.image h (walk_to x.image h)) x.image ≡ free_release word x
   unfolding free_release released_at
   free_checked h e = rw e
 
-  pub free-sound : (h : ℕ) → free_checks word x ≡ Accepted h → sound x.image h ≡ true
+  pub free-sound : (h : ℕ) → free_checks word x ≡ Ok h → sound x.image h ≡ true
   unfolding free_checks
   free-sound h e =
       let (s, o, m) = and_then_met (opening x) _ h e in
@@ -282,19 +292,19 @@ module _ (word : ℕ) (x : State) where
       rw q (located_parts s (unpack word) x k l).header.is_sound
 
   -- row 4 or 5
-  pub free_shut : (r : Refusal) → opening x ≡ Refused r → release.Refused r ≡ free_release word x
+  pub free_shut : (r : Refusal) → opening x ≡ Err r → Err r ≡ free_release word x
   unfolding free_release totalled released_at free_checks
   free_shut r e = rw e
 
-  module _ (s : ℕ) (o : opening x ≡ Accepted s) where
+  module _ (s : ℕ) (o : opening x ≡ Ok s) where
     -- row 10 or 11
-    pub free-refused : (r : Refusal) → located s (unpack word) x ≡ Refused r → release.Refused r ≡ free_release word x
+    pub free-refused : (r : Refusal) → located s (unpack word) x ≡ Err r → Err r ≡ free_release word x
     unfolding free_release totalled released_at free_checks
     free-refused r e = rw (o, e)
 
-    module _ (h : ℕ) (l : located s (unpack word) x ≡ Accepted h) where
+    module _ (h : ℕ) (l : located s (unpack word) x ≡ Ok h) where
       -- row 15
-      pub free_off_base : ((unpack word).address ≡ h + 16 → ⊥) → release.Refused NotBase ≡ free_release word x
+      pub free_off_base : ((unpack word).address ≡ h + 16 → ⊥) → Err NotBase ≡ free_release word x
       unfolding free_release totalled released_at free_checks
       free_off_base n = rw (o, l, ne_eqb (unpack word).address (h + 16) n)
 
@@ -304,45 +314,45 @@ module _ (word : ℕ) (x : State) where
       free-at_base e = rw (o, l, eq-eqb (unpack word).address (h + 16) e)
 
   -- a refusal leaves all as it was
-  pub free_declined : (r : Refusal) → free_release word x ≡ release.Refused r → outcome (Refused r) x.image x.table ≡ free word x
+  pub free_declined : (r : Refusal) → free_release word x ≡ Err r → outcome (Err r) x.image x.table ≡ free word x
   unfolding free freed
   free_declined r e = rw e
 
   -- otherwise the blocks are merged, the object's extent given back, and the entry cleared
-  pub free_done : (h from to s : ℕ) (image table : List ℕ) → free_release word x ≡ release.Merges h from to → s ≡ slot_exponent x.image
+  pub free_done : (h from to s : ℕ) (image table : List ℕ) → free_release word x ≡ merge_of h from to → s ≡ slot_exponent x.image
       → image ≡ given_back x.image h from to → table ≡ noted s h (size_at x.image h) 0 x.table
-      → outcome (Accepted 0) image table ≡ free word x
+      → outcome (Ok 0) image table ≡ free word x
   unfolding free freed
   free_done h from to s image table e k i t = rw (e, i, t, k)
 
 -- What it comes to, where rows 4 and 5 are passed.
 
-module _ (s : ℕ) (x : State) (o : opening x ≡ Accepted s) where
+module _ (s : ℕ) (x : State) (o : opening x ≡ Ok s) where
   -- the tag does not lead to an object
-  pub free_unread : (p : ℕ) (r : Refusal) → located s (unpack p) x ≡ Refused r → free p x ≡ refuse r x
+  pub free_unread : (p : ℕ) (r : Refusal) → located s (unpack p) x ≡ Err r → free p x ≡ refuse r x
   free_unread p r e = sym (free_declined p x r (sym (free-refused p x s o r e)))
 
-  module _ (p h : ℕ) (e : located s (unpack p) x ≡ Accepted h) where
+  module _ (p h : ℕ) (e : located s (unpack p) x ≡ Ok h) where
     -- the address is not the start of the body
     pub free_refuses_base : eqb (unpack p).address (h + 16) ≡ false → free p x ≡ refuse NotBase x
     free_refuses_base f = sym (free_declined p x NotBase (sym (free_off_base p x s o h e (eqb-false _ _ f))))
 
     module _ (f : eqb (unpack p).address (h + 16) ≡ true) where
       -- the walk meets an unsound header
-      pub free_lost : (r : Refusal) → released x.image h (walk_to x.image h) ≡ release.Refused r → free p x ≡ refuse r x
+      pub free_lost : (r : Refusal) → released x.image h (walk_to x.image h) ≡ Err r → free p x ≡ refuse r x
       free_lost r g =
           sym
           (free_declined p x r
-          (sym (free-at_base p x s o h e (eqb-true _ _ f)) ∙ ap (λ (a : Release). totalled a x.image) g ∙ totalled-refused x.image r))
+          (sym (free-at_base p x s o h e (eqb-true _ _ f)) ∙ ap (λ (a : Result FreedBlock Refusal). totalled a x.image) g ∙ totalled-refused x.image r))
 
       -- the blocks are merged
-      pub free_merges : (from to : ℕ) → slot_exponent x.image ≡ s → released x.image h (walk_to x.image h) ≡ release.Merges h from to
+      pub free_merges : (from to : ℕ) → slot_exponent x.image ≡ s → released x.image h (walk_to x.image h) ≡ merge_of h from to
           → total_fits x.image (extent_at x.image h) ≡ true
-          → free p x ≡ outcome (Accepted 0) (given_back x.image h from to) (noted s h (size_at x.image h) 0 x.table)
+          → free p x ≡ outcome (Ok 0) (given_back x.image h from to) (noted s h (size_at x.image h) 0 x.table)
       free_merges from to q g t =
           sym
           (free_done p x h from to s _ _
-          (sym (free-at_base p x s o h e (eqb-true _ _ f)) ∙ ap (λ (a : Release). totalled a x.image) g ∙ totalled_merges x.image h from to t)
+          (sym (free-at_base p x s o h e (eqb-true _ _ f)) ∙ ap (λ (a : Result FreedBlock Refusal). totalled a x.image) g ∙ totalled_merges x.image h from to t)
           (sym q) refl refl)
 
 -- The merged image.

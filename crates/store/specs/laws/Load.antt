@@ -1,5 +1,5 @@
 -- Load: its rows, and what it gives. Assumes nothing.
-use Rattle.std.specs.Prelude.{ℕ, ◌≡◌, true, false, Bool}
+use Rattle.std.specs.Prelude.{ℕ, ◌≡◌, true, false, Bool, Err, Ok}
 use Rattle.std.proofs.Math.Path.{refl}
 use Rattle.std.proofs.Common.{sym, ap, ◌∙◌}
 use Rattle.frame.specs.Pointers.{unpack}
@@ -8,35 +8,34 @@ use Rattle.store.specs.State.{State, demand, and_then}
 use Rattle.store.specs.Calls.{opening, accessed, good_width, load_answer, load}
 use Rattle.store.specs.declared.answer.Refusal.{Refusal}
 use Rattle.store.specs.declared.answer.Refusal.TheVariants.{BadWidth, OutOfBounds}
-use Rattle.store.specs.declared.answer.Answer.TheVariants.{Accepted, Refused}
-use Rattle.store.specs.declared.answer.Answer.{Answer}
+use Rattle.store.specs.State.{Answer}
 
-module _ (x : State) (r : Refusal) (e : opening x ≡ Refused r) where
+module _ (x : State) (r : Refusal) (e : opening x ≡ Err r) where
   -- row 4 or 5
-  pub load_shut : (word width : ℕ) → Refused r ≡ load_answer word width x
+  pub load_shut : (word width : ℕ) → Err r ≡ load_answer word width x
   unfolding load_answer
   load_shut word width = rw e
 
-module _ (x : State) (s : ℕ) (e : opening x ≡ Accepted s) where
+module _ (x : State) (s : ℕ) (e : opening x ≡ Ok s) where
   module _ (word width : ℕ) where
     -- row 14
-    pub load_width : good_width width ≡ false → Refused BadWidth ≡ load_answer word width x
+    pub load_width : good_width width ≡ false → Err BadWidth ≡ load_answer word width x
     unfolding load_answer
     load_width w = rw (e, w)
 
     module _ (w : good_width width ≡ true) where
       -- by the answer of these rows
-      pub load_open : and_then (accessed s (unpack word) width x) (λ a. Accepted (field x.image a width)) ≡ load_answer word width x
+      pub load_open : and_then (accessed s (unpack word) width x) (λ a. Ok (field x.image a width)) ≡ load_answer word width x
       unfolding load_answer
       load_open = rw (e, w) refl
 
       -- rows 10, 11 and 13
-      pub load-refused : (r : Refusal) → accessed s (unpack word) width x ≡ Refused r → Refused r ≡ load_answer word width x
+      pub load-refused : (r : Refusal) → accessed s (unpack word) width x ≡ Err r → Err r ≡ load_answer word width x
       unfolding load_answer
       load-refused r a = rw (e, w, a)
 
       -- all are passed
-      pub load_given : (at : ℕ) → accessed s (unpack word) width x ≡ Accepted at → Accepted (field x.image at width) ≡ load_answer word width x
+      pub load_given : (at : ℕ) → accessed s (unpack word) width x ≡ Ok at → Ok (field x.image at width) ≡ load_answer word width x
       unfolding load_answer
       load_given at a = rw (e, w, a)
 
@@ -47,10 +46,10 @@ load_leaves word width x = refl
 
 -- What it comes to, where rows 4 and 5 are passed.
 
-module _ (s : ℕ) (x : State) (o : opening x ≡ Accepted s) where
+module _ (s : ℕ) (x : State) (o : opening x ≡ Ok s) where
   -- where the test of the bytes is known
-  pub load-through : (p width a : ℕ) (b : Bool) → good_width width ≡ true → accessed s (unpack p) width x ≡ demand b OutOfBounds (Accepted a)
-      → load p width x ≡ record { answer = demand b OutOfBounds (Accepted (field x.image a width)); after = x }
+  pub load-through : (p width a : ℕ) (b : Bool) → good_width width ≡ true → accessed s (unpack p) width x ≡ demand b OutOfBounds (Ok a)
+      → load p width x ≡ record { answer = demand b OutOfBounds (Ok (field x.image a width)); after = x }
   load-through p width a true g e =
       load_leaves p width x ∙ ap (λ (r : Answer). record { answer = r; after = x }) (sym (load_given x s o p width g a e))
   load-through p width a false g e =

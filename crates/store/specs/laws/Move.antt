@@ -1,38 +1,36 @@
 -- Move: its rows, on the parts of a pointer and on an image and table. Assumes nothing.
-use Rattle.std.specs.Prelude.{ℕ, ◌≡◌, refl, true, false, ℤ}
+use Rattle.std.specs.Prelude.{ℕ, ◌≡◌, refl, true, false, ℤ, Err, None, Ok, Some}
 use Rattle.std.proofs.Common.{sym, ap, ◌∙◌}
 use Rattle.frame.specs.Pointers.{unpack, pack, good_tag, reach, moved}
 use Rattle.frame.specs.declared.parts.Pointer.{Pointer}
-use Rattle.frame.specs.declared.parts.Moved.TheVariants.{To, Outside}
 use Rattle.store.specs.State.{State}
 use Rattle.store.specs.Calls.{opening, moved_answer, moved_by, move_answer, move}
 use Rattle.store.specs.declared.answer.Refusal.{Refusal}
 use Rattle.store.specs.declared.answer.Refusal.TheVariants.{BadTag, Leaves}
-use Rattle.store.specs.declared.answer.Answer.TheVariants.{Accepted, Refused}
-use Rattle.store.specs.declared.answer.Answer.{Answer}
+use Rattle.store.specs.State.{Answer}
 
 module _ (s : ℕ) (p : Pointer) (d : ℤ) where
   -- row 10
-  pub moved_bad : good_tag s p ≡ false → Refused BadTag ≡ moved_by s p d
+  pub moved_bad : good_tag s p ≡ false → Err BadTag ≡ moved_by s p d
   moved_bad g = rw g
 
   -- row 12
-  pub moved_out : good_tag s p ≡ true → moved p (reach s p) d ≡ Outside → Refused Leaves ≡ moved_by s p d
+  pub moved_out : good_tag s p ≡ true → moved p (reach s p) d ≡ None → Err Leaves ≡ moved_by s p d
   unfolding moved_answer
   moved_out g e = rw (g, e)
 
   -- both are passed
-  pub moved_in : (q : Pointer) → good_tag s p ≡ true → moved p (reach s p) d ≡ To q → Accepted (pack q) ≡ moved_by s p d
+  pub moved_in : (q : Pointer) → good_tag s p ≡ true → moved p (reach s p) d ≡ Some q → Ok (pack q) ≡ moved_by s p d
   unfolding moved_answer
   moved_in q g e = rw (g, e)
 
-module _ (x : State) (r : Refusal) (e : opening x ≡ Refused r) where
+module _ (x : State) (r : Refusal) (e : opening x ≡ Err r) where
   -- row 4 or 5
-  pub move_shut : (word : ℕ) (d : ℤ) → Refused r ≡ move_answer word d x
+  pub move_shut : (word : ℕ) (d : ℤ) → Err r ≡ move_answer word d x
   unfolding move_answer
   move_shut word d = rw e
 
-module _ (x : State) (s : ℕ) (e : opening x ≡ Accepted s) where
+module _ (x : State) (s : ℕ) (e : opening x ≡ Ok s) where
   -- row 10, then 12
   pub move_answer_lem : (word : ℕ) (d : ℤ) → moved_by s (unpack word) d ≡ move_answer word d x
   unfolding move_answer
@@ -45,7 +43,7 @@ move_leaves word d x = refl
 
 -- What it comes to, where rows 4 and 5 are passed.
 
-module _ (s : ℕ) (x : State) (o : opening x ≡ Accepted s) where
+module _ (s : ℕ) (x : State) (o : opening x ≡ Ok s) where
   -- its answer is that of the pointer's parts
   pub move-outcome : (p : ℕ) (d : ℤ) → move p d x ≡ record { answer = moved_by s (unpack p) d; after = x }
   move-outcome p d = move_leaves p d x ∙ ap (λ (a : Answer). record { answer = a; after = x }) (sym (move_answer_lem x s o p d))

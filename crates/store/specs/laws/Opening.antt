@@ -1,5 +1,5 @@
 -- Rows 4 and 5, with which every call but set-up begins. Assumes nothing.
-use Rattle.std.specs.Prelude.{ℕ, ◌+◌, ◌^◌, ◌≤◌, ◌<◌, ◌≡◌, true, false, List, leb, length}
+use Rattle.std.specs.Prelude.{ℕ, ◌+◌, ◌^◌, ◌≤◌, ◌<◌, ◌≡◌, true, false, List, leb, length, Err, Ok}
 use Rattle.std.proofs.Common.{sym, ap, ◌∙◌, lt_of_lt_of_le, arith}
 use borrow.Author.Tests.{leb-true, le-leb, lt-leb}
 use Rattle.frame.specs.Tags.{used_entries, entry_of}
@@ -12,7 +12,6 @@ use Rattle.store.specs.State.{State, state}
 use Rattle.store.specs.Calls.{opening}
 use Rattle.store.specs.laws.Refusals.{demand_met}
 use Rattle.store.specs.declared.answer.Refusal.TheVariants.{BadSuperblock, ShortTable}
-use Rattle.store.specs.declared.answer.Answer.TheVariants.{Accepted, Refused}
 
 -- rows 4 and 5 are passed, with the slot exponent s
 pub record Open (x : State) (s : ℕ) : Type 0 where
@@ -24,7 +23,7 @@ pub record Open (x : State) (s : ℕ) : Type 0 where
   pub long : 64 ≤ length x.image
   pub short : length x.image ≤ 2 ^ 30
 
-pub opening_parts : (x : State) (s : ℕ) → opening x ≡ Accepted s → Open x s
+pub opening_parts : (x : State) (s : ℕ) → opening x ≡ Ok s → Open x s
 unfolding opening
 opening_parts x s e =
     let a = demand_met (superblock_good x.image) BadSuperblock _ s e in
@@ -43,26 +42,26 @@ opening_parts x s e =
 
 -- and how they are passed
 pub opening-passes : (x : State) → superblock_good x.image ≡ true → used_entries (slot_exponent x.image) (length x.image) ≤ length x.table
-    → opening x ≡ Accepted (slot_exponent x.image)
+    → opening x ≡ Ok (slot_exponent x.image)
 unfolding opening
 opening-passes x g l = rw (g, le-leb _ _ l)
 
 -- bytes replaced behind the superblock
 pub opening_kept : (x : State) (s at : ℕ) (bs : List ℕ) → Open x s → 16 ≤ at → at + length bs ≤ length x.image
-    → opening (state (put x.image at bs) x.table) ≡ Accepted s
+    → opening (state (put x.image at bs) x.table) ≡ Ok s
 opening_kept x s at bs o low fits =
     let (good, same) = superblock_kept x.image at bs fits (omega arith) in
     let e : slot_exponent (put x.image at bs) ≡ s = same ∙ sym o.exponent in
-    opening-passes (state (put x.image at bs) x.table) (good ∙ o.good) (rw (e, length-put x.image at bs fits) o.entries) ∙ ap Accepted e
+    opening-passes (state (put x.image at bs) x.table) (good ∙ o.good) (rw (e, length-put x.image at bs fits) o.entries) ∙ ap Ok e
 
 -- The ways out.
 
 module _ (x : State) where
-  pub not_open : superblock_good x.image ≡ false → Refused BadSuperblock ≡ opening x
+  pub not_open : superblock_good x.image ≡ false → Err BadSuperblock ≡ opening x
   unfolding opening
   not_open e = rw e
 
-  pub table_short : superblock_good x.image ≡ true → length x.table < used_entries (slot_exponent x.image) (length x.image) → Refused ShortTable ≡ opening x
+  pub table_short : superblock_good x.image ≡ true → length x.table < used_entries (slot_exponent x.image) (length x.image) → Err ShortTable ≡ opening x
   unfolding opening
   table_short e l = rw (e, lt-leb _ _ l)
 

@@ -1,22 +1,21 @@
 -- Tests in a row: refused, or gone on. Assumes nothing.
-use Rattle.std.specs.Prelude.{ℕ, ◌≤◌, ◌<◌, ◌≡◌, refl, Bool, true, false, ◌↔◌}
+use Rattle.std.specs.Prelude.{ℕ, ◌≤◌, ◌<◌, ◌≡◌, refl, Bool, true, false, ◌↔◌, Err, Ok}
 use Rattle.std.proofs.Common.{ap, ◌∙◌, arith}
 use Rattle.block.specs.laws.Booleans.{true_false}
 use Rattle.store.specs.State.{State, Outcome, IsAccepted, refusal_number, returned, value, demand, and_then, refuse}
 use Rattle.store.specs.declared.answer.Refusal.{Refusal}
 use Rattle.store.specs.declared.answer.Refusal.TheVariants.{BadExponent, BadLength, TooFewEntries, BadSuperblock, ShortTable, Empty, Unsound, NoSpace, EntryTaken, BadTag, Dangling, Leaves, OutOfBounds, BadWidth, NotBase, TooLarge, Unterminated, EntryLost, WrongTotal, BadDescriptor, Undescribed}
-use Rattle.store.specs.declared.answer.Answer.{Answer}
-use Rattle.store.specs.declared.answer.Answer.TheVariants.{Accepted, Refused}
+use Rattle.store.specs.State.{Answer}
 
 -- what an answer leaves where its value goes: the value, or what stood there
 abbrev pub given : Answer → ℕ → ℕ
-given (Accepted v) before = v
-given (Refused r) before = before
+given (Ok v) before = v
+given (Err r) before = before
 
 -- over a zero it is the value
 pub given_zero : (a : Answer) → given a 0 ≡ value a
-given_zero (Accepted v) = refl
-given_zero (Refused r) = refl
+given_zero (Ok v) = refl
+given_zero (Err r) = refl
 
 -- a refusal's number has one or two digits, and is not 0
 pub refusal_range : (r : Refusal) → (1 ≤ refusal_number r) × (refusal_number r < 100)
@@ -51,20 +50,20 @@ pub not-accepted : (r : Refusal) {y : State} {o : Outcome} → refuse r y ≡ o 
 not-accepted r q e = refused_some r (ap (λ (z : Outcome). returned z.answer) q ∙ e)
 
 -- an answer that is accepted has a value
-pub accepted_is : (a : Answer) → returned a ≡ 0 → a ≡ Accepted (value a)
-accepted_is (Accepted v) e = refl
-accepted_is (Refused r) e = absurd (refused_some r e)
+pub accepted_is : (a : Answer) → returned a ≡ 0 → a ≡ Ok (value a)
+accepted_is (Ok v) e = refl
+accepted_is (Err r) e = absurd (refused_some r e)
 
 -- a test is accepted exactly where it holds
-pub demand_iff : (ok : Bool) (r : Refusal) (v : ℕ) → (returned (demand ok r (Accepted v)) ≡ 0) ↔ (ok ≡ true)
+pub demand_iff : (ok : Bool) (r : Refusal) (v : ℕ) → (returned (demand ok r (Ok v)) ≡ 0) ↔ (ok ≡ true)
 demand_iff true r v = ((λ e. refl), λ e. refl)
 demand_iff false r v = ((λ e. absurd (refused_some r e)), λ (e : false ≡ true). absurd (true_false e refl))
 
 -- a test that came through is met, and what follows it came through too
-pub demand_met : (ok : Bool) (r : Refusal) (next : Answer) (v : ℕ) → demand ok r next ≡ Accepted v → (ok ≡ true) × (next ≡ Accepted v)
+pub demand_met : (ok : Bool) (r : Refusal) (next : Answer) (v : ℕ) → demand ok r next ≡ Ok v → (ok ≡ true) × (next ≡ Ok v)
 demand_met true r next v e = (refl, e)
 demand_met false r next v e = let z : ◌≡◌ {A = ℕ} 0 1 = cc in absurd (omega arith)
 
-pub and_then_met : (a : Answer) (next : ℕ → Answer) (v : ℕ) → and_then a next ≡ Accepted v → (u : ℕ) × (a ≡ Accepted u) × (next u ≡ Accepted v)
-and_then_met (Accepted u) next v e = (u, refl, e)
-and_then_met (Refused r) next v e = let z : ◌≡◌ {A = ℕ} 0 1 = cc in absurd (omega arith)
+pub and_then_met : (a : Answer) (next : ℕ → Answer) (v : ℕ) → and_then a next ≡ Ok v → (u : ℕ) × (a ≡ Ok u) × (next u ≡ Ok v)
+and_then_met (Ok u) next v e = (u, refl, e)
+and_then_met (Err r) next v e = let z : ◌≡◌ {A = ℕ} 0 1 = cc in absurd (omega arith)

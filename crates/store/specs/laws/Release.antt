@@ -2,7 +2,7 @@
 -- In order: its folds over the places of the cue's objects; what is known where its rows are passed; each row, and what is left by the answer; what it
 -- comes to. Assumes nothing.
 use Prim.Native.Nat.{ℕ, suc, ◌+◌, ◌-◌, ◌≤◌}
-use Rattle.std.specs.Prelude.{◌≡◌, true, false, ◌&&◌, length}
+use Rattle.std.specs.Prelude.{◌≡◌, true, false, ◌&&◌, length, Err, Ok}
 use Rattle.std.proofs.Math.Path.{refl, sym, ap}
 use Rattle.std.proofs.Common.{◌∙◌}
 use Rattle.std.proofs.Math.Bool.{Bool, and_assoc}
@@ -19,8 +19,7 @@ use Rattle.store.specs.laws.Opening.{opening_parts}
 use Rattle.store.specs.laws.Total.{total_fits_lem, total-within}
 use Rattle.store.specs.declared.answer.Refusal.{Refusal}
 use Rattle.store.specs.declared.answer.Refusal.TheVariants.{Unsound, EntryLost, WrongTotal}
-use Rattle.store.specs.declared.answer.Answer.{Answer}
-use Rattle.store.specs.declared.answer.Answer.TheVariants.{Accepted, Refused}
+use Rattle.store.specs.State.{Answer}
 
 -- row 21, place by place
 
@@ -91,8 +90,8 @@ unfolding free_each
 free_each_one p ps x = refl
 
 -- a gathering that came through ended at the image's end
-gathered_met : (w : Walked (List ℕ)) (next : List ℕ → Answer) (v : ℕ) → gathered_answer w next ≡ Accepted v
-    → (places : List ℕ) × (w ≡ ended places) × (next places ≡ Accepted v)
+gathered_met : (w : Walked (List ℕ)) (next : List ℕ → Answer) (v : ℕ) → gathered_answer w next ≡ Ok v
+    → (places : List ℕ) × (w ≡ ended places) × (next places ≡ Ok v)
 unfolding gathered_answer
 gathered_met (stopped places h) next v e = let z : ◌≡◌ {A = ℕ} 0 1 = cc in absurd (omega arith)
 gathered_met (unsound h) next v e = let z : ◌≡◌ {A = ℕ} 0 1 = cc in absurd (omega arith)
@@ -100,13 +99,13 @@ gathered_met (ended places) next v e = (places, refl, e)
 
 -- the rows of release are passed, for the objects of the cue at these places
 pub record Releasable (s cue : ℕ) (x : State) (places : List ℕ) : Type 0 where
-  pub opens : opening x ≡ Accepted s
+  pub opens : opening x ≡ Ok s
   pub walked : walk_cue cue x.image ≡ ended places
   pub held : all_held s places x ≡ true
   pub total : stored_total x.image + extents_of x.image places ≤ length x.image - 16
 
 -- an accepted release passes them
-pub release_parts : (cue n : ℕ) (x : State) → release_checks cue x ≡ Accepted n → (places : List ℕ) × Releasable (slot_exponent x.image) cue x places × (n ≡ length places)
+pub release_parts : (cue n : ℕ) (x : State) → release_checks cue x ≡ Ok n → (places : List ℕ) × Releasable (slot_exponent x.image) cue x places × (n ≡ length places)
 unfolding release_checks
 release_parts cue n x e =
     let (s, o, m) = and_then_met (opening x) _ n e in
@@ -120,47 +119,47 @@ release_parts cue n x e =
 
 module _ (cue : ℕ) (x : State) where
   -- row 4 or 5
-  pub release_shut : (r : Refusal) → opening x ≡ Refused r → Refused r ≡ release_checks cue x
+  pub release_shut : (r : Refusal) → opening x ≡ Err r → Err r ≡ release_checks cue x
   unfolding release_checks
   release_shut r e = rw e
 
   -- row 7
-  pub release_unsound : (s h : ℕ) → opening x ≡ Accepted s → walk_cue cue x.image ≡ unsound h → Refused Unsound ≡ release_checks cue x
+  pub release_unsound : (s h : ℕ) → opening x ≡ Ok s → walk_cue cue x.image ≡ unsound h → Err Unsound ≡ release_checks cue x
   unfolding release_checks gathered_answer
   release_unsound s h o w = rw (o, w)
 
   -- row 21
-  pub release_lost : (s : ℕ) (places : List ℕ) → opening x ≡ Accepted s → walk_cue cue x.image ≡ ended places → all_held s places x ≡ false
-      → Refused EntryLost ≡ release_checks cue x
+  pub release_lost : (s : ℕ) (places : List ℕ) → opening x ≡ Ok s → walk_cue cue x.image ≡ ended places → all_held s places x ≡ false
+      → Err EntryLost ≡ release_checks cue x
   unfolding release_checks gathered_answer
   release_lost s places o w l = rw (o, w, l)
 
   -- row 22
-  pub release_wrong : (s : ℕ) (places : List ℕ) → opening x ≡ Accepted s → walk_cue cue x.image ≡ ended places → all_held s places x ≡ true
-      → total_fits x.image (extents_of x.image places) ≡ false → Refused WrongTotal ≡ release_checks cue x
+  pub release_wrong : (s : ℕ) (places : List ℕ) → opening x ≡ Ok s → walk_cue cue x.image ≡ ended places → all_held s places x ≡ true
+      → total_fits x.image (extents_of x.image places) ≡ false → Err WrongTotal ≡ release_checks cue x
   unfolding release_checks gathered_answer
   release_wrong s places o w h f = rw (o, w, h, f)
 
   -- all are passed
-  pub release_counted : {s : ℕ} {places : List ℕ} → Releasable s cue x places → Accepted (length places) ≡ release_checks cue x
+  pub release_counted : {s : ℕ} {places : List ℕ} → Releasable s cue x places → Ok (length places) ≡ release_checks cue x
   unfolding release_checks gathered_answer
   release_counted {s} {places} r = rw (r.opens, r.walked, r.held, total_fits_lem x.image (extents_of x.image places) r.total)
 
   -- a refusal leaves all as it was
-  pub release_declined : (r : Refusal) → release_checks cue x ≡ Refused r → outcome (Refused r) x.image x.table ≡ release_cue cue x
+  pub release_declined : (r : Refusal) → release_checks cue x ≡ Err r → outcome (Err r) x.image x.table ≡ release_cue cue x
   unfolding release_cue
   release_declined r e = rw e
 
   -- otherwise the objects are freed
-  pub release_done : (n : ℕ) (image table : List ℕ) → release_checks cue x ≡ Accepted n → state image table ≡ free_each (cue_pointers cue x.image) x
-      → outcome (Accepted n) image table ≡ release_cue cue x
+  pub release_done : (n : ℕ) (image table : List ℕ) → release_checks cue x ≡ Ok n → state image table ≡ free_each (cue_pointers cue x.image) x
+      → outcome (Ok n) image table ≡ release_cue cue x
   unfolding release_cue
-  release_done n image table e q = rw e (ap (λ (y : State). record { answer = Accepted n; after = y }) q)
+  release_done n image table e q = rw e (ap (λ (y : State). record { answer = Ok n; after = y }) q)
 
 -- What it comes to, where rows 4 and 5 are passed.
-pub release_is : (s cue : ℕ) (x : State) (places : List ℕ) → opening x ≡ Accepted s → slot_exponent x.image ≡ s → walk_cue cue x.image ≡ ended places
+pub release_is : (s cue : ℕ) (x : State) (places : List ℕ) → opening x ≡ Ok s → slot_exponent x.image ≡ s → walk_cue cue x.image ≡ ended places
     → all_held s places x ≡ true → stored_total x.image + extents_of x.image places ≤ length x.image - 16
-    → release_cue cue x ≡ record { answer = Accepted (length places); after = free_each (pointers_to s x.image places) x }
+    → release_cue cue x ≡ record { answer = Ok (length places); after = free_each (pointers_to s x.image places) x }
 release_is s cue x places o q w h t =
     let y : State = free_each (pointers_to s x.image places) x in
     sym

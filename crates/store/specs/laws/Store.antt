@@ -1,5 +1,5 @@
 -- Store: its rows, what is known where they are passed, and what it leaves. Assumes nothing.
-use Rattle.std.specs.Prelude.{ℕ, ◌^◌, ◌<◌, ◌≡◌, refl, true, false, Bool, ltb}
+use Rattle.std.specs.Prelude.{ℕ, ◌^◌, ◌<◌, ◌≡◌, refl, true, false, Bool, ltb, Err, Ok}
 use Rattle.std.proofs.Common.{sym, ◌∙◌, ltb-true, lt-ltb}
 use Rattle.frame.specs.Pointers.{unpack}
 use Rattle.block.specs.Bytes.{encode, put}
@@ -10,23 +10,22 @@ use Rattle.store.specs.laws.Opening.{Open, opening_parts}
 use Rattle.store.specs.laws.Access.{Accessed, accessed_parts, through}
 use Rattle.store.specs.declared.answer.Refusal.{Refusal}
 use Rattle.store.specs.declared.answer.Refusal.TheVariants.{BadWidth, TooLarge, OutOfBounds}
-use Rattle.store.specs.declared.answer.Answer.TheVariants.{Accepted, Refused}
 
-module _ (x : State) (r : Refusal) (e : opening x ≡ Refused r) where
+module _ (x : State) (r : Refusal) (e : opening x ≡ Err r) where
   -- row 4 or 5
-  pub store_shut : (word width v : ℕ) → Refused r ≡ store_checks word width v x
+  pub store_shut : (word width v : ℕ) → Err r ≡ store_checks word width v x
   unfolding store_checks
   store_shut word width v = rw e
 
-module _ (x : State) (s : ℕ) (e : opening x ≡ Accepted s) where
+module _ (x : State) (s : ℕ) (e : opening x ≡ Ok s) where
   module _ (word width v : ℕ) where
     -- row 14
-    pub store_width : good_width width ≡ false → Refused BadWidth ≡ store_checks word width v x
+    pub store_width : good_width width ≡ false → Err BadWidth ≡ store_checks word width v x
     unfolding store_checks
     store_width w = rw (e, w)
 
     -- row 16
-    pub store-large : good_width width ≡ true → ltb v (256 ^ width) ≡ false → Refused TooLarge ≡ store_checks word width v x
+    pub store-large : good_width width ≡ true → ltb v (256 ^ width) ≡ false → Err TooLarge ≡ store_checks word width v x
     unfolding store_checks
     store-large w l = rw (e, w, l)
 
@@ -48,7 +47,7 @@ pub record Stores (word width v : ℕ) (x : State) (a : ℕ) : Type 0 where
   pub bytes : Accessed exponent (unpack word) width x a
 
 -- an accepted store passes them
-pub store_parts : (word width v : ℕ) (x : State) (a : ℕ) → store_checks word width v x ≡ Accepted a → Stores word width v x a
+pub store_parts : (word width v : ℕ) (x : State) (a : ℕ) → store_checks word width v x ≡ Ok a → Stores word width v x a
 unfolding store_checks
 store_parts word width v x a e =
     let (s, o, m) = and_then_met (opening x) _ a e in
@@ -63,22 +62,22 @@ store_parts word width v x a e =
     }
 
 -- a refused store leaves all as it was
-pub store_declined : (word width v : ℕ) (x : State) (r : Refusal) → store_checks word width v x ≡ Refused r → outcome (Refused r) x.image x.table ≡ store word width v x
+pub store_declined : (word width v : ℕ) (x : State) (r : Refusal) → store_checks word width v x ≡ Err r → outcome (Err r) x.image x.table ≡ store word width v x
 unfolding store
 store_declined word width v x r e = rw e
 
 -- an accepted one puts the value into the image
-pub store_done : (word width v : ℕ) (x : State) (at : ℕ) → store_checks word width v x ≡ Accepted at
-    → outcome (Accepted 0) (put x.image at (encode width v)) x.table ≡ store word width v x
+pub store_done : (word width v : ℕ) (x : State) (at : ℕ) → store_checks word width v x ≡ Ok at
+    → outcome (Ok 0) (put x.image at (encode width v)) x.table ≡ store word width v x
 unfolding store
 store_done word width v x at e = rw e
 
 -- What it comes to, where rows 4 and 5 are passed.
 
-module _ (s : ℕ) (x : State) (o : opening x ≡ Accepted s) where
+module _ (s : ℕ) (x : State) (o : opening x ≡ Ok s) where
   -- where the test of the bytes is known
   pub store-through : (p width v a : ℕ) (b : Bool) → good_width width ≡ true → ltb v (256 ^ width) ≡ true
-      → accessed s (unpack p) width x ≡ demand b OutOfBounds (Accepted a) → store p width v x ≡ through x 0 b a (encode width v)
+      → accessed s (unpack p) width x ≡ demand b OutOfBounds (Ok a) → store p width v x ≡ through x 0 b a (encode width v)
   store-through p width v a true g l e = sym (store_done p width v x a (sym (store_access x s o p width v g l) ∙ e))
   store-through p width v a false g l e = sym (store_declined p width v x OutOfBounds (sym (store_access x s o p width v g l) ∙ e))
 

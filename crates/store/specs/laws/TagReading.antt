@@ -1,6 +1,6 @@
 -- Reading a tag: rows 10 and 11.
 -- In order: what is known where they are passed, how they are passed, what a write keeps, that an object's pointers lead to it, each way out. Assumes nothing.
-use Rattle.std.specs.Prelude.{ℕ, ◌+◌, ◌*◌, ◌/◌, ◌^◌, ◌≤◌, ◌<◌, ◌≡◌, Bool, true, false, ◌&&◌, List, ltb, eqb, length, get_or}
+use Rattle.std.specs.Prelude.{ℕ, ◌+◌, ◌*◌, ◌/◌, ◌^◌, ◌≤◌, ◌<◌, ◌≡◌, Bool, true, false, ◌&&◌, List, ltb, eqb, length, get_or, Err, None, Ok, Some}
 use Rattle.std.proofs.Math.Path.{refl, sym}
 use Rattle.std.proofs.Common.{ap, ap₂, ◌∙◌, subst, inl, div-mul-le_self, arith}
 use Rattle.std.proofs.Math.Bool.{and_assoc, and-true, and-false}
@@ -20,17 +20,14 @@ use Rattle.block.specs.laws.Writes.{length-put}
 use Rattle.block.specs.laws.Headers.{header_at-put_other}
 use Rattle.block.specs.laws.Soundness.{sound-same, sound_in, sound-end, sound_live, object_at, object_is, object_is_none}
 use Rattle.block.specs.declared.header.Header.{Header}
-use Rattle.block.specs.declared.header.Object.TheVariants as object
 use Rattle.store.specs.State.{State, state, refusal_number, demand}
 use Rattle.store.specs.Calls.{opening, header_place, verified, leads_back, located, reading, found_at, read_tag}
 use Rattle.store.specs.laws.Refusals.{demand_met}
 use Rattle.store.specs.laws.Opening.{opening_parts}
 use Rattle.store.specs.declared.answer.Refusal.{Refusal}
 use Rattle.store.specs.declared.answer.Refusal.TheVariants.{BadTag, Dangling}
-use Rattle.store.specs.declared.answer.Answer.{Answer}
-use Rattle.store.specs.declared.answer.Answer.TheVariants.{Accepted, Refused}
+use Rattle.store.specs.State.{Answer}
 use Rattle.store.specs.declared.locate.Reading.{Reading}
-use Rattle.store.specs.declared.locate.Found.TheVariants as found
 
 -- the header at h is the one that the pointer was made for
 pub record Verified (s : ℕ) (p : Pointer) (x : State) (h : ℕ) : Type 0 where
@@ -46,7 +43,7 @@ pub record Located (s : ℕ) (p : Pointer) (x : State) (h : ℕ) : Type 0 where
   pub place : h ≡ header_place s p x.table
   pub header : Verified s p x h
 
-pub located_parts : (s : ℕ) (p : Pointer) (x : State) (h : ℕ) → located s p x ≡ Accepted h → Located s p x h
+pub located_parts : (s : ℕ) (p : Pointer) (x : State) (h : ℕ) → located s p x ≡ Ok h → Located s p x h
 unfolding located leads_back verified
 located_parts s p x h e =
     let a = demand_met (good_tag s p) BadTag _ h e in
@@ -85,20 +82,20 @@ located_leads s p x h l =
     rw (← k, lt-ltb _ _ l.starts, v.is_sound, v.is_live_lem, v.matches, eq-eqb _ _ v.near)
 
 -- and both
-pub located-at : (s : ℕ) (p : Pointer) (x : State) (h : ℕ) → Located s p x h → located s p x ≡ Accepted h
+pub located-at : (s : ℕ) (p : Pointer) (x : State) (h : ℕ) → Located s p x h → located s p x ≡ Ok h
 unfolding located
 located-at s p x h l = let k = l.place in rw (l.good, located_leads s p x h l, ← k)
 
 -- where it is not found, row 10 or 11 refuses
-pub located_refusal : (s : ℕ) (p : Pointer) (x : State) (r : Refusal) → located s p x ≡ Refused r → (10 ≤ refusal_number r) × (refusal_number r ≤ 11)
+pub located_refusal : (s : ℕ) (p : Pointer) (x : State) (r : Refusal) → located s p x ≡ Err r → (10 ≤ refusal_number r) × (refusal_number r ≤ 11)
 unfolding located
 located_refusal s p x r e =
     by_bool (good_tag s p)
     (λ g.
     by_bool (leads_back s p x)
-    (λ l. let q : Accepted (header_place s p x.table) ≡ Refused r = rw (g, l) at e in let z : ◌≡◌ {A = ℕ} 0 1 = cc in absurd (omega arith))
-    (λ l. let q : Refused Dangling ≡ Refused r = rw (g, l) at e in let w : Dangling ≡ r = cc in rw (← w) (omega arith, omega arith)))
-    (λ g. let q : Refused BadTag ≡ Refused r = rw g at e in let w : BadTag ≡ r = cc in rw (← w) (omega arith, omega arith))
+    (λ l. let q : Ok (header_place s p x.table) ≡ Err r = rw (g, l) at e in let z : ◌≡◌ {A = ℕ} 0 1 = cc in absurd (omega arith))
+    (λ l. let q : Err Dangling ≡ Err r = rw (g, l) at e in let w : Dangling ≡ r = cc in rw (← w) (omega arith, omega arith)))
+    (λ g. let q : Err BadTag ≡ Err r = rw g at e in let w : BadTag ≡ r = cc in rw (← w) (omega arith, omega arith))
 
 -- bytes replaced behind the header
 pub located_kept : (s : ℕ) (p : Pointer) (x : State) (h at : ℕ) (bs : List ℕ) → Located s p x h → h + 16 ≤ at → at + length bs ≤ length x.image
@@ -160,7 +157,7 @@ located_object s x h size word o g =
 
 -- What reading a tag asks for of a pointer's parts, where rows 4 and 5 are passed.
 
-module _ (x : State) (s word : ℕ) (p : Pointer) (o : opening x ≡ Accepted s) (e : p ≡ unpack word) where
+module _ (x : State) (s word : ℕ) (p : Pointer) (o : opening x ≡ Ok s) (e : p ≡ unpack word) where
   in_range_lem : InRange p
   in_range_lem = subst InRange (sym e) (unpack_range word)
 
@@ -169,7 +166,7 @@ module _ (x : State) (s word : ℕ) (p : Pointer) (o : opening x ≡ Accepted s)
   asks_small f = let b = opening_parts x s o in (omega (arith, b.high), in_range_lem, f, b.long, b.short)
 
   -- large-framed
-  pub asks_large : p.flag ≡ false → (opening x ≡ Accepted s) × InRange p × (p.flag ≡ false)
+  pub asks_large : p.flag ≡ false → (opening x ≡ Ok s) × InRange p × (p.flag ≡ false)
   asks_large f = (o, in_range_lem, f)
 
 -- The ways out.
@@ -207,14 +204,14 @@ module _ (s : ℕ) (p : Pointer) (image : List ℕ) (h : ℕ) where
       match e = rw (so, eq-eqb (kind_at image h) 2 k, e)
 
   -- no object is verified
-  pub not-verified : object_at image h ≡ object.None → verified s p image h ≡ false
+  pub not-verified : object_at image h ≡ None → verified s p image h ≡ false
   unfolding verified
   not-verified e =
       sym (and_assoc (sound image h) (is_live image h) (tag_matches s h (size_at image h) p && same_frame (reach s p) h p.address))
       ∙ rw (object_is_none image h e)
 
   -- an object is by its tag and place
-  object_verified : (size : ℕ) → object_at image h ≡ object.Size size
+  object_verified : (size : ℕ) → object_at image h ≡ Some size
       → verified s p image h ≡ tag_matches s h size p && same_frame (reach s p) h p.address
   unfolding verified
   object_verified size e = let (so, li, n) = object_is image h size e in rw (so, li, n) refl
@@ -222,35 +219,35 @@ module _ (s : ℕ) (p : Pointer) (image : List ℕ) (h : ℕ) where
 -- rows 10 and 11
 
 module _ (s : ℕ) (p : Pointer) (x : State) where
-  pub bad_tag : good_tag s p ≡ false → Refused BadTag ≡ located s p x
+  pub bad_tag : good_tag s p ≡ false → Err BadTag ≡ located s p x
   unfolding located
   bad_tag e = rw e
 
   module _ (good : good_tag s p ≡ true) where
-    pub starts_past : length x.image ≤ frame_start (reach s p) p.address → Refused Dangling ≡ located s p x
+    pub starts_past : length x.image ≤ frame_start (reach s p) p.address → Err Dangling ≡ located s p x
     unfolding located leads_back
     starts_past l = rw (good, le-ltb _ _ l)
 
     pub starts_in : (h : ℕ) → frame_start (reach s p) p.address < length x.image → h ≡ header_place s p x.table
-        → demand (verified s p x.image h) Dangling (Accepted h) ≡ located s p x
+        → demand (verified s p x.image h) Dangling (Ok h) ≡ located s p x
     unfolding located leads_back
     starts_in h l e = rw (e, good, lt-ltb _ _ l) refl
 
     module _ (h : ℕ) (place : h ≡ header_place s p x.table) where
       -- no object is there
-      pub led_nowhere : object_at x.image h ≡ object.None → Refused Dangling ≡ located s p x
+      pub led_nowhere : object_at x.image h ≡ None → Err Dangling ≡ located s p x
       unfolding located leads_back
       led_nowhere e = rw (good, ← place, not-verified s p x.image h e, and-false (ltb (frame_start (reach s p) p.address) (length x.image)))
 
       -- one is: its tag and place decide
-      led : (size : ℕ) → frame_start (reach s p) p.address < length x.image → object_at x.image h ≡ object.Size size
-          → demand (tag_matches s h size p && same_frame (reach s p) h p.address) Dangling (Accepted h) ≡ located s p x
+      led : (size : ℕ) → frame_start (reach s p) p.address < length x.image → object_at x.image h ≡ Some size
+          → demand (tag_matches s h size p && same_frame (reach s p) h p.address) Dangling (Ok h) ≡ located s p x
       unfolding located leads_back
       led size l e = rw (good, ← place, object_verified s p x.image h size e, lt-ltb _ _ l) refl
 
       -- small-framed: the slot starts before it, and holds it by construction
-      pub led_small : (size : ℕ) → p.flag ≡ true → object_at x.image h ≡ object.Size size
-          → demand (slot_holds s size p) Dangling (Accepted h) ≡ located s p x
+      pub led_small : (size : ℕ) → p.flag ≡ true → object_at x.image h ≡ Some size
+          → demand (slot_holds s size p) Dangling (Ok h) ≡ located s p x
       led_small size f e =
           let at : h ≡ frame_start s p.address + p.tag = place ∙ sym (place_small s p x.table f) in
           let here : reach s p ≡ s = reach_small s p f in
@@ -258,15 +255,15 @@ module _ (s : ℕ) (p : Pointer) (x : State) where
           let starts : frame_start (reach s p) p.address < length x.image = rw here (omega (arith, at, in_image)) in
           let near : same_frame (reach s p) h p.address ≡ true = rw (here, at) (eq-eqb _ _ (slot_near s p.address p.tag (good_small s p f good))) in
           let matches : tag_matches s h size p ≡ slot_holds s size p = rw at (slot_matches s size p f good) in
-          ap (λ (b : Bool). demand b Dangling (Accepted h)) (sym (and-true (slot_holds s size p)) ∙ ap₂ ◌&&◌ (sym matches) (sym near)) ∙ led size starts e
+          ap (λ (b : Bool). demand b Dangling (Ok h)) (sym (and-true (slot_holds s size p)) ∙ ap₂ ◌&&◌ (sym matches) (sym near)) ∙ led size starts e
 
       -- large-framed: it reaches from half to half of the frame
-      pub led-large : (size : ℕ) → p.flag ≡ false → frame_start p.tag p.address < length x.image → object_at x.image h ≡ object.Size size
-          → demand (frame_holds h size p) Dangling (Accepted h) ≡ located s p x
+      pub led-large : (size : ℕ) → p.flag ≡ false → frame_start p.tag p.address < length x.image → object_at x.image h ≡ Some size
+          → demand (frame_holds h size p) Dangling (Ok h) ≡ located s p x
       led-large size f l e =
           let here : reach s p ≡ p.tag = reach-large s p f in
           let matches : frame_holds h size p ≡ tag_matches s h size p && same_frame (reach s p) h p.address = rw here (sym (frame_matches s h size p f good)) in
-          ap (λ (b : Bool). demand b Dangling (Accepted h)) matches ∙ led size (rw here l) e
+          ap (λ (b : Bool). demand b Dangling (Ok h)) matches ∙ led size (rw here l) e
 
 -- What the tag reader answers.
 
@@ -275,18 +272,18 @@ pub found_by : (s : ℕ) (p : Pointer) (x : State) (a : Answer) → a ≡ locate
 unfolding read_tag
 found_by s p x a e = rw e
 
-pub found-refused : (r : Refusal) (image : List ℕ) (p : Pointer) → found.Refused r ≡ found_at (Refused r) image p
+pub found-refused : (r : Refusal) (image : List ℕ) (p : Pointer) → Err r ≡ found_at (Err r) image p
 unfolding found_at
 found-refused r image p = refl
 
 -- the header's test decides on 11
 
 pub found-verified : (b : Bool) (image : List ℕ) (h size : ℕ) (p : Pointer) → b ≡ true → size ≡ size_at image h
-    → found.At (reading h size p) ≡ found_at (demand b Dangling (Accepted h)) image p
+    → Ok (reading h size p) ≡ found_at (demand b Dangling (Ok h)) image p
 unfolding found_at
 found-verified b image h size p e n = rw (e, n) refl
 
-pub found_dangling : (b : Bool) (image : List ℕ) (h : ℕ) (p : Pointer) → b ≡ false → found.Refused Dangling ≡ found_at (demand b Dangling (Accepted h)) image p
+pub found_dangling : (b : Bool) (image : List ℕ) (h : ℕ) (p : Pointer) → b ≡ false → Err Dangling ≡ found_at (demand b Dangling (Ok h)) image p
 unfolding found_at
 found_dangling b image h p e = rw e
 
@@ -294,25 +291,25 @@ found_dangling b image h p e = rw e
 
 -- what it found
 pub record FoundAt (s : ℕ) (p : Pointer) (x : State) (o : Reading) : Type 0 where
-  pub tested : located s p x ≡ Accepted o.header
+  pub tested : located s p x ≡ Ok o.header
   pub read : o ≡ reading o.header (size_at x.image o.header) p
   pub object : Located s p x o.header
 
-pub read_found : (s : ℕ) (p : Pointer) (x : State) (o : Reading) → read_tag s p x ≡ found.At o → FoundAt s p x o
+pub read_found : (s : ℕ) (p : Pointer) (x : State) (o : Reading) → read_tag s p x ≡ Ok o → FoundAt s p x o
 unfolding read_tag found_at
 read_found s p x o e = go (located s p x) refl
   where
     go : (a : Answer) → located s p x ≡ a → FoundAt s p x o
-    go (Accepted h) q =
+    go (Ok h) q =
         let w : reading h (size_at x.image h) p ≡ o = cc in
         rw (← w) (record { tested = q; read = refl; object = located_parts s p x h q })
-    go (Refused r) q = let z : ◌≡◌ {A = ℕ} 0 1 = cc in absurd (omega arith)
+    go (Err r) q = let z : ◌≡◌ {A = ℕ} 0 1 = cc in absurd (omega arith)
 
 -- why it found nothing
-pub read-refused : (s : ℕ) (p : Pointer) (x : State) (r : Refusal) → read_tag s p x ≡ found.Refused r → located s p x ≡ Refused r
+pub read-refused : (s : ℕ) (p : Pointer) (x : State) (r : Refusal) → read_tag s p x ≡ Err r → located s p x ≡ Err r
 unfolding read_tag found_at
 read-refused s p x r e = go (located s p x) refl
   where
-    go : (a : Answer) → located s p x ≡ a → located s p x ≡ Refused r
-    go (Accepted h) q = let z : ◌≡◌ {A = ℕ} 0 1 = cc in absurd (omega arith)
-    go (Refused t) q = let w : t ≡ r = cc in q ∙ ap Refused w
+    go : (a : Answer) → located s p x ≡ a → located s p x ≡ Err r
+    go (Ok h) q = let z : ◌≡◌ {A = ℕ} 0 1 = cc in absurd (omega arith)
+    go (Err t) q = let w : t ≡ r = cc in q ∙ ap Err w

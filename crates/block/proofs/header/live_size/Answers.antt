@@ -1,8 +1,7 @@
 -- `block::header::live_size`: no room, another kind, and an unsound header are no object; else the size is read. Assumes nothing.
-use Rattle.std.proofs.Common.{◌≡◌, ◌+◌, ◌≤◌, length, sym, ap, ◌∙◌, arith}
+use Rattle.std.proofs.Common.{◌≡◌, ◌+◌, ◌≤◌, length, sym, ap, ◌∙◌, arith, Some}
 use Rattle.block.specs.Layout.{kind_at}
 use Rattle.block.specs.laws.Soundness.{object_live, object_unsound, object_dead}
-use Rattle.block.specs.declared.header.Object.TheVariants as object
 use Rattle.block.proofs.Headers.{roomy, unroomy}
 use Rattle.block.proofs.header.live_size.Goals as goal
 
@@ -22,7 +21,7 @@ returns-then-not-live_sound c = sym (object_unsound _ _ (sym c.live_sound.ensure
 pub returns : goal.returns
 returns c =
     let is_live_lem : let a = c.args in kind_at a.image.now a.h ≡ 2 = sym c.kind_at.ensures ∙ c.if-kind_at-ne2.false in
-    ap object.Size c.size_at.ensures
+    ap Some c.size_at.ensures
     ∙ sym (object_live _ _ (sym c.live_sound.ensures ∙ c.if-not-live_sound.false) is_live_lem)
 
 pub kind_at-requires : goal.kind_at-requires

@@ -8,18 +8,18 @@ loop-i-init c = let s = c.args in (omega arith, compare-start s.image.now s.a s.
 -- the byte of the first run is below that of the second
 pub returns-then-x-y : goal.returns-then-x-y
 returns-then-x-y c =
-    let decide : let s = c.args in Decide c.read1-x.result c.read1-y.result (compare_runs s.image.now s.a s.b s.n) (compare_after s.image.now s.a s.b s.n (c.loop-i.i + 1)) = compare_turn c.args.image.now c.args.a c.args.b c.args.n (λ k. (c.type_inv.image k).fits) c.requires.0 c.requires.1 1 c.loop-i.i (omega arith) (big_one _ _ c.read1-x.ensures) (big_one _ _ c.read1-y.ensures) c.loop-i.invariant.1 in
+    let decide : let s = c.args in Decide c.read-x.result c.read-y.result (compare_runs s.image.now s.a s.b s.n) (compare_after s.image.now s.a s.b s.n (c.loop-i.i + 1)) = compare_turn c.args.image.now c.args.a c.args.b c.args.n (λ k. (c.type_inv.image k).fits) c.requires.0 c.requires.1 1 c.loop-i.i (omega arith) (big_one _ _ c.read-x.ensures) (big_one _ _ c.read-y.ensures) c.loop-i.invariant.1 in
     sym (decide.below (omega (arith, c.if-x-y.true)))
 
 -- it is above that
 pub returns-then-y-x : goal.returns-then-y-x
 returns-then-y-x c =
-    let decide : let s = c.args in Decide c.read1-x.result c.read1-y.result (compare_runs s.image.now s.a s.b s.n) (compare_after s.image.now s.a s.b s.n (c.loop-i.i + 1)) = compare_turn c.args.image.now c.args.a c.args.b c.args.n (λ k. (c.type_inv.image k).fits) c.requires.0 c.requires.1 1 c.loop-i.i (omega arith) (big_one _ _ c.read1-x.ensures) (big_one _ _ c.read1-y.ensures) c.loop-i.invariant.1 in
+    let decide : let s = c.args in Decide c.read-x.result c.read-y.result (compare_runs s.image.now s.a s.b s.n) (compare_after s.image.now s.a s.b s.n (c.loop-i.i + 1)) = compare_turn c.args.image.now c.args.a c.args.b c.args.n (λ k. (c.type_inv.image k).fits) c.requires.0 c.requires.1 1 c.loop-i.i (omega arith) (big_one _ _ c.read-x.ensures) (big_one _ _ c.read-y.ensures) c.loop-i.invariant.1 in
     sym (decide.above (omega (arith, c.if-y-x.true)))
 
 pub loop-i-preserved : goal.loop-i-preserved
 loop-i-preserved c =
-    let decide : let s = c.args in Decide c.read1-x.result c.read1-y.result (compare_runs s.image.now s.a s.b s.n) (compare_after s.image.now s.a s.b s.n (c.loop-i.i + 1)) = compare_turn c.args.image.now c.args.a c.args.b c.args.n (λ k. (c.type_inv.image k).fits) c.requires.0 c.requires.1 1 c.loop-i.i (omega arith) (big_one _ _ c.read1-x.ensures) (big_one _ _ c.read1-y.ensures) c.loop-i.invariant.1 in
+    let decide : let s = c.args in Decide c.read-x.result c.read-y.result (compare_runs s.image.now s.a s.b s.n) (compare_after s.image.now s.a s.b s.n (c.loop-i.i + 1)) = compare_turn c.args.image.now c.args.a c.args.b c.args.n (λ k. (c.type_inv.image k).fits) c.requires.0 c.requires.1 1 c.loop-i.i (omega arith) (big_one _ _ c.read-x.ensures) (big_one _ _ c.read-y.ensures) c.loop-i.invariant.1 in
     (omega arith, decide.equal (omega arith))
 
 -- no byte is left

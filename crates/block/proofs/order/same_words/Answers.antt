@@ -12,11 +12,11 @@ loop-i-preserved c =
     let bytes : Bytes image = λ k. (c.type_inv.image k).fits in (
       omega arith,
       (compare_turn image c.args.a c.args.b c.args.n bytes c.requires.0 c.requires.1 8 c.loop-i.i (omega arith) refl refl c.loop-i.invariant.1).equal
-          (same_big image bytes 8 _ _ (sym c.read8.ensures ∙ c.if-read8.false ∙ c.read8-in-loop-i.ensures)),
+          (same_big image bytes 8 _ _ (sym c.read.ensures ∙ c.if-read.false ∙ c.read-in-loop-i.ensures)),
     )
 
 pub returns-after-loop-i : goal.returns-after-loop-i
 returns-after-loop-i c = c.loop-i.invariant
 
-pub returns-then-read8 : goal.returns-then-read8
-returns-then-read8 c = c.loop-i.invariant
+pub returns-then-read : goal.returns-then-read
+returns-then-read c = c.loop-i.invariant

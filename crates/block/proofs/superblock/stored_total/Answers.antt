@@ -3,4 +3,4 @@ use Rattle.block.specs.laws.Total.{total_bound}
 use Rattle.block.proofs.superblock.stored_total.Goals as goal
 
 pub returns : goal.returns
-returns c = (c.read4.ensures, rw c.read4.ensures (total_bound _ (λ k. (c.type_inv.image k).fits)))
+returns c = (c.read.ensures, rw c.read.ensures (total_bound _ (λ k. (c.type_inv.image k).fits)))

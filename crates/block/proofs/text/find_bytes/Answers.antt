@@ -6,12 +6,12 @@ pub loop-i-init : goal.loop-i-init
 loop-i-init c = (omega arith, refl)
 
 -- the byte is zero
-pub returns-then-read1-eq0 : goal.returns-then-read1-eq0
-returns-then-read1-eq0 c =
+pub returns-then-read-eq0 : goal.returns-then-read-eq0
+returns-then-read-eq0 c =
     let s = c.args in
     sym
     (c.loop-i.invariant.1
-    ∙ text_stops s.image.now s.at s.n c.requires.0 c.loop-i.i (omega arith) (sym c.read1.ensures ∙ c.if-read1-eq0.true))
+    ∙ text_stops s.image.now s.at s.n c.requires.0 c.loop-i.i (omega arith) (sym c.read.ensures ∙ c.if-read-eq0.true))
 
 pub loop-i-preserved : goal.loop-i-preserved
 loop-i-preserved c =
@@ -19,7 +19,7 @@ loop-i-preserved c =
       omega arith,
       c.loop-i.invariant.1
           ∙ text_turn s.image.now s.at s.n c.requires.0 1 c.loop-i.i (omega arith)
-          (zero_one _ _ ∙ ne_eqb _ 0 (λ z. c.if-read1-eq0.false (c.read1.ensures ∙ z))),
+          (zero_one _ _ ∙ ne_eqb _ 0 (λ z. c.if-read-eq0.false (c.read.ensures ∙ z))),
     )
 
 -- no byte is left

@@ -7,35 +7,35 @@ use Rattle.block.proofs.walk.count_blocks.Goals.{then-d-eq2, else-d-eq2}
 
 pub overflow_add-objects : goal.overflow_add-objects
 overflow_add-objects c =
-    let seen : Seen c.args.image.now c.loop-d.h c.in-Sound.d = seen_at _ _ _ (sym c.examine.ensures ∙ c.in-Sound.is) in
+    let seen : Seen c.args.image.now c.loop-d.h c.in-Some.d = seen_at _ _ _ (sym c.examine.ensures ∙ c.in-Some.is) in
     let s = seen in
     omega (arith, c.loop-d.invariant.below)
 
 pub overflow_add-free : goal.overflow_add-free
 overflow_add-free c =
-    let seen : Seen c.args.image.now c.loop-d.h c.in-Sound.d = seen_at _ _ _ (sym c.examine.ensures ∙ c.in-Sound.is) in
+    let seen : Seen c.args.image.now c.loop-d.h c.in-Some.d = seen_at _ _ _ (sym c.examine.ensures ∙ c.in-Some.is) in
     let s = seen in
     omega (arith, c.loop-d.invariant.below)
 
 pub overflow_add-live : goal.overflow_add-live
 overflow_add-live c =
-    let seen : Seen c.args.image.now c.loop-d.h c.in-Sound.d = seen_at _ _ _ (sym c.examine.ensures ∙ c.in-Sound.is) in
+    let seen : Seen c.args.image.now c.loop-d.h c.in-Some.d = seen_at _ _ _ (sym c.examine.ensures ∙ c.in-Some.is) in
     let s = seen in
     omega (arith, c.loop-d.invariant.below, size-inside s)
 
 pub overflow_add-h : goal.overflow_add-h
 overflow_add-h c =
-    let seen : Seen c.args.image.now c.loop-d.h c.in-Sound.d = seen_at _ _ _ (sym c.examine.ensures ∙ c.in-Sound.is) in
+    let seen : Seen c.args.image.now c.loop-d.h c.in-Some.d = seen_at _ _ _ (sym c.examine.ensures ∙ c.in-Some.is) in
     let s = seen in omega arith
 
 pub loop-d-smaller : goal.loop-d-smaller
 loop-d-smaller c =
-    let seen : Seen c.args.image.now c.loop-d.h c.in-Sound.d = seen_at _ _ _ (sym c.examine.ensures ∙ c.in-Sound.is) in
+    let seen : Seen c.args.image.now c.loop-d.h c.in-Some.d = seen_at _ _ _ (sym c.examine.ensures ∙ c.in-Some.is) in
     let s = seen in omega arith
 
 pub loop-d-preserved : goal.loop-d-preserved
 loop-d-preserved c =
-    let seen : Seen c.args.image.now c.loop-d.h c.in-Sound.d = seen_at _ _ _ (sym c.examine.ensures ∙ c.in-Sound.is) in
+    let seen : Seen c.args.image.now c.loop-d.h c.in-Some.d = seen_at _ _ _ (sym c.examine.ensures ∙ c.in-Some.is) in
     let w = c.loop-d.invariant in
     let s = seen in
     elim c.if-d-eq2.branch [

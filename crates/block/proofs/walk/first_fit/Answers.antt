@@ -10,18 +10,18 @@ loop-d-init c = begins _ _ _
 
 pub overflow_add-h : goal.overflow_add-h
 overflow_add-h c =
-    let seen : Seen c.args.image.now c.loop-d.h c.in-Sound.d = seen_at _ _ _ (sym c.examine.ensures ∙ c.in-Sound.is) in
+    let seen : Seen c.args.image.now c.loop-d.h c.in-Some.d = seen_at _ _ _ (sym c.examine.ensures ∙ c.in-Some.is) in
     let s = seen in omega arith
 
 pub loop-d-smaller : goal.loop-d-smaller
 loop-d-smaller c =
-    let seen : Seen c.args.image.now c.loop-d.h c.in-Sound.d = seen_at _ _ _ (sym c.examine.ensures ∙ c.in-Sound.is) in
+    let seen : Seen c.args.image.now c.loop-d.h c.in-Some.d = seen_at _ _ _ (sym c.examine.ensures ∙ c.in-Some.is) in
     let s = seen in omega arith
 
 pub loop-d-preserved : goal.loop-d-preserved
 loop-d-preserved c =
-    let seen : Seen c.args.image.now c.loop-d.h c.in-Sound.d = seen_at _ _ _ (sym c.examine.ensures ∙ c.in-Sound.is) in
-    let passed : (fitting c.args.need).stops c.loop-d.h c.in-Sound.d ≡ false = ⊎_elim (λ w. simp (and-false, lt-leb c.args.need c.in-Sound.d.extent w.1)) (λ w. simp (ne_eqb c.in-Sound.d.kind 1 w)) c.else-d-eq1.either in
+    let seen : Seen c.args.image.now c.loop-d.h c.in-Some.d = seen_at _ _ _ (sym c.examine.ensures ∙ c.in-Some.is) in
+    let passed : (fitting c.args.need).stops c.loop-d.h c.in-Some.d ≡ false = ⊎_elim (λ w. simp (and-false, lt-leb c.args.need c.in-Some.d.extent w.1)) (λ w. simp (ne_eqb c.in-Some.d.kind 1 w)) c.else-d-eq1.either in
     goes_on c.loop-d.invariant seen passed
 
 -- the image's end
@@ -38,5 +38,5 @@ returns-else-h-len c = ap fit_of (at_unsound c.loop-d.invariant c.if-h-len.false
 pub returns-then-need-d : goal.returns-then-need-d
 unfolding first_fit fit_of
 returns-then-need-d c =
-    let seen : Seen c.args.image.now c.loop-d.h c.in-Sound.d = seen_at _ _ _ (sym c.examine.ensures ∙ c.in-Sound.is) in
+    let seen : Seen c.args.image.now c.loop-d.h c.in-Some.d = seen_at _ _ _ (sym c.examine.ensures ∙ c.in-Some.is) in
     ap fit_of (at_stop c.loop-d.invariant seen (simp (eq-eqb _ _ c.if-d-eq1.true, c.if-need-d.true-raw)))

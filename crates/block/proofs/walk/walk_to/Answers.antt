@@ -10,17 +10,17 @@ loop-d-init c = begins _ _ _
 
 pub overflow_add-h : goal.overflow_add-h
 overflow_add-h c =
-    let seen : Seen c.args.image.now c.loop-d.h c.in-Sound.d = seen_at _ _ _ (sym c.examine.ensures ∙ c.in-Sound.is) in
+    let seen : Seen c.args.image.now c.loop-d.h c.in-Some.d = seen_at _ _ _ (sym c.examine.ensures ∙ c.in-Some.is) in
     let s = seen in omega arith
 
 pub loop-d-smaller : goal.loop-d-smaller
 loop-d-smaller c =
-    let seen : Seen c.args.image.now c.loop-d.h c.in-Sound.d = seen_at _ _ _ (sym c.examine.ensures ∙ c.in-Sound.is) in
+    let seen : Seen c.args.image.now c.loop-d.h c.in-Some.d = seen_at _ _ _ (sym c.examine.ensures ∙ c.in-Some.is) in
     let s = seen in omega arith
 
 pub loop-d-preserved : goal.loop-d-preserved
 loop-d-preserved c =
-    let seen : Seen c.args.image.now c.loop-d.h c.in-Sound.d = seen_at _ _ _ (sym c.examine.ensures ∙ c.in-Sound.is) in
+    let seen : Seen c.args.image.now c.loop-d.h c.in-Some.d = seen_at _ _ _ (sym c.examine.ensures ∙ c.in-Some.is) in
     goes_on c.loop-d.invariant seen (lt-leb c.args.target c.loop-d.h (omega arith))
 
 -- no sound header
@@ -31,12 +31,12 @@ returns-in_default c = walk_to_lost _ c.loop-d.invariant (sym c.examine.ensures 
 pub returns-then-h-target : goal.returns-then-h-target
 unfolding walk_to met_of
 returns-then-h-target c =
-    let seen : Seen c.args.image.now c.loop-d.h c.in-Sound.d = seen_at _ _ _ (sym c.examine.ensures ∙ c.in-Sound.is) in
+    let seen : Seen c.args.image.now c.loop-d.h c.in-Some.d = seen_at _ _ _ (sym c.examine.ensures ∙ c.in-Some.is) in
     rw (← at_stop c.loop-d.invariant seen (le-leb c.args.target c.loop-d.h (omega arith)), eq-eqb _ _ c.if-h-target.true)
 
 -- the first block above the target
 pub returns-then-target-h : goal.returns-then-target-h
 unfolding walk_to met_of
 returns-then-target-h c =
-    let seen : Seen c.args.image.now c.loop-d.h c.in-Sound.d = seen_at _ _ _ (sym c.examine.ensures ∙ c.in-Sound.is) in
+    let seen : Seen c.args.image.now c.loop-d.h c.in-Some.d = seen_at _ _ _ (sym c.examine.ensures ∙ c.in-Some.is) in
     rw (← at_stop c.loop-d.invariant seen (le-leb c.args.target c.loop-d.h (omega arith)), ne_eqb _ _ c.if-h-target.false)

@@ -1,11 +1,9 @@
--- `descriptors::checking::good_fields`. Invariant: what is left from field k on, behind `from`, says what all fields say (`Fielding`). Measure: the fields that
--- are left. Assumes nothing.
-use Prim.Native.Nat.{◌-◌}
-use Rattle.descriptors.specs.laws.Checks.{Fielding}
+-- `descriptors::checking::good_fields`. Invariant: what the fields from k on, behind `from`, say is what all fields say. Assumes nothing.
+use Rattle.std.proofs.Common.{◌≡◌, ◌-◌, ◌/◌}
+use Rattle.descriptors.specs.Descriptors.{good_fields_in}
 use Rattle.descriptors.proofs.checking.good_fields.Given as goal
 
 abbrev pub invariant-loop-k : goal.invariant-loop-k
-invariant-loop-k l = Fielding l.list l.p l.n l.from l.k
-
-abbrev pub decreases-loop-k : goal.decreases-loop-k
-decreases-loop-k l = l.n - l.k
+invariant-loop-k l =
+    let n = (l.d.length - 12) / 6 in
+    good_fields_in (n - l.k) l.list l.p l.from l.k ≡ good_fields_in n l.list l.p 0 0

@@ -1,81 +1,54 @@
 -- The descriptor that is looked up stands before p, and the last field at or before o tells. Assumes nothing.
-use Rattle.std.proofs.Common.{◌-◌, ◌<◌, sym, ap, ◌∙◌, arith}
-use Rattle.descriptors.specs.Layouts.{type_has}
+use Rattle.std.proofs.Common.{arith, ◌∙◌, sym}
+use Rattle.std.proofs.lemmas.Grind.{common_steps}
 use Rattle.descriptors.specs.laws.Lookups.{found_at}
-use Rattle.descriptors.specs.laws.Lists.{head_here, named_stands}
+use Rattle.descriptors.specs.laws.Lists.{head_here, length_here, whole_here, named_stands}
 use Rattle.descriptors.specs.laws.Layouts.{field_at_lem, field_unnamed, last_at, type_itself, type_no_field, type_by_field}
-use Rattle.descriptors.specs.declared.descriptor.Descriptor.{Descriptor}
-use Rattle.descriptors.specs.declared.descriptor.Field.{Field}
-use Rattle.descriptors.proofs.Read.{long, fields-inside, field-inside, named_is, wanted_is, last_is}
 use Rattle.descriptors.proofs.layout.+field_has_type_has.Goals as goal
 
 -- the field is read
 pub field_has-read_field-f-requires : goal.field_has-read_field-f-requires
-field_has-read_field-f-requires t c = field-inside _ _ c.requires.0 _ c.requires.1
-
-pub field_has-find_type-requires : goal.field_has-find_type-requires
-field_has-find_type-requires t c = c.requires.0.whole
-
--- it starts at or before o
-pub field_has-overflow_sub-o : goal.field_has-overflow_sub-o
-field_has-overflow_sub-o t c = omega (arith, ap (λ (d : Field). d.offset) c.read_field-f.ensures, c.requires.2)
+field_has-read_field-f-requires t c = grind (arith, common_steps, length_here, whole_here)
 
 -- its type is described before p
 pub field_has-type_has-requires : goal.field_has-type_has-requires
 field_has-type_has-requires t c =
-    let stands = c.requires.0 in
-    let named = named_is _ _ _ _ _ _ c.read_field-f.ensures c.find_type.ensures c.in-At.is in
-    let before : c.in-At.q < c.args.p = (found_at _ _ _ _ stands.whole named).before in
+    let stands = c.requires.stands in
+    let named = sym c.find_type.ensures ∙ c.in-Some.is in
+    let found = found_at _ _ _ _ stands.whole named in
     (omega arith, named_stands _ _ stands _ _ named)
 
 -- its type is not listed
-pub field_has-returns-in-Nowhere : goal.field_has-returns-in-Nowhere
-field_has-returns-in-Nowhere t c =
-    sym (field_unnamed _ _ _ _ _ c.requires.2 (named_is _ _ _ _ _ _ c.read_field-f.ensures c.find_type.ensures c.in-Nowhere.is))
+pub field_has-returns-in-None : goal.field_has-returns-in-None
+field_has-returns-in-None t c = grind (arith, common_steps, field_unnamed)
 
 -- its type tells
-pub field_has-returns-in-At : goal.field_has-returns-in-At
-field_has-returns-in-At t c =
-    c.type_has.ensures
-    ∙ ap (type_has c.args.list.now c.args.wanted _) (ap (λ (d : Field). c.args.o - d.offset) c.read_field-f.ensures)
-    ∙ sym (field_at_lem _ _ _ _ _ _ c.requires.2 (named_is _ _ _ _ _ _ c.read_field-f.ensures c.find_type.ensures c.in-At.is))
+pub field_has-returns-in-Some : goal.field_has-returns-in-Some
+field_has-returns-in-Some t c = grind (arith, common_steps, field_at_lem)
 
 pub type_has-read_descriptor-d-requires : goal.type_has-read_descriptor-d-requires
 type_has-read_descriptor-d-requires t c = head_here _ _ c.requires
 
 -- it is the wanted one
-pub type_has-returns-then-is_wanted : goal.type_has-returns-then-is_wanted
-type_has-returns-then-is_wanted t c =
-    sym (type_itself _ _ _ _ c.requires (wanted_is _ _ _ c.args.o _ _ _ c.read_descriptor-d.ensures c.is_wanted.ensures c.if-is_wanted.true))
+pub type_has-returns-then-o-eq0 : goal.type_has-returns-then-o-eq0
+type_has-returns-then-o-eq0 t c = grind (arith, common_steps, type_itself)
 
-pub type_has-overflow_sub-n : goal.type_has-overflow_sub-n
-type_has-overflow_sub-n t c = omega (arith, ap (λ (d : Descriptor). d.length) c.read_descriptor-d.ensures, long _ _ c.requires)
+pub type_has-field_count-requires : goal.type_has-field_count-requires
+type_has-field_count-requires t c = grind (arith, common_steps, length_here)
 
 pub type_has-last_field-requires : goal.type_has-last_field-requires
-type_has-last_field-requires t c = omega (arith, ap (λ (d : Descriptor). d.length) c.read_descriptor-d.ensures, fields-inside _ _ c.requires)
+type_has-last_field-requires t c = grind (arith, common_steps, length_here, whole_here)
 
 -- the field that is asked
 pub type_has-field_has-requires : goal.type_has-field_has-requires
 type_has-field_has-requires t c =
-    let w =
-    last_at _ _ _ _ _
-    (last_is c.args.list.now c.args.p c.args.o _ _ _ c.read_descriptor-d.ensures c.last_field.ensures c.in-At.is)
-    in
-    (omega arith, (c.requires, w.below, w.starts))
+    let last = last_at _ _ _ _ _ (sym c.last_field.ensures ∙ c.in-Some.is) in
+    (omega arith, (c.requires, (grind (arith, common_steps, last.below), last.starts)))
 
 -- no field starts at or before o
-pub type_has-returns-in-Nowhere : goal.type_has-returns-in-Nowhere
-type_has-returns-in-Nowhere t c =
-    sym
-    (type_no_field _ _ _ _ c.requires
-    (wanted_is _ _ _ c.args.o _ _ _ c.read_descriptor-d.ensures c.is_wanted.ensures c.if-is_wanted.false)
-    (last_is c.args.list.now c.args.p c.args.o _ _ _ c.read_descriptor-d.ensures c.last_field.ensures c.in-Nowhere.is))
+pub type_has-returns-in-None : goal.type_has-returns-in-None
+type_has-returns-in-None t c = grind (arith, common_steps, type_no_field)
 
 -- the last that does tells
-pub type_has-returns-in-At : goal.type_has-returns-in-At
-type_has-returns-in-At t c =
-    c.field_has.ensures
-    ∙ sym
-    (type_by_field _ _ _ _ c.requires _
-    (wanted_is _ _ _ c.args.o _ _ _ c.read_descriptor-d.ensures c.is_wanted.ensures c.if-is_wanted.false)
-    (last_is c.args.list.now c.args.p c.args.o _ _ _ c.read_descriptor-d.ensures c.last_field.ensures c.in-At.is))
+pub type_has-returns-in-Some : goal.type_has-returns-in-Some
+type_has-returns-in-Some t c = grind (arith, common_steps, type_by_field)

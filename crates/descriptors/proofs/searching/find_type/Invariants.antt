@@ -1,6 +1,6 @@
 -- `descriptors::searching::find_type`. Invariant: what is left of the search comes to what the whole search comes to (`Searching`). Measure: the bytes before
 -- `end` that are left. Assumes nothing.
-use Prim.Native.Nat.{◌-◌}
+use Rattle.std.proofs.Common.{◌-◌}
 use Rattle.descriptors.proofs.Turns.{Searching}
 use Rattle.descriptors.proofs.searching.find_type.Given as goal
 

@@ -1,6 +1,4 @@
--- `overhead::reporting::fraction`: the definition's two cases. Assumes nothing.
-use mathlib.Core.Path.{sym}
-use native.Mathlib.Omega.{arith}
+use Rattle.std.proofs.Common.{sym, arith}
 use Rattle.overhead.specs.laws.Rows.{fraction_none, fraction_some}
 use Rattle.overhead.proofs.reporting.fraction.Goals as goal
 
@@ -9,5 +7,5 @@ pub returns-then-raw-eq0 : goal.returns-then-raw-eq0
 returns-then-raw-eq0 c = sym (fraction_none _ _ c.if-raw-eq0.true)
 
 -- the extra bytes over the raw ones
-pub returns : goal.returns
-returns c = sym (fraction_some _ _ (omega arith))
+pub returns-else-raw-eq0 : goal.returns-else-raw-eq0
+returns-else-raw-eq0 c = sym (fraction_some _ _ (omega arith))

@@ -1,30 +1,30 @@
--- `overhead::reporting::report`: the definition's tests in their order; no overhead is negative (`sums-ordered`). Assumes nothing.
-use mathlib.Core.Path.{sym, ◌∙◌}
+-- The definition's tests in their order; no overhead is negative (`sums-ordered`).
+use Rattle.std.proofs.Common.{◌≡◌, sym, ◌∙◌, arith, rules}
+use Rattle.std.specs.List.{sum_by}
 use Rattle.overhead.specs.laws.Totals.{sums-ordered}
 use Rattle.overhead.specs.laws.Rows.{report_long, report_bad, report-given}
+use Rattle.overhead.proofs.Turns.{sum_most, summed}
 use Rattle.overhead.proofs.reporting.report.Goals as goal
 
--- 28: too many sizes
 pub returns-then-sizes-gt65536 : goal.returns-then-sizes-gt65536
-returns-then-sizes-gt65536 c = c.refused.ensures ∙ sym (report_long _ c.if-sizes-gt65536.true)
+returns-then-sizes-gt65536 c = sym (report_long _ c.if-sizes-gt65536.true)
 
--- 29: a size out of range
 pub returns-then-not-good_sizes : goal.returns-then-not-good_sizes
-returns-then-not-good_sizes c = c.refused-then-not-good_sizes.ensures ∙ sym (report_bad _ c.if-sizes-gt65536.false (sym c.good_sizes.ensures ∙ c.if-not-good_sizes.true))
+returns-then-not-good_sizes c = sym (report_bad _ c.if-sizes-gt65536.false (sym c.good_sizes.ensures ∙ c.if-not-good_sizes.true))
 
-pub sums-s-requires : goal.sums-s-requires
-sums-s-requires c = (c.if-sizes-gt65536.false, sym c.good_sizes.ensures ∙ c.if-not-good_sizes.false)
+pub overflow_add-headed : goal.overflow_add-headed
+overflow_add-headed c =
+    let raw : c.sum-raw.result ≡ sum_by (λ size. size) c.args.sizes.now = search rules in
+    let most = sum_most (λ size. size) 65536 (λ size h. h) c.args.sizes.now (sym c.good_sizes.ensures ∙ c.if-not-good_sizes.false) in
+    omega (arith, raw, most)
 
-pub fraction-headers-requires : goal.fraction-headers-requires
-fraction-headers-requires c = (sums-ordered _ _ c.sums-s.ensures).0
+pub fraction-requires-2 : goal.fraction-requires-2
+fraction-requires-2 c =
+    (sums-ordered _ _ (summed c.args.sizes.now c.sum-raw.result c.placed-blocks.result.0 c.placed-blocks.result.1 (search rules) c.placed-blocks.ensures.bytes c.placed-blocks.ensures.end)).1
 
-pub fraction-padding-requires : goal.fraction-padding-requires
-fraction-padding-requires c = (sums-ordered _ _ c.sums-s.ensures).1
-
--- the sums and their fractions
 pub returns : goal.returns
 returns c =
     report-given _ _ _ _ c.if-sizes-gt65536.false (sym c.good_sizes.ensures ∙ c.if-not-good_sizes.false)
-    c.sums-s.ensures
-    c.fraction-headers.ensures
-    c.fraction-padding.ensures
+    (summed c.args.sizes.now c.sum-raw.result c.placed-blocks.result.0 c.placed-blocks.result.1 (search rules) c.placed-blocks.ensures.bytes c.placed-blocks.ensures.end)
+    c.fraction.ensures
+    c.fraction-2.ensures

@@ -1,18 +1,10 @@
-use mathlib.Core.Path.{refl, sym, ◌∙◌}
-use native.Mathlib.Omega.{arith}
-use Rattle.placement.proofs.Turns.{good_turn, bad_turn, good_end}
+use Rattle.std.proofs.Common.{leb, sym, ◌∙◌, rules, tests}
+use Rattle.std.proofs.lemmas.Iterator.{YieldsList-from_slice}
+use Rattle.std.proofs.lemmas.Iterator.Search.{all_from_yields_List}
+use Rattle.placement.proofs.Turns.{good_all}
 use Rattle.placement.proofs.plan.good_sizes.Goals as goal
 
-pub loop-i-init : goal.loop-i-init
-loop-i-init c = (omega arith, refl)
-
--- a size is out of range
-pub returns-then-sizes-i-gt65535 : goal.returns-then-sizes-i-gt65535
-returns-then-sizes-i-gt65535 c = sym (bad_turn _ _ c.loop-i-test.true c.if-sizes-i-gt65535.true) ∙ c.loop-i.invariant.1
-
-pub loop-i-preserved : goal.loop-i-preserved
-loop-i-preserved c = (omega arith, sym (good_turn _ _ c.loop-i-test.true c.if-sizes-i-gt65535.false) ∙ c.loop-i.invariant.1)
-
--- none is left
 pub returns : goal.returns
-returns c = sym (good_end _ _ c.loop-i-test.false) ∙ c.loop-i.invariant.1
+returns c =
+    all_from_yields_List (λ size. leb size 65535) _ _ _ c.all.ensures.ran (YieldsList-from_slice c.args.sizes.now cc) (λ x b q k. search (rules, tests))
+    ∙ sym (good_all _)

@@ -1,66 +1,60 @@
--- `placement::search::order`: the definition's tests in their order; the lesser of budget and all orders finds what the budget finds. Assumes nothing.
-use Prim.Native.Nat.{ℕ, ◌<◌, min}
-use mathlib.Core.Path.{◌≡◌, sym, ap, ◌∙◌}
-use mathlib.Core.Bool.{true}
-use mathlib.Core.List.{List}
-use native.Mathlib.Omega.{arith}
-use lib.ListN.{length}
-use Rattle.placement.specs.declared.answer.Placement.{Placement}
-use Rattle.placement.specs.Orders.{factorial}
-use Rattle.placement.specs.Placement.{good_plan, large, floor_of, best_order, eight_places, found}
+-- The definition's tests in their order; the lesser of budget and all orders finds what the budget finds.
+use Rattle.std.proofs.Common.{◌≡◌, sym, ap, ◌∙◌, subst, true, ℕ, ◌<◌, min, List, length, Option, None, Some, Ok, Err, MatchOption, arith, rules}
+use Rattle.std.specs.Option.{ok_or}
+use Rattle.placement.specs.declared.answer.Refusal.{Refusal}
+use Rattle.placement.specs.declared.answer.Refusal.TheVariants.{NoBudget}
+use Rattle.placement.specs.Orders.{order_at, factorial}
+use Rattle.placement.specs.Placement.{good_plan, eight_places, large, floor_of, found, Placement, placement}
 use Rattle.placement.specs.laws.Picks.{factorial_some}
-use Rattle.placement.specs.laws.Rows.{planned, placement_bad, placement_none, placement-found}
+use Rattle.placement.specs.laws.Rows.{BestFound, planned, placement_bad, placement_none, placement-found}
 use Rattle.placement.proofs.Searching.{best_lesser}
 use Rattle.placement.proofs.search.order.Goals as goal
 
--- the parts of what is found
-makes : (s : ℕ) (sizes : List ℕ) (budget : ℕ) (order : List ℕ) (count tried floor : ℕ) → order ≡ eight_places (best_order s sizes budget)
-    → count ≡ large s sizes (best_order s sizes budget) → tried ≡ min budget (factorial (length sizes)) → floor ≡ floor_of s sizes
-    → ◌≡◌ {A = Placement} (record { row = 0; order = order; large = count; tried = tried; floor = floor }) (found s sizes budget)
-unfolding found
-makes s sizes budget order count tried floor o c t f = λ q. record { row = 0; order = o q; large = c q; tried = t q; floor = f q }
-
--- 26
 pub returns-then-not-good_plan : goal.returns-then-not-good_plan
-returns-then-not-good_plan c = c.refused.ensures ∙ sym (placement_bad _ _ _ (sym c.good_plan.ensures ∙ c.if-not-good_plan.true))
-
--- 27
-pub returns-then-budget-eq0 : goal.returns-then-budget-eq0
-returns-then-budget-eq0 c =
-    let good : good_plan c.args.s c.args.sizes.now ≡ true = sym c.good_plan.ensures ∙ c.if-not-good_plan.false in
-    c.refused-then-budget-eq0.ensures ∙ sym (placement_none _ _ _ good c.if-budget-eq0.true)
-
-pub search-best-requires : goal.search-best-requires
-search-best-requires c =
-    let good : good_plan c.args.s c.args.sizes.now ≡ true = sym c.good_plan.ensures ∙ c.if-not-good_plan.false in
-    let some : 0 < c.args.budget = omega (arith, c.if-budget-eq0.false) in
-    let tries : (let a = c.args in c.lesser-tried.result ≡ min a.budget (factorial (length a.sizes.now))) = c.lesser-tried.ensures ∙ ap (λ x. min c.args.budget x) c.factorial.ensures in
-    let a = c.args in
-    (good, omega (arith, tries, some, factorial_some (length a.sizes.now)), omega (arith, tries))
-
-pub order_at-order-requires : goal.order_at-order-requires
-order_at-order-requires c =
-    let good : good_plan c.args.s c.args.sizes.now ≡ true = sym c.good_plan.ensures ∙ c.if-not-good_plan.false in
-    let tries : (let a = c.args in c.lesser-tried.result ≡ min a.budget (factorial (length a.sizes.now))) = c.lesser-tried.ensures ∙ ap (λ x. min c.args.budget x) c.factorial.ensures in
-    ((planned _ _ (good)).few, omega (arith, c.search-best.ensures.was_tried, tries))
-
--- what the search finds
-pub returns : goal.returns
-returns c =
-    let good : good_plan c.args.s c.args.sizes.now ≡ true = sym c.good_plan.ensures ∙ c.if-not-good_plan.false in
-    let some : 0 < c.args.budget = omega (arith, c.if-budget-eq0.false) in
-    let tries : (let a = c.args in c.lesser-tried.result ≡ min a.budget (factorial (length a.sizes.now))) = c.lesser-tried.ensures ∙ ap (λ x. min c.args.budget x) c.factorial.ensures in
-    let best = best_lesser _ _ _ _ tries in
-    makes _ _ _ _ _ _ _ (c.order_at-order.ensures ∙ ap eight_places (c.search-best.ensures.order_is ∙ best))
-    (c.search-best.ensures.large_is ∙ ap (large _ _) best) tries c.floor_of-floor.ensures
-    ∙ sym (placement-found _ _ _ good some)
+returns-then-not-good_plan c = sym (placement_bad _ _ _ (sym c.good_plan.ensures ∙ c.if-not-good_plan.true))
 
 pub factorial-requires : goal.factorial-requires
-factorial-requires c =
-    let good : good_plan c.args.s c.args.sizes.now ≡ true = sym c.good_plan.ensures ∙ c.if-not-good_plan.false in
-    (planned _ _ good).few
+factorial-requires c = (planned c.args.s _ (sym c.good_plan.ensures ∙ c.if-not-good_plan.false)).few
 
-pub floor_of-floor-requires : goal.floor_of-floor-requires
-floor_of-floor-requires c =
+-- an `ok_or` that is `Ok` gives what was there, and one that is not tells that nothing was
+chosen : (P : Type 0) (o : Option (ℕ × ℕ)) (Q : ℕ × ℕ → Type 0) (best : ℕ × ℕ) → MatchOption o P Q → ok_or o NoBudget ≡ Ok best → Q best
+chosen P None Q best m e = cc
+chosen P (Some x) Q best m e = let same : x ≡ best = cc in subst Q same m
+
+missing : (P : Type 0) (o : Option (ℕ × ℕ)) (Q : ℕ × ℕ → Type 0) (r : Refusal) → MatchOption o P Q → ok_or o NoBudget ≡ Err r → P × (r ≡ NoBudget)
+missing P None Q r m e = (m, cc)
+missing P (Some x) Q r m e = cc
+
+pub returns-in_err-large : goal.returns-in_err-large
+returns-in_err-large c =
+    let none = missing _ c.search.result _ _ c.search.ensures (sym c.ok_or.ensures.value ∙ c.in_err-large.was) in
     let good : good_plan c.args.s c.args.sizes.now ≡ true = sym c.good_plan.ensures ∙ c.if-not-good_plan.false in
-    let w = planned _ _ (good) in omega (arith, w.most)
+    let r : c.from_residual.result ≡ Err c.in_err-large.field-0.0 = search rules in
+    let some = factorial_some (length c.args.sizes.now) in
+    rw (r, none.1) (sym (placement_none _ _ _ good (omega (arith, none.0, some, c.min-tried.ensures, c.factorial.ensures))))
+
+pub order_at-requires : goal.order_at-requires
+order_at-requires c =
+    let best = chosen _ c.search.result _ _ c.search.ensures (sym c.ok_or.ensures.value ∙ c.in_ok-large.was) in
+    ((planned c.args.s _ (sym c.good_plan.ensures ∙ c.if-not-good_plan.false)).few, omega (arith, best.was_tried, c.min-tried.ensures, c.factorial.ensures))
+
+pub floor_of-requires : goal.floor_of-requires
+floor_of-requires c = let most = (planned c.args.s _ (sym c.good_plan.ensures ∙ c.if-not-good_plan.false)).most in omega arith
+
+-- the parts of what is found
+makes : (s : ℕ) (sizes : List ℕ) (budget : ℕ) (order : List ℕ) (count tried floor index : ℕ) → good_plan s sizes ≡ true → tried ≡ min budget (factorial (length sizes))
+    → BestFound s sizes tried (count, index) → order ≡ eight_places (order_at (length sizes) index) → floor ≡ floor_of s sizes
+    → ◌≡◌ {A = Placement} (record { row = 0; order = order; large = count; tried = tried; floor = floor }) (placement s sizes budget)
+unfolding found
+makes s sizes budget order count tried floor index good t best o f =
+    let all = best_lesser s sizes budget tried t in
+    let some : 0 < budget = omega (arith, best.was_tried) in
+    let order_is = o ∙ ap eight_places (best.order_is ∙ all) in
+    let large_is = best.large_is ∙ ap (large s sizes) all in
+    rw (placement-found s sizes budget good some) (λ q. record { row = 0; order = order_is q; large = large_is q; tried = t q; floor = f q })
+
+pub returns : goal.returns
+returns c =
+    makes _ _ _ _ _ _ _ _ (sym c.good_plan.ensures ∙ c.if-not-good_plan.false) (c.min-tried.ensures ∙ ap (min _) c.factorial.ensures)
+    (chosen _ c.search.result _ _ c.search.ensures (sym c.ok_or.ensures.value ∙ c.in_ok-large.was))
+    c.order_at.ensures c.floor_of.ensures

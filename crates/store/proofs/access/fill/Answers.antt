@@ -1,24 +1,25 @@
--- `store::fill` meets its contract: refused by `fillable`, or `block::bytes::fill` sets the bytes. Assumes nothing.
-use Prim.Native.Nat.{ℕ}
-use mathlib.Core.List.{List}
-use mathlib.Core.Path.{◌≡◌, sym, ap, ◌∙◌}
-use Rattle.store.specs.State.{state, outcome}
-use Rattle.store.specs.Calls.{fill_checks}
-use Rattle.store.specs.laws.Fill.{fill_parts, fill_declined, fill_done}
-use Rattle.store.specs.declared.answer.Answer.TheVariants.{Accepted}
+-- `store::fill` meets its contract: refused by its tests, or the bytes are set. Assumes nothing.
+use Rattle.std.proofs.Common.{arith, sym, ap, ◌∙◌}
+use Rattle.std.proofs.lemmas.Grind.{common_steps}
+use Rattle.std.proofs.lemmas.Result.{err_from_is_err_and}
+use Rattle.store.specs.Calls.{fill, fill_checks}
+use Rattle.store.specs.laws.Fill.{fill_parts}
 use Rattle.store.proofs.access.fill.Goals as goal
 
--- row 4, 5, 6, 10, 11 or 13
-pub returns-in-Refused : goal.returns-in-Refused
-returns-in-Refused c = fill_declined _ _ _ (state _ _) _ (sym c.fillable.ensures ∙ c.in-Refused.is)
+pub fill-requires : goal.fill-requires
+fill-requires c = (fill_parts _ _ _ _ (sym (ap (fill_checks c.args.pointer c.args.length) c.in_ok-new.ensures) ∙ sym c.in_ok-at.ensures)).bytes.inside
+
+-- row 4 or 5
+pub returns-in_err-new : goal.returns-in_err-new
+unfolding fill fill_checks
+returns-in_err-new c = grind (arith, common_steps)
+
+-- a row behind them
+pub returns-in_err-at : goal.returns-in_err-at
+unfolding fill fill_checks
+returns-in_err-at c = grind (arith, common_steps)
 
 -- the bytes are set
-pub returns-in-Accepted : goal.returns-in-Accepted
-returns-in-Accepted c =
-    let passed : let a = c.args in fill_checks a.pointer a.length (state a.image.now a.table.now) ≡ Accepted c.in-Accepted.at = sym c.fillable.ensures ∙ c.in-Accepted.is in
-    ap (λ (l : List ℕ). outcome (Accepted 0) l c.args.table.now) c.fill.ensures ∙ fill_done _ _ _ (state _ _) _ passed
-
-pub fill-requires : goal.fill-requires
-fill-requires c =
-    let passed : let a = c.args in fill_checks a.pointer a.length (state a.image.now a.table.now) ≡ Accepted c.in-Accepted.at = sym c.fillable.ensures ∙ c.in-Accepted.is in
-    (fill_parts _ _ (state _ _) _ passed).bytes.inside
+pub returns : goal.returns
+unfolding fill fill_checks
+returns c = grind (arith, common_steps)

@@ -1,34 +1,29 @@
--- `store::load` meets its contract: 4 and 5 (`opening`), 14, then the other rows and the field (`load_open`). Assumes nothing.
-use mathlib.Core.Path.{◌≡◌, sym, ◌∙◌}
-use mathlib.Core.Bool.{true}
-use native.Mathlib.Omega.{arith}
-use Rattle.store.specs.State.{State, state}
-use Rattle.store.specs.Calls.{opening, good_width}
-use Rattle.store.specs.laws.Opening.{opening_parts}
-use Rattle.store.specs.declared.answer.Answer.TheVariants.{Accepted}
-use Rattle.store.specs.laws.Load.{load_shut, load_width}
+-- `store::load` meets its contract: 4 and 5, 14, then `access`; or the number is read. Assumes nothing.
+use Rattle.std.proofs.Common.{arith, sym, ap, ◌∙◌}
+use Rattle.std.proofs.lemmas.Grind.{common_steps}
+use Rattle.std.proofs.lemmas.Result.{err_from_is_err_and}
+use Rattle.store.specs.Calls.{load_answer}
+use Rattle.store.specs.laws.Access.{accessed_parts, width_range}
 use Rattle.store.proofs.access.load.Goals as goal
 
--- row 14
+pub access-requires : goal.access-requires
+access-requires c = grind (arith, common_steps, width_range)
+
+pub read_field-requires : goal.read_field-requires
+read_field-requires c = let a = accessed_parts _ _ _ _ _ (sym c.in_ok-at.ensures) in let w = width_range _ (sym c.good_width.ensures ∙ c.if-not-good_width.false) in (w.0, w.1, a.inside)
+
+pub returns-in_err-store : goal.returns-in_err-store
+unfolding load_answer
+returns-in_err-store c = grind (arith, common_steps)
+
 pub returns-then-not-good_width : goal.returns-then-not-good_width
-returns-then-not-good_width c =
-    let given : State = state c.args.image.now c.args.table.now in
-    let is_open : opening given ≡ Accepted c.in-Accepted.s = sym c.opening.ensures ∙ c.in-Accepted.is in
-    load_width (state _ _) _ is_open _ _ (sym c.good_width.ensures ∙ c.if-not-good_width.true)
+unfolding load_answer
+returns-then-not-good_width c = grind (arith, common_steps)
 
--- row 4 or 5
-pub returns-in-Refused : goal.returns-in-Refused
-returns-in-Refused c = load_shut (state _ _) _ (sym c.opening.ensures ∙ c.in-Refused.is) _ _
+pub returns-in_err-at : goal.returns-in_err-at
+unfolding load_answer
+returns-in_err-at c = grind (arith, common_steps)
 
-pub overflow_cast-s : goal.overflow_cast-s
-overflow_cast-s c =
-    let given : State = state c.args.image.now c.args.table.now in
-    let is_open : opening given ≡ Accepted c.in-Accepted.s = sym c.opening.ensures ∙ c.in-Accepted.is in
-    omega (arith, (opening_parts (state _ _) _ is_open).high)
-
-pub load_open-requires : goal.load_open-requires
-load_open-requires c =
-    let given : State = state c.args.image.now c.args.table.now in
-    let is_open : opening given ≡ Accepted c.in-Accepted.s = sym c.opening.ensures ∙ c.in-Accepted.is in
-    let is-good : good_width c.args.width ≡ true = sym c.good_width.ensures ∙ c.if-not-good_width.false in
-    (is_open, is-good)
+pub returns : goal.returns
+unfolding load_answer
+returns c = grind (arith, common_steps)

@@ -1,27 +1,26 @@
--- `store::store` meets its contract: refused by `storable`, or `write_field` puts the value. Assumes nothing.
-use Prim.Native.Nat.{ℕ}
-use mathlib.Core.List.{List}
-use mathlib.Core.Path.{◌≡◌, sym, ap, ◌∙◌}
-use Rattle.store.specs.State.{state, outcome}
-use Rattle.store.specs.Calls.{store_checks}
+-- `store::store` meets its contract: refused by its tests, or the value is written. Assumes nothing.
+use Rattle.std.proofs.Common.{arith, sym, ap, ◌∙◌}
+use Rattle.std.proofs.lemmas.Grind.{common_steps}
+use Rattle.std.proofs.lemmas.Result.{err_from_is_err_and}
+use Rattle.store.specs.Calls.{store, store_checks}
 use Rattle.store.specs.laws.Access.{width_range}
-use Rattle.store.specs.laws.Store.{store_parts, store_declined, store_done}
-use Rattle.store.specs.declared.answer.Answer.TheVariants.{Accepted}
+use Rattle.store.specs.laws.Store.{store_parts}
 use Rattle.store.proofs.access.store.Goals as goal
 
 pub write_field-requires : goal.write_field-requires
-write_field-requires c =
-    let passed : let a = c.args in store_checks a.pointer a.width a.value (state a.image.now a.table.now) ≡ Accepted c.in-Accepted.at = sym c.storable.ensures ∙ c.in-Accepted.is in
-    let p = store_parts _ _ _ (state _ _) _ passed in
-    let (low, high) = width_range _ p.good_width_lem in
-    (low, high, p.bytes.inside)
+write_field-requires c = let a = c.args in let s = store_parts _ _ _ _ _ (sym (ap (store_checks a.pointer a.width a.value) c.in_ok-new.ensures) ∙ sym c.in_ok-at.ensures) in let w = width_range _ s.good_width_lem in (w.0, w.1, s.bytes.inside)
 
--- row 4, 5, 14, 16, 10, 11 or 13
-pub returns-in-Refused : goal.returns-in-Refused
-returns-in-Refused c = store_declined _ _ _ (state _ _) _ (sym c.storable.ensures ∙ c.in-Refused.is)
+-- row 4 or 5
+pub returns-in_err-new : goal.returns-in_err-new
+unfolding store store_checks
+returns-in_err-new c = grind (arith, common_steps)
 
--- the value is stored
-pub returns-in-Accepted : goal.returns-in-Accepted
-returns-in-Accepted c =
-    let passed : let a = c.args in store_checks a.pointer a.width a.value (state a.image.now a.table.now) ≡ Accepted c.in-Accepted.at = sym c.storable.ensures ∙ c.in-Accepted.is in
-    ap (λ (l : List ℕ). outcome (Accepted 0) l c.args.table.now) c.write_field.ensures ∙ store_done _ _ _ (state _ _) _ passed
+-- a row behind them
+pub returns-in_err-at : goal.returns-in_err-at
+unfolding store store_checks
+returns-in_err-at c = grind (arith, common_steps)
+
+-- the value is written
+pub returns : goal.returns
+unfolding store store_checks
+returns c = grind (arith, common_steps)

@@ -1,52 +1,27 @@
--- `store::store_byte` meets its contract: 4 and 5 (`opening`), then 10, 11 and 13 (`access`), or `write1` puts the byte. Assumes nothing.
-use Prim.Native.Nat.{ℕ, ◌<◌}
-use mathlib.Core.List.{List}
-use mathlib.Core.Path.{◌≡◌, sym, ap, ◌∙◌}
-use native.Mathlib.Omega.{arith}
-use Rattle.store.specs.State.{state, outcome}
-use Rattle.store.specs.Calls.{opening, store_checks}
-use Rattle.store.specs.laws.Opening.{opening_parts}
-use Rattle.store.specs.laws.Store.{store_shut, store_byte, store_parts, store_declined, store_done}
-use Rattle.store.specs.declared.answer.Answer.TheVariants.{Accepted}
-use borrow.Author.Rules.{rules}
+-- `store::store_byte` meets its contract: as `store`, whose 14 and 16 a byte passes. Assumes nothing.
+use Rattle.std.proofs.Common.{arith, sym, ap, ◌∙◌}
+use Rattle.std.proofs.lemmas.Grind.{common_steps}
+use Rattle.std.proofs.lemmas.Result.{err_from_is_err_and}
+use Rattle.store.specs.Calls.{store, store_checks, accessed}
+use Rattle.frame.specs.Pointers.{unpack}
+use Rattle.store.specs.State.{State}
+use Rattle.store.specs.laws.Access.{accessed_parts}
 use Rattle.store.proofs.access.store_byte.Goals as goal
 
+pub write-requires : goal.write-requires
+write-requires c = (omega arith, (accessed_parts _ _ _ _ _ (sym (ap (λ (x : State). accessed c.in_ok-new.field-0.s (unpack c.args.pointer) 1 x) c.in_ok-new.ensures) ∙ sym c.in_ok-at.ensures)).inside)
+
 -- row 4 or 5
-pub returns-in-Refused : goal.returns-in-Refused
-returns-in-Refused c = store_declined _ _ _ (state _ _) _ (sym (store_shut (state _ _) _ (sym c.opening.ensures ∙ c.in-Refused.is) _ _ _))
+pub returns-in_err-new : goal.returns-in_err-new
+unfolding store store_checks
+returns-in_err-new c = grind (arith, common_steps)
 
 -- row 10, 11 or 13
-pub returns-in-Refused-access : goal.returns-in-Refused-access
-returns-in-Refused-access c =
-    let is_open : opening (state c.args.image.now c.args.table.now) ≡ Accepted c.in-Accepted.s = sym c.opening.ensures ∙ c.in-Accepted.is in
-    let small : c.args.byte < 256 = search rules in
-    let checked : let a = c.args in c.access.result ≡ store_checks a.pointer 1 a.byte (state a.image.now a.table.now) = c.access.ensures ∙ store_byte (state _ _) _ is_open _ _ small in
-    store_declined _ _ _ (state _ _) _ (sym checked ∙ c.in-Refused-access.is)
+pub returns-in_err-at : goal.returns-in_err-at
+unfolding store store_checks
+returns-in_err-at c = grind (arith, common_steps)
 
--- the byte is stored
-pub returns-in-Accepted-access : goal.returns-in-Accepted-access
-returns-in-Accepted-access c =
-    let is_open : opening (state c.args.image.now c.args.table.now) ≡ Accepted c.in-Accepted.s = sym c.opening.ensures ∙ c.in-Accepted.is in
-    let small : c.args.byte < 256 = search rules in
-    let checked : let a = c.args in c.access.result ≡ store_checks a.pointer 1 a.byte (state a.image.now a.table.now) = c.access.ensures ∙ store_byte (state _ _) _ is_open _ _ small in
-    let passed : let a = c.args in store_checks a.pointer 1 a.byte (state a.image.now a.table.now) ≡ Accepted c.in-Accepted-access.at = sym checked ∙ c.in-Accepted-access.is in
-    ap (λ (l : List ℕ). outcome (Accepted 0) l c.args.table.now) c.write1.ensures
-    ∙ store_done _ _ _ (state _ _) _ passed
-
-pub overflow_cast-s : goal.overflow_cast-s
-overflow_cast-s c =
-    let is_open : opening (state c.args.image.now c.args.table.now) ≡ Accepted c.in-Accepted.s = sym c.opening.ensures ∙ c.in-Accepted.is in
-    omega (arith, (opening_parts (state _ _) _ is_open).high)
-
-pub access-requires : goal.access-requires
-access-requires c =
-    let is_open : opening (state c.args.image.now c.args.table.now) ≡ Accepted c.in-Accepted.s = sym c.opening.ensures ∙ c.in-Accepted.is in
-    (is_open, omega arith)
-
-pub write1-requires : goal.write1-requires
-write1-requires c =
-    let is_open : opening (state c.args.image.now c.args.table.now) ≡ Accepted c.in-Accepted.s = sym c.opening.ensures ∙ c.in-Accepted.is in
-    let small : c.args.byte < 256 = search rules in
-    let checked : let a = c.args in c.access.result ≡ store_checks a.pointer 1 a.byte (state a.image.now a.table.now) = c.access.ensures ∙ store_byte (state _ _) _ is_open _ _ small in
-    let passed : let a = c.args in store_checks a.pointer 1 a.byte (state a.image.now a.table.now) ≡ Accepted c.in-Accepted-access.at = sym checked ∙ c.in-Accepted-access.is in
-    (store_parts _ _ _ (state _ _) _ passed).bytes.inside
+-- the byte is written
+pub returns : goal.returns
+unfolding store store_checks
+returns c = grind (arith, common_steps)

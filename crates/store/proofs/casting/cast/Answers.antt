@@ -1,32 +1,22 @@
--- `store::cast` meets its contract: row 25 (`described`), or the answer there (`has_at`). Assumes nothing.
-use mathlib.Core.Path.{◌≡◌, sym, ap, ◌∙◌}
+-- `store::cast` meets its contract: 25, then the answer. Assumes nothing.
+use Rattle.std.proofs.Common.{arith, sym, ap, ◌∙◌}
+use Rattle.std.proofs.lemmas.Grind.{common_steps}
+use Rattle.std.proofs.lemmas.Result.{err_from_is_err_and}
 use mir.Syntax.{w64}
 use mir.Val.{SFits}
 use mir.Facts.{to_z-of_z}
+use Rattle.std.proofs.Common.{rules}
+use Rattle.std.specs.Prelude.{Ok}
 use Rattle.descriptors.specs.laws.Lists.{lookup_stands}
-use Rattle.store.specs.Calls.{described, has_at}
+use Rattle.store.specs.Calls.{has_at}
 use Rattle.store.specs.laws.Casts.{described_parts, cast_undescribed, cast_described}
-use Rattle.store.specs.declared.answer.Answer.TheVariants.{Accepted}
-use borrow.Author.Rules.{rules}
 use Rattle.store.proofs.casting.cast.Goals as goal
 
 pub has_at-requires : goal.has_at-requires
-has_at-requires c =
-    let found : (let a = c.args in described a.list.now a.ty a.size ≡ Accepted c.in-Accepted.q) = sym c.described.ensures ∙ c.in-Accepted.is in
-    lookup_stands _ c.requires _ _ (described_parts _ _ _ _ found).0
+has_at-requires c = lookup_stands _ c.requires _ _ (described_parts _ _ _ _ (sym c.in_ok-q.ensures)).0
 
--- row 25
-pub returns-in-Refused : goal.returns-in-Refused
-returns-in-Refused c = sym (cast_undescribed _ _ _ _ _ _ (sym c.described.ensures ∙ c.in-Refused.is))
+pub returns-in_err-q : goal.returns-in_err-q
+returns-in_err-q c = let p = err_from_is_err_and c.from_residual.result c.from_residual.ensures.1 in rw (p.1, p.2) (sym (cast_undescribed _ _ _ _ _ _ (sym c.in_err-q.ensures)))
 
--- the answer
-pub returns-in-Accepted : goal.returns-in-Accepted
-returns-in-Accepted c =
-    let found : (let a = c.args in described a.list.now a.ty a.size ≡ Accepted c.in-Accepted.q) = sym c.described.ensures ∙ c.in-Accepted.is in
-    let a = c.args in
-    let fits : SFits w64 a.distance = search rules in
-    ap Accepted (c.has_at.ensures ∙ ap (has_at a.list.now a.wanted _) (to_z-of_z fits))
-    ∙ sym (cast_described a.list.now a.wanted a.ty a.size a.distance _ found)
-
-pub described-requires : goal.described-requires
-described-requires c = c.requires
+pub returns : goal.returns
+returns c = let a = c.args in let fits : SFits w64 a.distance = search rules in ap Ok (c.has_at.ensures ∙ ap (has_at a.list.now a.wanted _) (to_z-of_z fits)) ∙ sym (cast_described a.list.now a.wanted a.ty a.size a.distance _ (sym c.in_ok-q.ensures))

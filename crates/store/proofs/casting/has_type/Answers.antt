@@ -1,79 +1,53 @@
--- `store::has_type` meets its contract: 4 and 5 (`opening`), 24 (`good_list`), 10 and 11 (`locate`), then 25 or the answer (`cast`). Assumes nothing.
-use mathlib.Core.Path.{◌≡◌, sym, ap, ◌∙◌}
-use mathlib.Core.Bool.{true}
-use native.Mathlib.Omega.{arith}
+-- `store::has_type` meets its contract: 4 and 5, 24, 10 and 11 (`locate`), then 25. Assumes nothing.
+use Rattle.std.proofs.Common.{arith, sym, ap, ◌∙◌}
+use Rattle.std.proofs.lemmas.Grind.{common_steps}
+use Rattle.std.proofs.lemmas.Result.{err_from_is_err_and}
+use Rattle.std.specs.Prelude.{◌≡◌, true, Ok}
 use mir.Syntax.{w64}
 use mir.Val.{SFits, to_z, of_z}
 use mir.Facts.{to_z-of_z}
+use Rattle.std.proofs.Common.{rules}
 use Rattle.frame.specs.Pointers.{unpack}
 use Rattle.block.specs.Layout.{type_at}
 use Rattle.block.specs.declared.header.Header.{Header}
 use Rattle.descriptors.specs.Descriptors.{good_list}
-use Rattle.store.specs.State.{State, state}
-use Rattle.store.specs.Calls.{opening, cast_answer}
-use Rattle.store.specs.laws.Opening.{opening_parts}
-use Rattle.store.specs.laws.TagReading.{FoundAt, read_found, located-inside, read-refused}
-use Rattle.store.specs.laws.Casts.{has_type_shut, has_type_bad, has_type_unread, has_type_cast}
-use Rattle.store.specs.declared.answer.Answer.TheVariants.{Accepted}
+use Rattle.store.specs.State.{State}
+use Rattle.store.specs.Calls.{has_type, cast_answer}
+use Rattle.store.specs.Opened.{seen}
+use Rattle.store.specs.laws.Casts.{has_type_unread, has_type_cast}
+use Rattle.store.specs.laws.TagReading.{FoundAt, read_found, read-refused, located-inside}
 use Rattle.store.specs.declared.locate.Reading.{Reading}
-use borrow.Author.Rules.{rules}
 use Rattle.store.proofs.casting.has_type.Goals as goal
 
 pub read_header-d-requires : goal.read_header-d-requires
-read_header-d-requires c =
-    let given : State = state c.args.image.now c.args.table.now in
-    let object : FoundAt c.in-Accepted.s (unpack c.args.pointer) given c.in-At.o = read_found _ _ (state _ _) _ (sym c.locate.ensures ∙ c.in-At.is) in
-    omega (arith, located-inside _ _ given _ object.object)
+read_header-d-requires c = let f = read_found _ _ (seen c.in_ok-store.store) _ (sym c.in_ok-object.ensures) in omega (arith, located-inside _ _ (seen c.in_ok-store.store) _ f.object)
+
+-- row 4 or 5
+pub returns-in_err-store : goal.returns-in_err-store
+unfolding has_type
+returns-in_err-store c = grind (arith, common_steps)
 
 -- row 24
 pub returns-then-not-good_list : goal.returns-then-not-good_list
-returns-then-not-good_list c =
-    let given : State = state c.args.image.now c.args.table.now in
-    let is_open : opening given ≡ Accepted c.in-Accepted.s = sym c.opening.ensures ∙ c.in-Accepted.is in
-    sym (has_type_bad _ _ _ given _ is_open (sym c.good_list.ensures ∙ c.if-not-good_list.true))
-
--- row 4 or 5
-pub returns-in-Refused : goal.returns-in-Refused
-returns-in-Refused c = sym (has_type_shut _ _ _ (state _ _) _ (sym c.opening.ensures ∙ c.in-Refused.is))
+unfolding has_type
+returns-then-not-good_list c = grind (arith, common_steps)
 
 -- row 10 or 11
-pub returns-in-Refused-locate : goal.returns-in-Refused-locate
-returns-in-Refused-locate c =
-    let given : State = state c.args.image.now c.args.table.now in
-    let is_open : opening given ≡ Accepted c.in-Accepted.s = sym c.opening.ensures ∙ c.in-Accepted.is in
-    let good : good_list c.args.list.now ≡ true = sym c.good_list.ensures ∙ c.if-not-good_list.false in
-    sym
-    (has_type_unread _ _ _ given _ is_open good _
-    (read-refused _ _ (state _ _) _ (sym c.locate.ensures ∙ c.in-Refused-locate.is)))
+pub returns-in_err-object : goal.returns-in_err-object
+returns-in_err-object c = rw (← c.in_ok-store.ensures) (let p = err_from_is_err_and c.from_residual-in_err-object.result c.from_residual-in_err-object.ensures.1 in rw (p.1, p.2) (sym (has_type_unread _ _ _ (seen c.in_ok-store.store) _ c.in_ok-store.store.opens (sym c.good_list.ensures ∙ c.if-not-good_list.false) _ (read-refused _ _ _ _ (sym c.in_err-object.ensures)))))
 
 -- row 25, or the answer
-pub returns-in-At : goal.returns-in-At
-returns-in-At c =
-    let given : State = state c.args.image.now c.args.table.now in
-    let is_open : opening given ≡ Accepted c.in-Accepted.s = sym c.opening.ensures ∙ c.in-Accepted.is in
-    let good : good_list c.args.list.now ≡ true = sym c.good_list.ensures ∙ c.if-not-good_list.false in
-    let object : FoundAt c.in-Accepted.s (unpack c.args.pointer) given c.in-At.o = read_found _ _ (state _ _) _ (sym c.locate.ensures ∙ c.in-At.is) in
-    let passed : to_z w64 (of_z w64 c.in-At.o.offset) ≡ c.in-At.o.offset = let fits : SFits w64 c.in-At.o.offset = search rules in to_z-of_z fits in
-    let read = c.in-At.o in
-    c.cast.ensures
-    ∙ ap (cast_answer c.args.list.now c.args.wanted _ _) passed
-    ∙ ap (λ (d : Header). cast_answer c.args.list.now c.args.wanted d.ty read.size read.offset) c.read_header-d.ensures
-    ∙ ap (λ (r : Reading). cast_answer c.args.list.now c.args.wanted (type_at c.args.image.now read.header) r.size r.offset) object.read
-    ∙ sym (has_type_cast c.args.list.now c.args.pointer c.args.wanted given _ is_open good _ object.tested)
-
-pub overflow_cast-s : goal.overflow_cast-s
-overflow_cast-s c =
-    let given : State = state c.args.image.now c.args.table.now in
-    let is_open : opening given ≡ Accepted c.in-Accepted.s = sym c.opening.ensures ∙ c.in-Accepted.is in
-    omega (arith, (opening_parts given _ is_open).high)
-
-pub locate-requires : goal.locate-requires
-locate-requires c =
-    let given : State = state c.args.image.now c.args.table.now in
-    let is_open : opening given ≡ Accepted c.in-Accepted.s = sym c.opening.ensures ∙ c.in-Accepted.is in
-    is_open
-
-pub cast-requires : goal.cast-requires
-cast-requires c =
-    let good : good_list c.args.list.now ≡ true = sym c.good_list.ensures ∙ c.if-not-good_list.false in
-    good
+pub returns : goal.returns
+returns c = 
+    let a = c.args in
+    let opened : State = seen c.in_ok-store.store in
+    let good : good_list a.list.now ≡ true = sym c.good_list.ensures ∙ c.if-not-good_list.false in
+    let read : Reading = c.in_ok-object.object in
+    let found : FoundAt c.in_ok-store.store.s (unpack a.pointer) opened read = read_found _ _ opened _ (sym c.in_ok-object.ensures) in
+    let passed : to_z w64 (of_z w64 read.offset) ≡ read.offset = let fits : SFits w64 read.offset = search rules in to_z-of_z fits in
+    rw (← c.in_ok-store.ensures)
+    (c.cast.ensures
+    ∙ ap (cast_answer a.list.now a.wanted _ _) passed
+    ∙ ap (λ (d : Header). cast_answer a.list.now a.wanted d.ty read.size read.offset) c.read_header-d.ensures
+    ∙ ap (λ (r : Reading). cast_answer a.list.now a.wanted (type_at opened.image read.header) r.size r.offset) found.read
+    ∙ sym (has_type_cast a.list.now a.pointer a.wanted opened _ c.in_ok-store.store.opens good _ found.tested))

@@ -1,34 +1,25 @@
--- `store::copy` meets its contract: refused by `copyable`, or `copy_within` puts the source's bytes at the target's address. Assumes nothing.
-use Rattle.block.specs.Bytes.{put}
-use lib.ListN.{take, drop}
-use Prim.Native.Nat.{ℕ}
-use mathlib.Core.List.{List}
-use mathlib.Core.Path.{◌≡◌, ap, sym, ◌∙◌}
-use native.Mathlib.Omega.{arith}
-use Rattle.frame.specs.declared.parts.Pointer.{Pointer}
-use Rattle.frame.specs.Pointers.{unpack}
-use Rattle.store.specs.State.{state, outcome}
-use Rattle.store.specs.Calls.{copy_checks}
-use Rattle.store.specs.laws.Copy.{copy_parts, copy_declined, copy_done}
-use Rattle.store.specs.declared.answer.Answer.TheVariants.{Accepted}
+-- `store::copy` meets its contract: refused by its tests, or the bytes are copied. Assumes nothing.
+use Rattle.std.proofs.Common.{arith, sym, ap, ◌∙◌}
+use Rattle.std.proofs.lemmas.Grind.{common_steps}
+use Rattle.std.proofs.lemmas.Result.{err_from_is_err_and}
+use Rattle.store.specs.Calls.{copy, copy_checks}
+use Rattle.store.specs.laws.Copy.{copy_parts}
 use Rattle.store.proofs.copying.copy.Goals as goal
 
 pub copy_within-requires : goal.copy_within-requires
-copy_within-requires c =
-    let passed : let a = c.args in copy_checks a.target a.source a.length (state a.image.now a.table.now) ≡ Accepted c.in-Accepted.from = sym c.copyable.ensures ∙ c.in-Accepted.is in
-    let address_is : c.unpack-to.result.address ≡ (unpack c.args.target).address = ap (λ (p : Pointer). p.address) c.unpack-to.ensures in
-    let p = copy_parts _ _ _ (state _ _) _ passed in
-    (omega (arith, address_is, p.to.inside), p.from.inside)
+copy_within-requires c = let p = copy_parts _ _ _ _ _ (sym (ap (copy_checks c.args.target c.args.source c.args.length) c.in_ok-new.ensures) ∙ sym c.in_ok-from.ensures) in rw c.unpack-to.ensures (p.to.inside, p.from.inside)
 
--- row 4, 5, 6, 10, 11 or 13
-pub returns-in-Refused : goal.returns-in-Refused
-returns-in-Refused c = copy_declined _ _ _ (state _ _) _ (sym c.copyable.ensures ∙ c.in-Refused.is)
+-- row 4 or 5
+pub returns-in_err-new : goal.returns-in_err-new
+unfolding copy copy_checks
+returns-in_err-new c = grind (arith, common_steps)
+
+-- a row behind them
+pub returns-in_err-from : goal.returns-in_err-from
+unfolding copy copy_checks
+returns-in_err-from c = grind (arith, common_steps)
 
 -- the bytes are copied
-pub returns-in-Accepted : goal.returns-in-Accepted
-returns-in-Accepted c =
-    let passed : let a = c.args in copy_checks a.target a.source a.length (state a.image.now a.table.now) ≡ Accepted c.in-Accepted.from = sym c.copyable.ensures ∙ c.in-Accepted.is in
-    let address_is : c.unpack-to.result.address ≡ (unpack c.args.target).address = ap (λ (p : Pointer). p.address) c.unpack-to.ensures in
-    let a = c.args in
-    let copied = c.copy_within.ensures ∙ ap (λ (n : ℕ). put a.image.now n (take a.length (drop c.in-Accepted.from a.image.now))) address_is in
-    ap (λ (l : List ℕ). outcome (Accepted 0) l a.table.now) copied ∙ copy_done _ _ _ (state _ _) _ passed
+pub returns : goal.returns
+unfolding copy copy_checks
+returns c = grind (arith, common_steps)

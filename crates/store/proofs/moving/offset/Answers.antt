@@ -1,34 +1,23 @@
--- `store::offset` meets its contract: 4 and 5 (`opening`), then 10 and 12 (`offset_in`). Assumes nothing.
-use lib.IntN.{ℤ}
-use mathlib.Core.Path.{◌≡◌, sym, ap, ◌∙◌}
-use native.Mathlib.Omega.{arith}
+-- `store::offset` meets its contract: 4 and 5, then 10 and 12 (`offset_in`). Assumes nothing.
+use Rattle.std.proofs.Common.{arith, sym, ap, ◌∙◌}
+use Rattle.std.proofs.lemmas.Grind.{common_steps}
+use Rattle.std.proofs.lemmas.Result.{err_from_is_err_and}
+use Rattle.std.specs.Prelude.{ℤ}
 use mir.Facts.{to_z-of_z}
-use Rattle.store.specs.State.{state}
-use Rattle.store.specs.Calls.{opening, move_answer}
-use Rattle.store.specs.laws.Opening.{Open, opening_parts}
-use Rattle.store.specs.laws.Move.{move_shut, move_answer_lem}
-use Rattle.store.specs.declared.answer.Answer.TheVariants.{Accepted}
+use Rattle.store.specs.Calls.{move_answer}
+use Rattle.store.specs.Opened.{seen}
+use Rattle.store.specs.laws.Move.{move_answer_lem}
+use Rattle.store.proofs.Lent.{opens}
 use Rattle.store.proofs.moving.offset.Goals as goal
 
+pub offset_in-requires : goal.offset_in-requires
+offset_in-requires c = grind (arith, common_steps, opens c.in_ok-store.store)
+
 -- row 4 or 5
-pub returns-in-Refused : goal.returns-in-Refused
-returns-in-Refused c = move_shut (state _ _) _ (sym c.opening.ensures ∙ c.in-Refused.is) _ _
+pub returns-in_err-store : goal.returns-in_err-store
+unfolding move_answer
+returns-in_err-store c = grind (arith, common_steps)
 
 -- row 10 or 12, or the pointer
-pub returns-in-Accepted : goal.returns-in-Accepted
-returns-in-Accepted c =
-    let is_open : opening (state c.args.image.now c.args.table.now) ≡ Accepted c.in-Accepted.s = sym c.opening.ensures ∙ c.in-Accepted.is in
-    c.offset_in.ensures ∙ move_answer_lem (state _ _) _ is_open _ _
-    ∙ ap (λ (d : ℤ). move_answer c.args.pointer d (state c.args.image.now c.args.table.now)) (to_z-of_z c.ranges.distance)
-
-pub overflow_cast-s : goal.overflow_cast-s
-overflow_cast-s c =
-    let is_open : opening (state c.args.image.now c.args.table.now) ≡ Accepted c.in-Accepted.s = sym c.opening.ensures ∙ c.in-Accepted.is in
-    let opens : Open (state c.args.image.now c.args.table.now) c.in-Accepted.s = opening_parts _ _ is_open in
-    omega (arith, opens.high)
-
-pub offset_in-requires : goal.offset_in-requires
-offset_in-requires c =
-    let is_open : opening (state c.args.image.now c.args.table.now) ≡ Accepted c.in-Accepted.s = sym c.opening.ensures ∙ c.in-Accepted.is in
-    let opens : Open (state c.args.image.now c.args.table.now) c.in-Accepted.s = opening_parts _ _ is_open in
-    omega (arith, opens.high)
+pub returns : goal.returns
+returns c = rw (← c.in_ok-store.ensures) (c.offset_in.ensures ∙ move_answer_lem (seen c.in_ok-store.store) _ c.in_ok-store.store.opens _ _ ∙ ap (λ (d : ℤ). move_answer c.args.pointer d (seen c.in_ok-store.store)) (to_z-of_z c.ranges.distance))

@@ -1,72 +1,49 @@
--- `store::release::coalesce` meets its contract. It ends in one of four ways: the walk does not meet h; the block at h is the image's last; the header that
--- follows is unsound; or it is sound. Assumes nothing.
-use mathlib.Core.Path.{◌≡◌, sym, ap, ◌∙◌}
-use mathlib.Core.Bool.{true}
-use mathlib.Core.List.{List}
-use Prim.Native.Nat.{ℕ, ◌+◌, ◌<◌}
-use native.Mathlib.Omega.{arith}
-use lib.ListN.{length}
-use Rattle.block.specs.Layout.{header_at, sound}
+-- `store::coalesce` meets its contract. It ends in one of four ways: the walk does not meet h; the block at h is the last of the image; the header that follows is
+-- unsound; or it is sound. Assumes nothing.
+use Rattle.std.proofs.Common.{arith, sym, ap, ◌∙◌}
+use Rattle.std.proofs.lemmas.Grind.{common_steps}
+use Rattle.std.proofs.lemmas.Result.{err_from_is_err_and}
+use Rattle.std.specs.Prelude.{◌≡◌, ◌+◌, ◌<◌, Err, length}
 use Rattle.block.specs.laws.Soundness.{sound_in, sound-end, examined_is_sound, examined_is_unsound}
 use Rattle.block.specs.declared.header.Header.{Header}
 use Rattle.store.specs.Calls.{released}
 use Rattle.store.specs.laws.Free.{released_lost}
-use Rattle.store.proofs.Merging.{Meets, before_in, released_last, released_bad, released-next}
+use Rattle.store.proofs.Lent.{ok_or_some, ok_or_none}
+use Rattle.store.proofs.Merging.{meets, before_in, released_last, released_bad, released-next}
 use Rattle.store.proofs.release.coalesce.Goals as goal
 
+pub extent_at-requires : goal.extent_at-requires
+extent_at-requires c = sound_in _ _ c.requires
+
 pub overflow_add-next : goal.overflow_add-next
-overflow_add-next c =
-    let image : List ℕ = c.args.image.now in
-    let next : ℕ = c.args.h + c.extent_at.result in
-    let meets : let a = c.args in Meets image a.h c.in-After.before next = record { met = sym c.walk_to.ensures ∙ c.in-After.is; follows = ap (λ (n : ℕ). c.args.h + n) c.extent_at.ensures; is_sound = c.requires } in
-    omega (arith, meets.follows, sound-end _ _ meets.is_sound)
+overflow_add-next c = omega (arith, c.extent_at.ensures, sound-end _ _ c.requires)
+
+pub merge_start-from-requires : goal.merge_start-from-requires
+merge_start-from-requires c = before_in (meets _ _ _ _ (sym c.walk_to.ensures ∙ ok_or_some _ _ _ c.in_ok-before.ensures.value) c.extent_at.ensures c.requires)
+
+pub merge_end-requires : goal.merge_end-requires
+merge_end-requires c = let (so, is) = examined_is_sound _ _ _ (sym c.examine.ensures ∙ ok_or_some _ _ _ c.in_ok-d.ensures.value) in omega (arith, sound-end _ _ so, ap (λ (d : Header). d.extent) is)
+
+-- row 7: h is not met
+pub returns-in_err-before : goal.returns-in_err-before
+returns-in_err-before c = 
+    let (lost, why) = ok_or_none _ _ _ c.in_err-before.ensures.value in
+    let p = err_from_is_err_and c.from_residual.result c.from_residual.ensures.1 in rw (p.1, p.2) (ap Err why ∙ sym (ap (released c.args.image.now c.args.h) (sym c.walk_to.ensures ∙ lost) ∙ released_lost _ _))
 
 -- nothing follows
 pub returns-then-next-image : goal.returns-then-next-image
-returns-then-next-image c =
-    let image : List ℕ = c.args.image.now in
-    let next : ℕ = c.args.h + c.extent_at.result in
-    let meets : let a = c.args in Meets image a.h c.in-After.before next = record { met = sym c.walk_to.ensures ∙ c.in-After.is; follows = ap (λ (n : ℕ). c.args.h + n) c.extent_at.ensures; is_sound = c.requires } in
-    rw c.merge_start-from.ensures (sym (released_last meets (omega arith)))
-
-pub merge_end-requires : goal.merge_end-requires
-merge_end-requires c =
-    let image : List ℕ = c.args.image.now in
-    let next : ℕ = c.args.h + c.extent_at.result in
-    let seen : (sound image next ≡ true) × (c.in-Sound.d ≡ header_at image next) = examined_is_sound _ _ _ (sym c.examine.ensures ∙ c.in-Sound.is) in
-    omega (arith, sound-end _ _ seen.0, ap (λ (d : Header). d.extent) seen.1)
-
--- row 7: h is not met
-pub returns-in-Lost : goal.returns-in-Lost
-returns-in-Lost c =
-    let a = c.args in
-    sym (ap (released a.image.now a.h) (sym c.walk_to.ensures ∙ c.in-Lost.is) ∙ released_lost a.image.now a.h)
+returns-then-next-image c = rw c.merge_start-from.ensures (sym (released_last (meets _ _ _ _ (sym c.walk_to.ensures ∙ ok_or_some _ _ _ c.in_ok-before.ensures.value) c.extent_at.ensures c.requires) (omega arith)))
 
 -- row 7: the next header is unsound
-pub returns-in-Unsound : goal.returns-in-Unsound
-returns-in-Unsound c =
-    let image : List ℕ = c.args.image.now in
-    let next : ℕ = c.args.h + c.extent_at.result in
-    let meets : let a = c.args in Meets image a.h c.in-After.before next = record { met = sym c.walk_to.ensures ∙ c.in-After.is; follows = ap (λ (n : ℕ). c.args.h + n) c.extent_at.ensures; is_sound = c.requires } in
-    let inside : next < length image = omega (arith, meets.follows, sound-end _ _ meets.is_sound) in
-    sym (released_bad meets inside (examined_is_unsound _ _ (sym c.examine.ensures ∙ c.in-Unsound.is)))
+pub returns-in_err-d : goal.returns-in_err-d
+returns-in_err-d c = 
+    let inside : c.args.h + c.extent_at.result < length c.args.image.now = omega (arith, c.extent_at.ensures, sound-end _ _ c.requires) in
+    let (bad, why) = ok_or_none _ _ _ c.in_err-d.ensures.value in
+    let p = err_from_is_err_and c.from_residual-in_err-d.result c.from_residual-in_err-d.ensures.1 in rw (p.1, p.2) (ap Err why ∙ sym (released_bad (meets _ _ _ _ (sym c.walk_to.ensures ∙ ok_or_some _ _ _ c.in_ok-before.ensures.value) c.extent_at.ensures c.requires) inside (examined_is_unsound _ _ (sym c.examine.ensures ∙ bad))))
 
 -- it is sound
-pub returns-in-Sound : goal.returns-in-Sound
-returns-in-Sound c =
-    let image : List ℕ = c.args.image.now in
-    let next : ℕ = c.args.h + c.extent_at.result in
-    let meets : let a = c.args in Meets image a.h c.in-After.before next = record { met = sym c.walk_to.ensures ∙ c.in-After.is; follows = ap (λ (n : ℕ). c.args.h + n) c.extent_at.ensures; is_sound = c.requires } in
-    let inside : next < length image = omega (arith, meets.follows, sound-end _ _ meets.is_sound) in
-    let seen : (sound image next ≡ true) × (c.in-Sound.d ≡ header_at image next) = examined_is_sound _ _ _ (sym c.examine.ensures ∙ c.in-Sound.is) in
-    rw (c.merge_start-from.ensures, c.merge_end.ensures) (sym (released-next meets inside _ seen.1 seen.0))
-
-pub extent_at-requires : goal.extent_at-requires
-extent_at-requires c = omega (arith, sound_in _ _ c.requires)
-
-pub merge_start-from-requires : goal.merge_start-from-requires
-merge_start-from-requires c =
-    let image : List ℕ = c.args.image.now in
-    let next : ℕ = c.args.h + c.extent_at.result in
-    let meets : let a = c.args in Meets image a.h c.in-After.before next = record { met = sym c.walk_to.ensures ∙ c.in-After.is; follows = ap (λ (n : ℕ). c.args.h + n) c.extent_at.ensures; is_sound = c.requires } in
-    before_in meets
+pub returns : goal.returns
+returns c = 
+    let inside : c.args.h + c.extent_at.result < length c.args.image.now = omega (arith, c.extent_at.ensures, sound-end _ _ c.requires) in
+    let (so, is) = examined_is_sound _ _ _ (sym c.examine.ensures ∙ ok_or_some _ _ _ c.in_ok-d.ensures.value) in
+    rw (c.merge_start-from.ensures, c.merge_end.ensures) (sym (released-next (meets _ _ _ _ (sym c.walk_to.ensures ∙ ok_or_some _ _ _ c.in_ok-before.ensures.value) c.extent_at.ensures c.requires) inside _ is so))

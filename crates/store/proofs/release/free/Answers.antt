@@ -1,41 +1,42 @@
--- `store::free` meets its contract: refused by `opening` or `releasable`, or the block is given back and the entry is cleared. Assumes nothing.
-use mathlib.Core.Path.{◌≡◌, sym, ap, ◌∙◌, subst}
-use Prim.Native.Nat.{ℕ}
-use native.Mathlib.Omega.{arith}
-use native.Mathlib.Nat.{lt_of_lt_of_le}
+-- `store::free` meets its contract: refused by its tests, or the block is given back and the entry is cleared. Assumes nothing.
+use Rattle.std.proofs.Common.{arith, sym, ap, ◌∙◌}
+use Rattle.std.proofs.lemmas.Grind.{common_steps}
+use Rattle.std.proofs.lemmas.Result.{err_from_is_err_and}
+use Rattle.std.specs.Prelude.{◌≡◌, ℕ, Ok}
+use Rattle.std.proofs.Common.{subst, lt_of_lt_of_le}
 use Rattle.frame.specs.Pointers.{unpack}
 use Rattle.frame.specs.laws.Pointers.{good_large, reach-large}
 use Rattle.frame.specs.laws.Wrappers.{entry_used}
 use Rattle.frame.specs.declared.parts.Pointer.{Pointer}
 use Rattle.store.specs.State.{State, state}
-use Rattle.store.specs.Calls.{opening, free_release}
-use Rattle.store.specs.laws.Opening.{Open, opening_parts}
+use Rattle.store.specs.Calls.{free, free_release, freed}
+use Rattle.store.specs.Opened.{seen}
+use Rattle.store.specs.laws.Opening.{Open}
 use Rattle.store.specs.laws.Entries.{entry_cleared, cleared-noted}
 use Rattle.store.specs.laws.TagReading.{Located}
-use Rattle.store.specs.laws.Free.{Frees, free_parts, free_shut, free_declined, free_done}
-use Rattle.store.specs.declared.answer.Answer.TheVariants.{Accepted}
-use Rattle.store.specs.declared.release.Release.TheVariants as release
+use Rattle.store.specs.laws.Free.{Frees, free_parts, free_shut, free_done}
+use Rattle.store.specs.declared.opening.Opened.{Opened}
+use Rattle.store.specs.declared.release.FreedBlock.{FreedBlock}
+use Rattle.store.proofs.Lent.{opened}
 use Rattle.store.proofs.release.free.Goals as goal
 
+-- what is known where its rows are passed
+
+accepted : (word : ℕ) (o : Opened) (x : State) (b : FreedBlock) → seen o ≡ x → Ok b ≡ free_release word (seen o) → Frees word x b.header b.from b.to
+accepted word o x b e q = free_parts word x _ _ _ (sym (ap (free_release word) e) ∙ sym q)
+
+object : (word : ℕ) (s : ℕ) (x : State) (b : FreedBlock) → Open x s → Frees word x b.header b.from b.to → Located s (unpack word) x b.header
+object word s x b o f = subst (λ (k : ℕ). Located k (unpack word) x b.header) (sym o.exponent) f.object
+
 pub give_back-requires : goal.give_back-requires
-give_back-requires c =
-    let given : State = state c.args.image.now c.args.table.now in
-    let accepted : free_release c.args.pointer given ≡ release.Merges c.in-Merges.h c.in-Merges.from c.in-Merges.to = sym c.releasable.ensures ∙ c.in-Merges.is in
-    let frees : Frees c.args.pointer given c.in-Merges.h c.in-Merges.from c.in-Merges.to = free_parts _ (state _ _) _ _ _ accepted in
-    let f = frees in
-    (omega (arith, f.inside), f.room, f.high, omega (arith, f.total, f.opens.short))
+give_back-requires c = let f = accepted _ c.in_ok-store.store _ _ c.in_ok-store.ensures c.in_ok-block.ensures in (omega (arith, f.inside), f.room, f.high, omega (arith, f.total, f.opens.short))
 
 pub clear_entry-requires : goal.clear_entry-requires
-clear_entry-requires c =
-    let given : State = state c.args.image.now c.args.table.now in
-    let is_open : opening given ≡ Accepted c.in-Accepted.s = sym c.opening.ensures ∙ c.in-Accepted.is in
-    let opens : Open given c.in-Accepted.s = opening_parts _ _ is_open in
-    let accepted : free_release c.args.pointer given ≡ release.Merges c.in-Merges.h c.in-Merges.from c.in-Merges.to = sym c.releasable.ensures ∙ c.in-Merges.is in
-    let frees : Frees c.args.pointer given c.in-Merges.h c.in-Merges.from c.in-Merges.to = free_parts _ (state _ _) _ _ _ accepted in
-    let object : Located c.in-Accepted.s (unpack c.args.pointer) given c.in-Merges.h = subst (λ (s : ℕ). Located s (unpack c.args.pointer) given c.in-Merges.h) (sym opens.exponent) frees.object in
-    let o = opens in
-    let l = object in
-    let s = c.in-Accepted.s in
+clear_entry-requires c = 
+    let f = accepted _ c.in_ok-store.store _ _ c.in_ok-store.ensures c.in_ok-block.ensures in
+    let o = opened c.in_ok-store.store _ c.in_ok-store.ensures in
+    let l = object _ _ _ c.in_ok-block.block o f in
+    let s = c.in_ok-store.store.s in
     let p = unpack c.args.pointer in
     rw c.unpack.ensures (
       omega (arith, o.high),
@@ -45,43 +46,21 @@ clear_entry-requires c =
     )
 
 -- row 4 or 5
-pub returns-in-Refused : goal.returns-in-Refused
-returns-in-Refused c = free_declined _ (state _ _) _ (sym (free_shut _ (state _ _) _ (sym c.opening.ensures ∙ c.in-Refused.is)))
+pub returns-in_err-store : goal.returns-in_err-store
+unfolding free freed
+returns-in_err-store c = grind (arith, common_steps, free_shut)
 
 -- row 10, 11, 15, 7 or 22
-pub returns-in-Refused-releasable : goal.returns-in-Refused-releasable
-returns-in-Refused-releasable c = free_declined _ (state _ _) _ (sym c.releasable.ensures ∙ c.in-Refused-releasable.is)
+pub returns-in_err-block : goal.returns-in_err-block
+unfolding free freed
+returns-in_err-block c = grind (arith, common_steps)
 
 -- the object is freed
-pub returns-in-Merges : goal.returns-in-Merges
-returns-in-Merges c =
-    let given : State = state c.args.image.now c.args.table.now in
-    let is_open : opening given ≡ Accepted c.in-Accepted.s = sym c.opening.ensures ∙ c.in-Accepted.is in
-    let opens : Open given c.in-Accepted.s = opening_parts _ _ is_open in
-    let accepted : free_release c.args.pointer given ≡ release.Merges c.in-Merges.h c.in-Merges.from c.in-Merges.to = sym c.releasable.ensures ∙ c.in-Merges.is in
-    let frees : Frees c.args.pointer given c.in-Merges.h c.in-Merges.from c.in-Merges.to = free_parts _ (state _ _) _ _ _ accepted in
-    let object : Located c.in-Accepted.s (unpack c.args.pointer) given c.in-Merges.h = subst (λ (s : ℕ). Located s (unpack c.args.pointer) given c.in-Merges.h) (sym opens.exponent) frees.object in
+pub returns : goal.returns
+returns c = 
+    let f = accepted _ c.in_ok-store.store _ _ c.in_ok-store.ensures c.in_ok-block.ensures in
+    let o = opened c.in_ok-store.store _ c.in_ok-store.ensures in
     let t = c.args.table.now in
-    let h = object.header in
-    free_done _ (state _ _) _ _ _ _ _ _ accepted opens.exponent c.give_back.ensures
-    (c.clear_entry.ensures ∙ ap (λ (p : Pointer). entry_cleared c.in-Accepted.s p t) c.unpack.ensures ∙ cleared-noted _ _ _ _ t h.matches h.near)
-
-pub overflow_cast-s : goal.overflow_cast-s
-overflow_cast-s c =
-    let given : State = state c.args.image.now c.args.table.now in
-    let is_open : opening given ≡ Accepted c.in-Accepted.s = sym c.opening.ensures ∙ c.in-Accepted.is in
-    let opens : Open given c.in-Accepted.s = opening_parts _ _ is_open in
-    omega (arith, opens.high)
-
-pub releasable-requires : goal.releasable-requires
-releasable-requires c =
-    let given : State = state c.args.image.now c.args.table.now in
-    let is_open : opening given ≡ Accepted c.in-Accepted.s = sym c.opening.ensures ∙ c.in-Accepted.is in
-    is_open
-
-pub overflow_cast-s-in-Merges : goal.overflow_cast-s-in-Merges
-overflow_cast-s-in-Merges c =
-    let given : State = state c.args.image.now c.args.table.now in
-    let is_open : opening given ≡ Accepted c.in-Accepted.s = sym c.opening.ensures ∙ c.in-Accepted.is in
-    let opens : Open given c.in-Accepted.s = opening_parts _ _ is_open in
-    omega (arith, opens.high)
+    let h = (object _ _ _ c.in_ok-block.block o f).header in
+    free_done _ (state _ _) _ _ _ _ _ _ (sym (ap (free_release c.args.pointer) c.in_ok-store.ensures) ∙ sym c.in_ok-block.ensures) o.exponent c.give_back.ensures
+    (c.clear_entry.ensures ∙ ap (λ (p : Pointer). entry_cleared c.in_ok-store.store.s p t) c.unpack.ensures ∙ cleared-noted _ _ _ _ t h.matches h.near)

@@ -1,40 +1,23 @@
--- `store::setup::set_up` meets its contract: refused by `settable`, or the image is laid out and the used entries are cleared. Assumes nothing.
-use mathlib.Core.Path.{◌≡◌, sym, ◌∙◌}
-use native.Mathlib.Omega.{arith}
-use Rattle.store.specs.State.{State, state}
-use Rattle.store.specs.Calls.{set_up_checks}
-use Rattle.store.specs.declared.answer.Answer.TheVariants.{Accepted}
-use Rattle.store.specs.laws.SetUp.{Settable, settable_parts, set_up_declined, set_up_done}
+-- `store::set_up` meets its contract: refused by `settable`, or the image is laid out and the used entries are cleared. Assumes nothing.
+use Rattle.std.proofs.Common.{arith}
+use Rattle.std.proofs.lemmas.Grind.{common_steps}
+use Rattle.store.specs.Calls.{set_up}
+use Rattle.store.specs.laws.SetUp.{settable_parts}
 use Rattle.store.proofs.setup.set_up.Goals as goal
 
--- row 1, 2 or 3
-pub returns-in-Refused : goal.returns-in-Refused
-returns-in-Refused c = sym (set_up_declined _ (state _ _) _ (sym c.settable.ensures ∙ c.in-Refused.is))
-
--- a fresh store
-pub returns-in-Accepted : goal.returns-in-Accepted
-returns-in-Accepted c =
-    let given : State = state c.args.image.now c.args.table.now in
-    let accepted : set_up_checks c.args.s given ≡ Accepted c.in-Accepted.field-0 = sym c.settable.ensures ∙ c.in-Accepted.is in
-    cc (set_up_done c.args.s given _ accepted)
-
 pub used_entries-used-requires : goal.used_entries-used-requires
-used_entries-used-requires c =
-    let given : State = state c.args.image.now c.args.table.now in
-    let accepted : set_up_checks c.args.s given ≡ Accepted c.in-Accepted.field-0 = sym c.settable.ensures ∙ c.in-Accepted.is in
-    let settled : Settable c.args.s given = settable_parts _ _ _ accepted in
-    let t = settled in omega arith
+used_entries-used-requires c = grind (arith, common_steps, settable_parts)
 
 pub lay_out-requires : goal.lay_out-requires
-lay_out-requires c =
-    let given : State = state c.args.image.now c.args.table.now in
-    let accepted : set_up_checks c.args.s given ≡ Accepted c.in-Accepted.field-0 = sym c.settable.ensures ∙ c.in-Accepted.is in
-    let settled : Settable c.args.s given = settable_parts _ _ _ accepted in
-    let t = settled in omega arith
+lay_out-requires c = grind (arith, common_steps, settable_parts)
 
 pub clear_entries-requires : goal.clear_entries-requires
-clear_entries-requires c =
-    let given : State = state c.args.image.now c.args.table.now in
-    let accepted : set_up_checks c.args.s given ≡ Accepted c.in-Accepted.field-0 = sym c.settable.ensures ∙ c.in-Accepted.is in
-    let settled : Settable c.args.s given = settable_parts _ _ _ accepted in
-    let t = settled in omega (arith, c.used_entries-used.ensures)
+clear_entries-requires c = grind (arith, common_steps, settable_parts)
+
+pub returns : goal.returns
+unfolding set_up
+returns c = grind (arith, common_steps)
+
+pub returns-in_err-settable : goal.returns-in_err-settable
+unfolding set_up
+returns-in_err-settable c = grind (arith, common_steps)

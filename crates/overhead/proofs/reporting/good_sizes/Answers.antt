@@ -1,0 +1,11 @@
+use Rattle.std.proofs.Common.{sym, ◌∙◌, rules, tests}
+use Rattle.std.proofs.lemmas.Iterator.{YieldsList-from_slice}
+use Rattle.std.proofs.lemmas.Iterator.Search.{all_from_yields_List}
+use Rattle.overhead.specs.Overhead.{good_size}
+use Rattle.overhead.proofs.Turns.{good_all}
+use Rattle.overhead.proofs.reporting.good_sizes.Goals as goal
+
+pub returns : goal.returns
+returns c =
+    all_from_yields_List good_size _ _ _ c.all.ensures.ran (YieldsList-from_slice c.args.sizes.now cc) (λ x b q k. search (rules, tests))
+    ∙ sym (good_all _)
