@@ -1,7 +1,8 @@
 -- A signed number, and a record that is read, over plain values. Assumes nothing.
-use Rattle.std.proofs.Common.{ℕ, ◌+◌, ◌-◌, ◌^◌, ◌≤◌, ◌<◌, ◌≡◌, refl, sym, ap, true, List, arith, ltb, length, pos, negsuc, w64, to_z, eq-eqb, ne_eqb, le-leb, lt-ltb, le-ltb, Some, Ok}
+use Rattle.std.proofs.Common.{Fits, w8, w16, w32, get_or, ℕ, ◌+◌, ◌-◌, ◌^◌, ◌≤◌, ◌<◌, ◌≡◌, refl, sym, ap, true, List, arith, ltb, length, pos, negsuc, w64, to_z, eq-eqb, ne_eqb, le-leb, lt-ltb, le-ltb, Some, Ok}
 use Rattle.block.specs.Bytes.{field}
 use Rattle.block.specs.laws.Booleans.{by_bool}
+use Rattle.block.specs.laws.Fields.{field_bound}
 use Rattle.call_log.specs.Records.{known_kind, record_length, signed, call_at, good_value, formed_at, next_at}
 
 -- below 2^63 it is itself
@@ -18,6 +19,13 @@ signed_high n h = rw (le-ltb n (2 ^ 63) h) refl
 pub signed_cast : (n : ℕ) → to_z w64 n ≡ signed n
 unfolding signed
 signed_cast n = by_bool (ltb n (2 ^ 63)) (λ t. rw t refl) (λ t. rw t (ap negsuc (omega arith)))
+
+-- a number in 2 or 4 bytes fits as many bits
+pub half_fits : (log : List ℕ) (at x : ℕ) → ((k : ℕ) → Fits w8 (get_or log k 0)) → x ≡ field log at 2 → Fits w16 x
+half_fits log at x bytes e = record { fits = rw e (field_bound _ (λ k. (bytes k).fits) 2 at) }
+
+pub word_fits : (log : List ℕ) (at x : ℕ) → ((k : ℕ) → Fits w8 (get_or log k 0)) → x ≡ field log at 4 → Fits w32 x
+word_fits log at x bytes e = record { fits = rw e (field_bound _ (λ k. (bytes k).fits) 4 at) }
 
 -- A record, over plain values.
 

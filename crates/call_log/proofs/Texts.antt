@@ -3,9 +3,10 @@
 use Rattle.std.proofs.Common.{ℕ, zero, suc, ◌+◌, ◌*◌, ◌/◌, ◌%◌, ◌^◌, ◌≤◌, ◌<◌, ◌≡◌, refl, sym, ap, ◌∙◌, subst, List, [], ◌∷◌, ◌++◌, append_assoc, append-nil, mod-eq_of_lt, pow-suc, arith, length, length-append, lt-ltb, le-ltb, Err, Ok}
 use denote.Enum.Declared.{tag_of}
 use Rattle.std.proofs.lemmas.Nat.{pow-add}
+use Rattle.std.specs.Result.{result_unwrap_or}
 use Rattle.block.specs.Bytes.{put}
 use Rattle.block.specs.laws.Writes.{put_nil, put-append}
-use Rattle.store.specs.State.{returned}
+use Rattle.store.specs.State.{returned, value}
 use Rattle.store.specs.laws.Refusals.{refusal_range}
 use Rattle.store.specs.State.{Answer}
 use Rattle.call_log.specs.Buffer.{Puts}
@@ -134,6 +135,11 @@ kind_tag Load = refl
 kind_tag Store = refl
 kind_tag Fill = refl
 kind_tag Copy = refl
+
+-- a refused call has the value 0
+pub value_is : (a : Answer) → result_unwrap_or a 0 ≡ value a
+value_is (Ok v) = refl
+value_is (Err r) = refl
 
 -- what keeps the numbers of a line below 100, and the line in its room
 pub ruleset small = (fault_tag, fault_small, kind_tag, kind_small, returned_small, length-hexadecimal)

@@ -29,6 +29,7 @@ impl Iterator for Reader<'_> {
 
     ghost remaining = { λ r. at_most (length r.log.now - r.at) };
 
+    #[tactic(auto, using(crate::specs::laws::Records::steps))]
     fn next(&mut self) -> Option<Result<Call, Fault>> {
         if self.log.len() <= self.at {
             return None;

@@ -92,7 +92,7 @@ impl TryFrom<u64> for Kind {
 }
 
 // The call of a kind whose fields begin at f. A fill value has to be a byte.
-#[tactic(auto, unfolding(crate::specs::Records::field_bytes, crate::specs::Records::call_at, crate::specs::Records::good_value))]
+#[tactic(auto, using(crate::proofs::Reading::half_fits, crate::proofs::Reading::word_fits, crate::proofs::Reading::signed_cast), unfolding(crate::specs::Records::field_bytes, crate::specs::Records::call_at, crate::specs::Records::good_value))]
 fn call_at(log: &[u8], kind: Kind, f: usize) -> Result<Call, Fault>
     requires { f + field_bytes (kind_number kind) ≤ length log.now }
     ensures { result ≡ insist (good_value log.now (kind_number kind) f) Fault.BadFields (Ok (call_at log.now (kind_number kind) f)) }
@@ -102,12 +102,20 @@ fn call_at(log: &[u8], kind: Kind, f: usize) -> Result<Call, Fault>
         Kind::Free => Call::Free(read::<8>(log, f)),
         Kind::Move => Call::Move(read::<8>(log, f), read::<8>(log, f + 8).cast_signed()),
         Kind::Load => Call::Load(read::<8>(log, f), read::<2>(log, f + 8)),
-        Kind::Store => Call::Store(read::<8>(log, f), read::<2>(log, f + 8), read::<8>(log, f + 10)),
+        Kind::Store => Call::Store(
+            read::<8>(log, f),
+            read::<2>(log, f + 8),
+            read::<8>(log, f + 10),
+        ),
         Kind::Fill => {
             let value = u8::try_from(read::<2>(log, f + 12)).map_err(|_| Fault::BadFields)?;
             Call::Fill(read::<8>(log, f), read::<4>(log, f + 8) as u32, value)
         }
-        Kind::Copy => Call::Copy(read::<8>(log, f), read::<8>(log, f + 8), read::<4>(log, f + 16) as u32),
+        Kind::Copy => Call::Copy(
+            read::<8>(log, f),
+            read::<8>(log, f + 8),
+            read::<4>(log, f + 16) as u32,
+        ),
     })
 }
 

@@ -109,3 +109,6 @@ module _ (log : List ℕ) where
       followed_same (next_at log at) (records_in (length log) log) (records_in (suc (length log)) log)
       (λ c n i. let b = next-behind log at c n i in enough (length log) (suc (length log)) n (omega arith) (omega arith))
       ∙ ap (λ (k : Next). followed k (records_from log)) e
+
+-- what is known of the position behind what is read
+pub ruleset steps = (next-end, next-behind)
