@@ -1,7 +1,8 @@
 -- What C sees of a call: the returned number, the value, and the image and table as they are left. Assumes nothing.
-use Rattle.std.specs.Prelude.{ℕ, ◌≡◌, refl, List, [], ◌∷◌, ℤ, pos, negsuc}
+use Rattle.std.specs.Prelude.{ℕ, ◌≡◌, refl, true, false, Result, Ok, Err, List, [], ◌∷◌, ℤ, pos, negsuc}
 use Rattle.store.specs.State.{state, Outcome, returned, value, comparison_number, comparison_value, distances_number, start_distance, end_distance, usage_number, live_objects, live_bytes, free_bytes, overhead_bytes}
 use Rattle.store.specs.declared.answer.Refusal.TheVariants.{BadLength, Dangling}
+use Rattle.store.specs.declared.answer.Refusal.{Refusal}
 use Rattle.store.specs.declared.answer.Answer.{Answer}
 use Rattle.store.specs.declared.comparing.Comparison.{Comparison}
 use Rattle.store.specs.declared.measuring.Measurement.{Measurement}
@@ -12,7 +13,6 @@ use Rattle.placement.specs.declared.answer.Placement.{Placement}
 use Rattle.overhead.specs.declared.answer.Report.{Report}
 use Rattle.workload.specs.Traffic.{traffic_number, state_after, bytes_written, LoggedOutcome, logged}
 use Rattle.workload.specs.declared.answer.Traffic.{Traffic}
-use Rattle.workload.specs.declared.answer.Traffic.TheVariants as answer
 
 -- What the export of a call that gives no value returns and leaves.
 pub record Left : Type 0 where
@@ -127,10 +127,10 @@ exported_traffic t =
 
 -- all draws recorded, a full log, and refused, with an image of one byte, no table and a log of two
 pub traffic_seen :
-    let seen : Traffic → LoggedExport = λ a. exported_traffic (logged a (state (1 ∷ []) []) (2 ∷ 3 ∷ [])) in
-    (seen (answer.Done 7 9) ≡ logged_export 0 7 9 (1 ∷ []) [] (2 ∷ 3 ∷ []))
-    × (seen (answer.LogFull 7 9) ≡ logged_export 23 7 9 (1 ∷ []) [] (2 ∷ 3 ∷ []))
-    × (seen (answer.Refused BadLength) ≡ logged_export 2 0 0 (1 ∷ []) [] (2 ∷ 3 ∷ []))
+    let seen : Result Traffic Refusal → LoggedExport = λ a. exported_traffic (logged a (state (1 ∷ []) []) (2 ∷ 3 ∷ [])) in
+    (seen (Ok (record { generator = 7; written = 9; full = false })) ≡ logged_export 0 7 9 (1 ∷ []) [] (2 ∷ 3 ∷ []))
+    × (seen (Ok (record { generator = 7; written = 9; full = true })) ≡ logged_export 23 7 9 (1 ∷ []) [] (2 ∷ 3 ∷ []))
+    × (seen (Err BadLength) ≡ logged_export 2 0 0 (1 ∷ []) [] (2 ∷ 3 ∷ []))
 traffic_seen = (refl, refl, refl)
 
 -- What the export of order returns and gives: every value is 0 where it is refused.

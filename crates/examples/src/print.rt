@@ -3,7 +3,7 @@ use crate::labels::LABELS;
 use overhead::{Fraction, Report};
 use placement::Placement;
 use std::rt::Stdout;
-use store::{Answer, Comparison, Measurement, Usage};
+use store::{Answer, Comparison, Measurement, Refusal, Usage};
 use workload::Traffic;
 
 // Text.
@@ -135,15 +135,16 @@ fn given(out: Stdout, state: u64, written: u64) {
 }
 
 // The answer of traffic.
-pub fn load(out: Stdout, t: Traffic) {
+pub fn load(out: Stdout, t: Result<Traffic, Refusal>) {
     match t {
-        Traffic::Done(state, written) => given(out, state, written),
-        Traffic::LogFull(state, written) => {
-            refused(out, 23);
-            text(out, b"; ");
-            given(out, state, written);
+        Ok(t) => {
+            if t.full {
+                refused(out, 23);
+                text(out, b"; ");
+            }
+            given(out, t.generator, t.written);
         }
-        Traffic::Refused(r) => refused(out, r.number()),
+        Err(r) => refused(out, r.number()),
     }
 }
 

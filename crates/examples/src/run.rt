@@ -113,7 +113,13 @@ fn cast(image: &[u8], table: &[u64], bytes: usize, pointer: u64, wanted: u16) ->
 }
 
 // Makes a load from the state 0, with a log of that many bytes; with 128 where it asks for more.
-fn drawn(image: &mut [u8], table: &mut [u64], s: u32, draws: u64, space: usize) -> Traffic {
+fn drawn(
+    image: &mut [u8],
+    table: &mut [u64],
+    s: u32,
+    draws: u64,
+    space: usize,
+) -> Result<Traffic, Refusal> {
     let mut log = [0u8; 128];
     if log.len() < space {
         return workload::traffic(image, table, s, 0, draws, &mut log);
@@ -122,11 +128,13 @@ fn drawn(image: &mut [u8], table: &mut [u64], s: u32, draws: u64, space: usize) 
 }
 
 // Whether traffic returned this number, this state and so many bytes.
-fn recorded(t: Traffic, number: u32, state: u64, written: u64) -> bool {
+fn recorded(t: Result<Traffic, Refusal>, number: u32, state: u64, written: u64) -> bool {
     match t {
-        Traffic::Done(g, n) => number == 0 && g == state && n == written,
-        Traffic::LogFull(g, n) => number == 23 && g == state && n == written,
-        Traffic::Refused(r) => r.number() == number,
+        Ok(t) => {
+            let returned = if t.full { 23 } else { 0 };
+            returned == number && t.generator == state && t.written == written
+        }
+        Err(r) => r.number() == number,
     }
 }
 

@@ -4,11 +4,13 @@ use Rattle.std.specs.Counts.{IsPrefixLen}
 use Rattle.store.specs.State.{State}
 use Rattle.workload.specs.Traffic.{bytes_written, LoggedOutcome, logged}
 use Rattle.workload.specs.declared.answer.Traffic.{Traffic}
+use Rattle.store.specs.declared.answer.Refusal.{Refusal}
+use Rattle.std.specs.Prelude.{Result}
 use Rattle.workload.proofs.Claims.{load_inside}
 use Rattle.traffic.specs.Program.{blank, program_run, is_full}
 
 -- where the answer is b, and answer, state and log are those of the definition
-module _ (g draws : ℕ) (x : State) (log log' : List ℕ) (a b : Traffic) (o : logged a x log' ≡ program_run g draws log) (e : a ≡ b) where
+module _ (g draws : ℕ) (x : State) (log log' : List ℕ) (a b : Result Traffic Refusal) (o : logged a x log' ≡ program_run g draws log) (e : a ≡ b) where
   -- the answer is the definition's
   same : b ≡ (program_run g draws log).answer
   same = sym e ∙ ap (λ (t : LoggedOutcome). t.answer) o

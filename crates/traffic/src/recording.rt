@@ -5,8 +5,6 @@ ghost use Rattle.dump.specs.Dump.{table_bytes};
 ghost use Rattle.workload.specs.Traffic.{bytes_written};
 ghost use Rattle.traffic.specs.Program.{program_run, is_full};
 
-use workload::Traffic;
-
 // The bytes of log that a workload has written, and whether the log has no space for its next record. The image and the
 // table's entries that it leaves, 8 bytes for each entry.
 #[derive(Clone, Copy)]
@@ -32,24 +30,14 @@ pub fn recorded(generator: u64, draws: u64, log: &mut [u8]) -> Written
     let answer = workload::traffic(&mut image, &mut table, 8, generator, draws, log);
     let mut entries = [0u8; 6144];
     dump::put_entries(&mut entries, &table);
-    match answer {
-        Traffic::Done(_, n) => Written {
-            bytes: n as usize,
-            full: false,
-            image,
-            entries,
-        },
-        Traffic::LogFull(_, n) => Written {
-            bytes: n as usize,
-            full: true,
-            image,
-            entries,
-        },
-        Traffic::Refused(_) => Written {
-            bytes: 0,
-            full: false,
-            image,
-            entries,
-        },
+    let (bytes, full) = match answer {
+        Ok(t) => (t.written as usize, t.full),
+        Err(_) => (0, false),
+    };
+    Written {
+        bytes,
+        full,
+        image,
+        entries,
     }
 }
