@@ -8,9 +8,7 @@ use Rattle.store.specs.Calls.{move, move_answer, load, load_answer}
 use Rattle.store.specs.laws.Move.{move_leaves}
 use Rattle.store.specs.laws.Load.{load_leaves}
 use Rattle.store.specs.State.{Answer}
-use Rattle.workload.specs.Traffic.{traffic_number, state_after, bytes_written, LoggedOutcome, logged}
-use Rattle.workload.specs.declared.answer.Traffic.{Traffic}
-use Rattle.capi.specs.Exports.{left, left_by, export, exported, logged_export, exported_traffic}
+use Rattle.capi.specs.Exports.{left, left_by, export, exported}
 
 -- a call without a value
 pub leaves : (r : ℕ) (a : Answer) (image table : List ℕ) (o : Outcome) → r ≡ returned a → outcome a image table ≡ o → left r image table ≡ left_by o
@@ -37,10 +35,3 @@ moves word d x a e = ap (λ (b : Answer). outcome b x.image x.table) e ∙ sym (
 
 pub loads : (word width : ℕ) (x : State) (a : Answer) → a ≡ load_answer word width x → outcome a x.image x.table ≡ load word width x
 loads word width x a e = ap (λ (b : Answer). outcome b x.image x.table) e ∙ sym (load_leaves word width x)
-
--- a load, by its answer
-pub ends : (r : ℕ) (a b : Traffic) (image table log : List ℕ) (t : LoggedOutcome) → r ≡ traffic_number b → a ≡ b → logged a (state image table) log ≡ t
-    → logged_export r (state_after b) (bytes_written b) image table log ≡ exported_traffic t
-ends r a b image table log t p e o =
-    ap (λ (n : ℕ). logged_export n (state_after b) (bytes_written b) image table log) p
-    ∙ ap exported_traffic (ap (λ (k : Traffic). logged k (state image table) log) (sym e) ∙ o)

@@ -1,6 +1,6 @@
 -- What C sees of a call: the returned number, the value, and the image and table as they are left. Assumes nothing.
 use Rattle.store.specs.State.{measured_as}
-use Rattle.std.specs.Prelude.{ℕ, ◌≡◌, refl, List, [], ◌∷◌, ℤ, pos, negsuc, Result, Err}
+use Rattle.std.specs.Prelude.{ℕ, ◌≡◌, refl, List, [], ◌∷◌, ℤ, pos, negsuc, true, false, Result, Ok, Err}
 use Rattle.store.specs.State.{state, Outcome, returned, value, comparison_number, comparison_value, distances_number, start_distance, end_distance, usage_number, live_objects, live_bytes, free_bytes, overhead_bytes}
 use Rattle.store.specs.declared.answer.Refusal.TheVariants.{BadLength, Dangling}
 use Rattle.store.specs.State.{Answer}
@@ -10,7 +10,6 @@ use Rattle.placement.specs.Placement.{Placement, order_word}
 use Rattle.overhead.specs.Overhead.{Report}
 use Rattle.workload.specs.Traffic.{traffic_number, state_after, bytes_written, LoggedOutcome, logged}
 use Rattle.workload.specs.declared.answer.Traffic.{Traffic}
-use Rattle.workload.specs.declared.answer.Traffic.TheVariants as answer
 use Rattle.store.specs.declared.answer.Refusal.{Refusal}
 use Rattle.block.specs.declared.order.Ordering.{Ordering}
 
@@ -127,10 +126,10 @@ exported_traffic t =
 
 -- all draws recorded, a full log, and refused, with an image of one byte, no table and a log of two
 pub traffic_seen :
-    let seen : Traffic → LoggedExport = λ a. exported_traffic (logged a (state (1 ∷ []) []) (2 ∷ 3 ∷ [])) in
-    (seen (answer.Done 7 9) ≡ logged_export 0 7 9 (1 ∷ []) [] (2 ∷ 3 ∷ []))
-    × (seen (answer.LogFull 7 9) ≡ logged_export 23 7 9 (1 ∷ []) [] (2 ∷ 3 ∷ []))
-    × (seen (answer.Refused BadLength) ≡ logged_export 2 0 0 (1 ∷ []) [] (2 ∷ 3 ∷ []))
+    let seen : Result Traffic Refusal → LoggedExport = λ a. exported_traffic (logged a (state (1 ∷ []) []) (2 ∷ 3 ∷ [])) in
+    (seen (Ok (record { generator = 7; written = 9; full = false })) ≡ logged_export 0 7 9 (1 ∷ []) [] (2 ∷ 3 ∷ []))
+    × (seen (Ok (record { generator = 7; written = 9; full = true })) ≡ logged_export 23 7 9 (1 ∷ []) [] (2 ∷ 3 ∷ []))
+    × (seen (Err BadLength) ≡ logged_export 2 0 0 (1 ∷ []) [] (2 ∷ 3 ∷ []))
 traffic_seen = (refl, refl, refl)
 
 -- What the export of order returns and gives: every value is 0 where it is refused.

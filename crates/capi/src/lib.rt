@@ -11,7 +11,6 @@ ghost use Rattle.overhead.specs.Overhead.{report};
 ghost use Rattle.capi.specs.Exports.{left, left_by, export, exported, answered, exported_answer, compared, exported_comparison, measured, exported_distances, tallied, exported_usage, logged_export, exported_traffic, ordered, exported_placement, reported, exported_report};
 
 use store::{compared, give, returned};
-use workload::Traffic;
 
 // A fresh store on the image and table.
 #[unsafe(no_mangle)]
@@ -277,17 +276,12 @@ pub extern "C" fn cue_traffic(
     ensures { logged_export result after.new written.new image.new table.new log.new ≡ exported_traffic (traffic exponent generator draws (state image.old table.old) log.old) }
 {
     match workload::traffic(image, table, exponent, generator, draws, log) {
-        Traffic::Done(g, n) => {
-            *after = g;
-            *written = n;
-            0
+        Ok(t) => {
+            *after = t.generator;
+            *written = t.written;
+            if t.full { 23 } else { 0 }
         }
-        Traffic::LogFull(g, n) => {
-            *after = g;
-            *written = n;
-            23
-        }
-        Traffic::Refused(r) => {
+        Err(r) => {
             *after = 0;
             *written = 0;
             r.number()

@@ -6,7 +6,7 @@ mod file;
 ghost use Rattle.std.specs.Prelude.{◌≡◌, ◌*◌, length};
 ghost use Rattle.dump.specs.Dump.{table_bytes};
 
-use block::bytes::write8;
+use block::bytes::write;
 pub use file::names_dump;
 
 // The image and the table's entries, 8 bytes for each.
@@ -36,6 +36,6 @@ pub fn put_entries(bytes: &mut [u8], table: &[u64])
     ensures { bytes.new ≡ table_bytes table.now }
 {
     for (i, &entry) in table.iter().enumerate() {
-        write8(bytes, 8 * i, entry);
+        write::<8>(bytes, 8 * i, entry);
     }
 }

@@ -1,9 +1,11 @@
 // The cases: the ends of each rule of docs/FORMAT.md, and each refusal at least once. The slot exponent is 6.
 use crate::lent::{Store, order, report, report_of};
 use crate::print::{
-    Bytes, Counts, Distances, Done, Drawn, Fraction, Order, Overheads, Refused, Side, Verdict,
+    Bytes, Counts, Distances, Done, Drawn, Fraction, Order, Overheads, Side, Verdict,
 };
 use crate::run::Run;
+use overhead::Refusal::{BadSize, TooMany};
+use placement::Refusal::{BadPlan, NoBudget};
 use std::cmp::Ordering;
 use store::Refusal::{
     self, BadDescriptor, BadExponent, BadLength, BadSuperblock, BadTag, BadWidth, Dangling, Empty,
@@ -629,7 +631,7 @@ fn orders(run: &mut Run) {
         Ok(Order::new(&[1, 2, 0], 1, 6, 1)),
     );
     run.call("no order")
-        .gives(order(&[40000, 20000, 12000], 15, 0), Err(Refused(27)));
+        .gives(order(&[40000, 20000, 12000], 15, 0), Err(NoBudget));
 }
 
 // The ends of a slot, the last order of all, and eight sizes; refusal 26 in each way.
@@ -655,18 +657,18 @@ fn other_orders(run: &mut Run) {
     );
     run.call("nine sizes").gives(
         order(&[31, 32, 48, 15, 179, 40, 268, 10, 65], 6, 1),
-        Err(Refused(26)),
+        Err(BadPlan),
     );
     run.call("no size")
-        .gives(order(&[], 6, 1), Err(Refused(26)));
+        .gives(order(&[], 6, 1), Err(BadPlan));
     run.call("a size of 65536")
-        .gives(order(&[31, 65536], 6, 1), Err(Refused(26)));
+        .gives(order(&[31, 65536], 6, 1), Err(BadPlan));
     run.call("s = 5")
-        .gives(order(&[31], 5, 1), Err(Refused(26)));
+        .gives(order(&[31], 5, 1), Err(BadPlan));
     run.call("s = 16")
-        .gives(order(&[31], 16, 1), Err(Refused(26)));
+        .gives(order(&[31], 16, 1), Err(BadPlan));
     run.call("no size and no order")
-        .gives(order(&[], 6, 0), Err(Refused(26)));
+        .gives(order(&[], 6, 0), Err(BadPlan));
 }
 
 // Overheads: none, of five load buffers, at the ends of each rule, and of the longest list; refusals 28 and 29.
@@ -761,11 +763,11 @@ fn overheads(run: &mut Run) {
         }),
     );
     run.call("65537 sizes of 1 byte")
-        .gives(report_of::<65537>(1), Err(Refused(28)));
+        .gives(report_of::<65537>(1), Err(TooMany));
     run.call("65537 sizes of 0 bytes")
-        .gives(report_of::<65537>(0), Err(Refused(28)));
+        .gives(report_of::<65537>(0), Err(TooMany));
     run.call("65536 bytes, and a size of 0")
-        .gives(report(&[65536, 0]), Err(Refused(29)));
+        .gives(report(&[65536, 0]), Err(BadSize));
     run.call("a size of 65537")
-        .gives(report(&[65537]), Err(Refused(29)));
+        .gives(report(&[65537]), Err(BadSize));
 }

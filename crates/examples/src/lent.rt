@@ -2,10 +2,9 @@
 ghost use Rattle.std.specs.Prelude.{◌<◌, ◌^◌};
 
 use crate::print::{
-    Bytes, Counts, Distances, Done, Drawn, Fraction, Order, Overheads, Refused, Side, Verdict,
+    Bytes, Counts, Distances, Done, Drawn, Fraction, Order, Overheads, Side, Verdict,
 };
 use store::Refusal;
-use workload::Traffic;
 
 // The image and the frame table that are lent at each call.
 #[derive(Drop)]
@@ -119,11 +118,12 @@ impl<'a> Store<'a> {
 
     // A load from the state 0.
     pub fn traffic(&mut self, s: u32, draws: u64, log: &mut [u8]) -> Result<Drawn, Refusal> {
-        match workload::traffic(self.image, self.table, s, 0, draws, log) {
-            Traffic::Done(state, written) => Ok(Drawn::All(state, written)),
-            Traffic::LogFull(state, written) => Ok(Drawn::LogFull(state, written)),
-            Traffic::Refused(refusal) => Err(refusal),
-        }
+        let t = workload::traffic(self.image, self.table, s, 0, draws, log)?;
+        Ok(if t.full {
+            Drawn::LogFull(t.generator, t.written)
+        } else {
+            Drawn::All(t.generator, t.written)
+        })
     }
 
     // Overwrites the image from there on; bytes past its end are left out.
@@ -147,14 +147,10 @@ impl<'a> Store<'a> {
 }
 
 // The first best order of objects of these sizes.
-pub fn order(sizes: &[u32], s: u32, budget: u64) -> Result<Order, Refused> {
-    let p = placement::order(sizes, s, budget);
-    if p.row != 0 {
-        return Err(Refused(p.row));
-    }
-    let places = p.order;
+pub fn order(sizes: &[u32], s: u32, budget: u64) -> Result<Order, placement::Refusal> {
+    let p = placement::order(sizes, s, budget)?;
     Ok(Order {
-        places,
+        places: p.order,
         count: sizes.len(),
         large: p.large,
         tried: p.tried,
@@ -163,11 +159,8 @@ pub fn order(sizes: &[u32], s: u32, budget: u64) -> Result<Order, Refused> {
 }
 
 // The overheads of these sizes.
-pub fn report(sizes: &[u32]) -> Result<Overheads, Refused> {
-    let r = overhead::report(sizes);
-    if r.row != 0 {
-        return Err(Refused(r.row));
-    }
+pub fn report(sizes: &[u32]) -> Result<Overheads, overhead::Refusal> {
+    let r = overhead::report(sizes)?;
     Ok(Overheads {
         raw: r.raw,
         headed: r.headed,
@@ -179,7 +172,7 @@ pub fn report(sizes: &[u32]) -> Result<Overheads, Refused> {
 }
 
 // The overheads of so many objects of one size.
-pub fn report_of<const N: usize>(size: u32) -> Result<Overheads, Refused>
+pub fn report_of<const N: usize>(size: u32) -> Result<Overheads, overhead::Refusal>
     requires { N < 2 ^ 32 }
 {
     let sizes = [size; N];

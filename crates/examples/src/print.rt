@@ -49,6 +49,18 @@ impl From<Refusal> for Refused {
     }
 }
 
+impl From<placement::Refusal> for Refused {
+    fn from(refusal: placement::Refusal) -> Refused {
+        Refused(refusal.number())
+    }
+}
+
+impl From<overhead::Refusal> for Refused {
+    fn from(refusal: overhead::Refusal) -> Refused {
+        Refused(refusal.number())
+    }
+}
+
 impl Display for Refused {
     fn fmt<W: fmt::Write>(&self, f: &mut fmt::Formatter<W>) -> fmt::Result {
         let reason = self.reason();
@@ -144,7 +156,7 @@ impl Display for Drawn {
 // The first best order of so many objects, its large-framed objects, the orders tried, and the floor. Unused places are 0.
 #[derive(PartialEq, Drop)]
 pub struct Order {
-    pub places: [u64; 8],
+    pub places: [u8; 8],
     pub count: usize,
     pub large: u64,
     pub tried: u64,

@@ -23,8 +23,8 @@ pub struct Report {
 // Why a list is declined: rows 28 and 29 of document 02.
 #[derive(Clone, Copy, Debug, PartialEq, Eq)]
 pub enum Refusal {
-    TooMany,
-    BadSize,
+    TooMany = 28,
+    BadSize = 29,
 }
 
 impl Refusal {
@@ -32,9 +32,6 @@ impl Refusal {
     pub fn number(self) -> u32
         ensures { result ≡ refusal_number self }
     {
-        match self {
-            Refusal::TooMany => 28,
-            Refusal::BadSize => 29,
-        }
+        self as u32
     }
 }

@@ -24,8 +24,8 @@ impl Placement {
 // Why a search is declined: rows 26 and 27 of document 02.
 #[derive(Clone, Copy, Debug, PartialEq, Eq)]
 pub enum Refusal {
-    BadPlan,
-    NoBudget,
+    BadPlan = 26,
+    NoBudget = 27,
 }
 
 impl Refusal {
@@ -33,9 +33,6 @@ impl Refusal {
     pub fn number(self) -> u32
         ensures { result ≡ refusal_number self }
     {
-        match self {
-            Refusal::BadPlan => 26,
-            Refusal::NoBudget => 27,
-        }
+        self as u32
     }
 }

@@ -24,7 +24,7 @@ fn answered<'a>(log: &[u8], text: &'a mut [u8]) -> Run<'a>
 {
     let mut image = [0u8; 8192];
     let mut table = [0u64; 768];
-    store::set_up(&mut image, &mut table, 8);
+    let _ = store::set_up(&mut image, &mut table, 8);
     let bytes = call_log::replay(&mut image, &mut table, log, text);
     Run {
         text: &text[..bytes],

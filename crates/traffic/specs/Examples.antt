@@ -1,10 +1,9 @@
 -- Words that are numbers, and words that are none; the program's store. By computation. Assumes nothing.
-use Rattle.std.specs.Prelude.{◌-◌, ◌^◌, ◌≡◌, refl, true, false, ℕ, Option, Some, None, List, [], ◌∷◌, length}
+use Rattle.std.specs.Prelude.{◌-◌, ◌^◌, ◌≡◌, refl, true, false, ℕ, Option, Some, None, List, [], ◌∷◌, length, Ok}
 use Prim.Native.String.{String}
 use Rattle.call_log.specs.Text.{ascii}
 use Rattle.traffic.specs.Number.{all_digits, value_from, number_from, number_of}
 use Rattle.traffic.specs.Program.{blank, is_full}
-use Rattle.workload.specs.declared.answer.Traffic.TheVariants.{Done, LogFull}
 
 -- A word, and what it is read as.
 pub record Case : Type 0 where
@@ -57,5 +56,6 @@ unfolding all_digits value_from number_from number_of
 cases_hold = refl
 
 -- the lengths of image and table, and what is a full log
-pub program : (length blank.image ≡ 8192) × (length blank.table ≡ 768) × (is_full (Done 7 9) ≡ false) × (is_full (LogFull 7 9) ≡ true)
+pub program : (length blank.image ≡ 8192) × (length blank.table ≡ 768) × (is_full (Ok (record { generator = 7; written = 9; full = false })) ≡ false)
+    × (is_full (Ok (record { generator = 7; written = 9; full = true })) ≡ true)
 program = (refl, refl, refl, refl)

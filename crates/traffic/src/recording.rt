@@ -5,12 +5,13 @@ ghost use Rattle.workload.specs.Traffic.{bytes_written};
 ghost use Rattle.traffic.specs.Program.{program_run, is_full};
 
 use dump::Dump;
+use store::Refusal;
 use workload::Traffic;
 
 // A workload's answer, its whole log, and the dump of what it leaves.
 #[derive(Drop)]
 pub struct Recording<'a> {
-    pub answer: Traffic,
+    pub answer: Result<Traffic, Refusal>,
     pub log: &'a [u8],
     pub dump: Dump,
     ghost written_inside: { bytes_written answer ≤ length log.now },
@@ -28,7 +29,7 @@ impl Recording<'_> {
     pub fn is_full(&self) -> bool
         ensures { result ≡ is_full self.now.answer }
     {
-        matches!(self.answer, Traffic::LogFull(..))
+        matches!(self.answer, Ok(Traffic { full: true, .. }))
     }
 }
 
@@ -50,11 +51,11 @@ pub fn recorded(generator: u64, draws: u64, log: &mut [u8]) -> Recording<'_>
 }
 
 // How many bytes of log a workload has written.
-fn count(answer: Traffic) -> usize
+fn count(answer: Result<Traffic, Refusal>) -> usize
     ensures { result ≡ bytes_written answer }
 {
     match answer {
-        Traffic::Done(_, n) | Traffic::LogFull(_, n) => n as usize,
-        Traffic::Refused(_) => 0,
+        Ok(t) => t.written as usize,
+        Err(_) => 0,
     }
 }

@@ -1,8 +1,8 @@
 -- The claims. In order: what follows an accepted set-up, field by field; a refused one; shapes. Assumes nothing.
-use Rattle.std.proofs.Common.{◌≡◌, ℕ, ◌<◌, ◌≤◌, Bool, true, false, eqb, ◌⊎◌, List, [], length, take, drop, sym, refl, ap, ◌∙◌, subst, inl, inr, arith, eqb-true, Err, Ok}
+use Rattle.std.proofs.Common.{◌≡◌, ℕ, ◌<◌, ◌≤◌, Bool, true, false, cond, eqb, ◌⊎◌, List, [], length, sym, refl, ap, ◌∙◌, subst, inl, inr, arith, eqb-true, Err, Ok}
 use Rattle.std.specs.Prelude.{None}
 use borrow.Author.Tests.{eqb-false}
-use Rattle.block.specs.laws.Booleans.{by_bool, true_false}
+use Rattle.block.specs.laws.Booleans.{by_bool}
 use Rattle.store.specs.State.{State, IsAccepted, returned}
 use Rattle.store.specs.Calls.{set_up}
 use Rattle.store.specs.Claims.{KeepsShape}
@@ -14,40 +14,29 @@ use Rattle.store.proofs.Claims.{refusals_keep, shapes_kept}
 use Rattle.history.specs.History.{begun, all_admitted}
 use Rattle.call_log.specs.Records.{Records, records}
 use Rattle.call_log.specs.Run.{answers, left_by, run_of}
-use Rattle.call_log.specs.Written.{log_of}
 use Rattle.call_log.specs.declared.record.Call.{Call}
 use Rattle.call_log.proofs.Claims.{logs_read_back}
-use Rattle.workload.specs.Traffic.{traffic_number, state_after, bytes_written, Progress, Ended, draws_from, started, answer_of, LoggedOutcome, logged_by, after_set_up, traffic}
-use Rattle.workload.specs.Claims.{calls_made, log_written, all_asked, Recorded, Counted, EqualFresh, RunsAgain, AllRepeatable, Untouched, RefusedSetUp, Shaped, StayShaped}
+use Rattle.workload.specs.Traffic.{traffic_number, bytes_written, Progress, Ended, draws_from, started, LoggedOutcome, logged_by, after_set_up, traffic}
+use Rattle.workload.specs.Claims.{calls_made, all_asked, Recorded, Counted, EqualFresh, RunsAgain, AllRepeatable, Untouched, RefusedSetUp, Shaped, StayShaped}
 use Rattle.workload.proofs.Premise.{load-made, load_shaped}
 use Rattle.workload.proofs.Runs.{draws_logged, draws_left, Enough, draws_enough, draws_stepped, draws_roomy}
 
--- how the answer tells what a workload's end is
+-- what the number tells of a workload's end
 
-bytes_are : (full : Bool) (r : Progress) → bytes_written (answer_of (record { full = full; at = r })) ≡ r.written
-bytes_are true r = refl
-bytes_are false r = refl
+abbrev number : Bool → ℕ
+number full = cond full 23 0
 
-state_is : (full : Bool) (r : Progress) → state_after (answer_of (record { full = full; at = r })) ≡ r.generator
-state_is true r = refl
-state_is false r = refl
+number_is : (full : Bool) → (number full ≡ 0) ⊎ (number full ≡ 23)
+number_is true = inr refl
+number_is false = inl refl
 
-number_is : (full : Bool) (r : Progress)
-    → (traffic_number (answer_of (record { full = full; at = r })) ≡ 0) ⊎ (traffic_number (answer_of (record { full = full; at = r })) ≡ 23)
-number_is true r = inr refl
-number_is false r = inl refl
+done_enough : (full : Bool) (n calls : ℕ) → Enough full n calls → number full ≡ 0 → calls ≡ n
+done_enough true n calls e z = absurd (omega arith)
+done_enough false n calls e z = e
 
-done_enough : (full : Bool) (r : Progress) (n calls : ℕ) → Enough full n calls → traffic_number (answer_of (record { full = full; at = r })) ≡ 0 → calls ≡ n
-done_enough true r n calls e z = absurd (omega arith)
-done_enough false r n calls e z = e
-
-full_enough : (full : Bool) (r : Progress) (n calls : ℕ) → Enough full n calls → traffic_number (answer_of (record { full = full; at = r })) ≡ 23 → calls < n
-full_enough true r n calls e z = e
-full_enough false r n calls e z = absurd (omega arith)
-
-not_full : (full : Bool) (r : Progress) → full ≡ false → traffic_number (answer_of (record { full = full; at = r })) ≡ 0
-not_full true r e = absurd (true_false refl e)
-not_full false r e = refl
+full_enough : (full : Bool) (n calls : ℕ) → Enough full n calls → number full ≡ 23 → calls < n
+full_enough true n calls e z = e
+full_enough false n calls e z = absurd (omega arith)
 
 module _ (s g draws : ℕ) (x : State) (log : List ℕ) where
   -- where the draws begin and end
@@ -70,23 +59,21 @@ module _ (s g draws : ℕ) (x : State) (log : List ℕ) where
     recorded_is : Recorded (calls_made s g draws x log) log (logged_by ends)
     recorded_is =
         let k = draws_logged draws begins (omega arith) in
-        let n = bytes_are ends.full ends.at in
-        let whole : log_written (logged_by ends) ≡ log_of (calls_made s g draws x log) = ap (λ (m : ℕ). take m ends.at.log) n ∙ k.written_is in
         record {
-          written = whole;
-          later = ap (λ (m : ℕ). drop m ends.at.log) n ∙ k.later_is ∙ ap (λ (m : ℕ). drop m log) (sym n);
-          read_back = ap records whole ∙ logs_read_back.whole (calls_made s g draws x log) (load-made s x e g draws log).are_recordable;
+          written = k.written_is;
+          later = k.later_is;
+          read_back = ap records k.written_is ∙ logs_read_back.whole (calls_made s g draws x log) (load-made s x e g draws log).are_recordable;
         }
 
     counted_is : Counted g draws log (calls_made s g draws x log) (logged_by ends)
     counted_is =
         let k = draws_enough draws begins in
         record {
-          number = number_is ends.full ends.at;
-          done = done_enough ends.full ends.at draws _ k;
-          full = full_enough ends.full ends.at draws _ k;
-          roomy = λ l. not_full ends.full ends.at (draws_roomy draws begins (omega arith));
-          state = state_is ends.full ends.at ∙ draws_stepped draws begins;
+          number = number_is ends.full;
+          done = done_enough ends.full draws _ k;
+          full = full_enough ends.full draws _ k;
+          roomy = λ l. ap number (draws_roomy draws begins (omega arith));
+          state = draws_stepped draws begins;
         }
 
     runs_again : (y : State) → EqualFresh s x y → RunsAgain s x y (calls_made s g draws x log) (logged_by ends)
@@ -137,12 +124,11 @@ refused-set_up s g draws x log n = refused-after s g draws x log n (set_up s x).
 accepted_shaped : (s g draws : ℕ) (x : State) (log : List ℕ) → IsAccepted (set_up s x) → Shaped s x log (traffic s g draws x log)
 accepted_shaped s g draws x log e =
     let k = draws_logged draws (started g (set_up s x).after log) (omega arith) in
-    let r = ends s g draws x log in
     subst (Shaped s x log) (followed s g draws x log e)
     (record {
       store = load_shaped s x e g draws log;
       log_length = k.same_length;
-      inside = subst (λ (m : ℕ). m ≤ length log) (sym (bytes_are r.full r.at)) k.inside;
+      inside = k.inside;
     })
 
 -- of one that is untouched

@@ -1,19 +1,14 @@
 -- The draws, one by one.
 -- In order: the three ways on; the same by the choice of a draw; what follows set-up. Assumes nothing.
-use Rattle.std.proofs.Common.{◌≡◌, ℕ, suc, ◌+◌, ◌<◌, ◌≤◌, true, false, List, length, sym, refl, ap, ◌∙◌, le-leb, Err, Ok}
+use Rattle.std.proofs.Common.{◌≡◌, ℕ, suc, ◌+◌, ◌<◌, ◌≤◌, true, false, List, length, sym, refl, ap, ◌∙◌, le-leb}
 use borrow.Author.Tests.{lt-leb}
 use Rattle.block.specs.Bytes.{put}
-use Rattle.store.specs.State.{State, state, Outcome, outcome}
-use Rattle.store.specs.Calls.{set_up}
-use Rattle.store.specs.State.{Answer}
-use Rattle.store.specs.declared.answer.Refusal.{Refusal}
+use Rattle.store.specs.State.{State}
 use Rattle.call_log.specs.Run.{made}
 use Rattle.call_log.specs.Written.{record_of}
 use Rattle.workload.specs.Generator.{advanced}
 use Rattle.workload.specs.Choice.{call_of, pointers_after}
-use Rattle.workload.specs.Traffic.{Progress, next_choice, has_space, recorded, draws_from, started, logged, logged_by, after_set_up, traffic}
-use Rattle.workload.specs.declared.answer.Traffic.{Traffic}
-use Rattle.workload.specs.declared.answer.Traffic.TheVariants as answer
+use Rattle.workload.specs.Traffic.{Progress, next_choice, has_space, recorded, draws_from}
 use Rattle.workload.specs.declared.choosing.Choice.{Choice}
 
 -- no draw is left
@@ -50,20 +45,3 @@ module _ (n : ℕ) (r : Progress) (c : Choice) (e : c ≡ next_choice r) where
   one_made s l g p x b w =
       let same : s ≡ recorded r = λ i. record { generator = g i; pointers = (rw e at p) i; store = (rw e at x) i; log = (rw e at b) i; written = (rw e at w) i } in
       ap (draws_from n) same ∙ sym (draws_next n r (le-leb _ _ (rw e at l)))
-
--- Set-up's answer decides.
-module _ (s g draws : ℕ) (x : State) (log : List ℕ) (a : Answer) (image table : List ℕ) (o : outcome a image table ≡ set_up s x) where
-  by_answer : (b : Answer) → a ≡ b → after_set_up (outcome a image table) g draws log b ≡ traffic s g draws x log
-  unfolding traffic
-  by_answer b e =
-      ap (after_set_up (outcome a image table) g draws log) (sym e) ∙ ap (λ (y : Outcome). after_set_up y g draws log y.answer) o
-
-  -- it is refused
-  pub set_up-refused : (r : Refusal) → a ≡ Err r → logged (answer.Refused r) (state image table) log ≡ traffic s g draws x log
-  set_up-refused r e = by_answer (Err r) e
-
-  -- the draws follow
-  pub set_up-followed : (n : ℕ) → a ≡ Ok n → (t : Traffic) (image' table' log' : List ℕ)
-      → logged t (state image' table') log' ≡ logged_by (draws_from draws (started g (state image table) log))
-      → logged t (state image' table') log' ≡ traffic s g draws x log
-  set_up-followed n e t image' table' log' d = d ∙ by_answer (Ok n) e

@@ -1,5 +1,5 @@
 -- By computation: the generator at chosen bits; each rule of a choice at its ends; short loads, with a full log and refused ones. Assumes nothing.
-use Rattle.std.specs.Prelude.{◌≡◌, ℕ, zero, suc, ◌+◌, ◌-◌, ◌*◌, ◌^◌, List, [], ◌∷◌, ◌++◌, take, replicate, refl, Err, Ok}
+use Rattle.std.specs.Prelude.{◌≡◌, ℕ, zero, suc, true, false, Result, Ok, Err, ◌+◌, ◌-◌, ◌*◌, ◌^◌, List, [], ◌∷◌, ◌++◌, take, replicate, refl}
 use Rattle.frame.specs.Frame.{frame_number, frame_number_in}
 use Rattle.frame.specs.Pointers.{unpack, pack, good_tag, reach}
 use Rattle.frame.specs.Tags.{wrapper, tag_number, pointer_to, tag_matches, used_entries, entry_at}
@@ -8,6 +8,7 @@ use Rattle.block.specs.Layout.{superblock, with_total, superblock_good, header, 
 use Rattle.block.specs.Walk.{walk_in, walk_from, walk, fit_of, first_fit, met_of, walk_to}
 use Rattle.store.specs.State.{state}
 use Rattle.store.specs.Calls.{set_up_checks, fresh, set_up, opening, entry_holds, fit_answer, taken_extent, allocate_checks, carved, noted, allocate_for, header_place, verified, leads_back, located, in_body, accessed, store_checks, store, merge_end, merge_start, released, free_checks, released_at, total_fits, totalled, free_release, merged, freed, free}
+use Rattle.store.specs.declared.answer.Refusal.{Refusal}
 use Rattle.store.specs.declared.answer.Refusal.TheVariants.{BadExponent, BadLength, TooFewEntries, NoSpace}
 use Rattle.call_log.specs.Records.{field_bytes}
 use Rattle.call_log.specs.Written.{encode_all, fields_of, record_of, log_of}
@@ -16,7 +17,7 @@ use Rattle.call_log.specs.declared.record.Call.TheVariants as call
 use Rattle.workload.specs.Generator.{advanced, xor_right, xor_left, drawn}
 use Rattle.workload.specs.Choice.{allocates, choice_of, remove_at, pointers_after}
 use Rattle.workload.specs.Traffic.{recorded, draws_from, LoggedOutcome, logged, traffic}
-use Rattle.workload.specs.declared.answer.Traffic.TheVariants.{Done, LogFull, Refused}
+use Rattle.workload.specs.declared.answer.Traffic.{Traffic}
 use Rattle.workload.specs.declared.choosing.Choice.TheVariants.{Allocate, Free, Store}
 
 -- The generator.
@@ -118,6 +119,13 @@ image_191 =
     ∷ 16 ∷ 0 ∷ 0 ∷ 0 ∷ 1 ∷ 0 ∷ 0 ∷ 0 ∷ 0 ∷ 0 ∷ 0 ∷ 0 ∷ 0 ∷ 0 ∷ 0 ∷ 0
     ∷ []
 
+-- the answer where all draws are recorded, and where the log is full
+abbrev done : ℕ → ℕ → Result Traffic Refusal
+done g written = Ok (record { generator = g; written = written; full = false })
+
+abbrev log_full : ℕ → ℕ → Result Traffic Refusal
+log_full g written = Ok (record { generator = g; written = written; full = true })
+
 -- its calls: the first allocation and the last do not fit
 abbrev calls : List Call
 calls =
@@ -135,14 +143,14 @@ first n = take n (log_of calls)
 
 -- six draws, with a log that their records fill; with one byte less, and with one more; four draws; no draw; a log that the first record does not fit
 pub loads :
-    (load 6 86 ≡ logged (Done 0xB54CDA58FBBEE886 86) (state image table) (log_of calls))
-    × (load 6 85 ≡ logged (LogFull 0x1715609F7C746C71 76) (state image table) (first 76 ++ replicate 9 5))
-    × (load 6 87 ≡ logged (Done 0xB54CDA58FBBEE886 86) (state image table) (log_of calls ++ (5 ∷ [])))
-    × (load 4 70 ≡ logged (Done 0x78DDE6E5FD29F05C 64) (state image_191 table) (first 64 ++ replicate 6 5))
-    × (load 6 75 ≡ logged (LogFull 0x78DDE6E5FD29F05C 64) (state image_191 table) (first 64 ++ replicate 11 5))
-    × (load 0 2 ≡ logged (Done 8 0) (state image table) (5 ∷ 5 ∷ []))
-    × (load 6 9 ≡ logged (LogFull 8 0) (state image table) (replicate 9 5))
-    × (load (2 ^ 64 - 1) 0 ≡ logged (LogFull 8 0) (state image table) [])
+    (load 6 86 ≡ logged (done 0xB54CDA58FBBEE886 86) (state image table) (log_of calls))
+    × (load 6 85 ≡ logged (log_full 0x1715609F7C746C71 76) (state image table) (first 76 ++ replicate 9 5))
+    × (load 6 87 ≡ logged (done 0xB54CDA58FBBEE886 86) (state image table) (log_of calls ++ (5 ∷ [])))
+    × (load 4 70 ≡ logged (done 0x78DDE6E5FD29F05C 64) (state image_191 table) (first 64 ++ replicate 6 5))
+    × (load 6 75 ≡ logged (log_full 0x78DDE6E5FD29F05C 64) (state image_191 table) (first 64 ++ replicate 11 5))
+    × (load 0 2 ≡ logged (done 8 0) (state image table) (5 ∷ 5 ∷ []))
+    × (load 6 9 ≡ logged (log_full 8 0) (state image table) (replicate 9 5))
+    × (load (2 ^ 64 - 1) 0 ≡ logged (log_full 8 0) (state image table) [])
 unfolding frame_number frame_number_in unpack pack good_tag reach wrapper tag_number pointer_to tag_matches used_entries entry_at encode decode field put superblock with_total superblock_good header header_at well_formed sound walk_in walk_from walk fit_of first_fit met_of walk_to set_up_checks fresh set_up opening entry_holds fit_answer taken_extent allocate_checks carved noted allocate_for header_place verified leads_back located in_body accessed store_checks store merge_end merge_start released free_checks released_at total_fits totalled free_release merged freed free field_bytes encode_all fields_of record_of log_of advanced xor_right xor_left drawn allocates choice_of remove_at pointers_after recorded draws_from traffic
 loads = (refl, refl, refl, refl, refl, refl, refl, refl)
 
@@ -152,9 +160,9 @@ refused s bytes entries = traffic s 8 6 (state (replicate bytes 7) (replicate en
 
 -- 1, 2 and 3, in this order, leave all as it was
 pub refusals :
-    (refused 5 63 0 ≡ logged (Refused BadExponent) (state (replicate 63 7) []) (replicate 86 5))
-    × (refused 16 64 48 ≡ logged (Refused BadExponent) (state (replicate 64 7) (replicate 48 9)) (replicate 86 5))
-    × (refused 6 63 0 ≡ logged (Refused BadLength) (state (replicate 63 7) []) (replicate 86 5))
-    × (refused 6 64 47 ≡ logged (Refused TooFewEntries) (state (replicate 64 7) (replicate 47 9)) (replicate 86 5))
+    (refused 5 63 0 ≡ logged (Err BadExponent) (state (replicate 63 7) []) (replicate 86 5))
+    × (refused 16 64 48 ≡ logged (Err BadExponent) (state (replicate 64 7) (replicate 48 9)) (replicate 86 5))
+    × (refused 6 63 0 ≡ logged (Err BadLength) (state (replicate 63 7) []) (replicate 86 5))
+    × (refused 6 64 47 ≡ logged (Err TooFewEntries) (state (replicate 64 7) (replicate 47 9)) (replicate 86 5))
 unfolding used_entries set_up_checks set_up traffic
 refusals = (refl, refl, refl, refl)

@@ -1,37 +1,34 @@
 -- The repeatable workload: document 02, W10. Assumes nothing.
-use Rattle.std.specs.Prelude.{ℕ, zero, suc, ◌+◌, Bool, true, false, cond, List, [], ◌∷◌, length, nat_le, Err, Ok}
+use Rattle.std.specs.Prelude.{ℕ, zero, suc, ◌+◌, Bool, true, false, cond, Result, Ok, Err, List, [], ◌∷◌, length, nat_le}
 use Rattle.block.specs.Bytes.{put}
 use Rattle.store.specs.State.{State, Outcome, refusal_number}
 use Rattle.store.specs.Calls.{set_up}
 use Rattle.store.specs.State.{Answer}
+use Rattle.store.specs.declared.answer.Refusal.{Refusal}
 use Rattle.call_log.specs.Run.{made}
 use Rattle.call_log.specs.Written.{record_of}
 use Rattle.call_log.specs.declared.record.Call.{Call}
 use Rattle.workload.specs.Generator.{advanced, drawn}
 use Rattle.workload.specs.Choice.{choice_of, call_of, pointers_after}
 use Rattle.workload.specs.declared.answer.Traffic.{Traffic}
-use Rattle.workload.specs.declared.answer.Traffic.TheVariants.{Done, LogFull, Refused}
 use Rattle.workload.specs.declared.choosing.Choice.{Choice}
 
 -- The answer.
 
--- the number that the call returns
-abbrev pub traffic_number : Traffic → ℕ
-traffic_number (Done g written) = 0
-traffic_number (LogFull g written) = 23
-traffic_number (Refused r) = refusal_number r
+-- the number that the call returns: 23 for a full log
+abbrev pub traffic_number : Result Traffic Refusal → ℕ
+traffic_number (Ok t) = cond t.full 23 0
+traffic_number (Err r) = refusal_number r
 
 -- the generator's state that it gives: 0 where set-up is refused
-abbrev pub state_after : Traffic → ℕ
-state_after (Done g written) = g
-state_after (LogFull g written) = g
-state_after (Refused r) = 0
+abbrev pub state_after : Result Traffic Refusal → ℕ
+state_after (Ok t) = t.generator
+state_after (Err r) = 0
 
 -- the bytes of log written that it gives: 0 where set-up is refused
-abbrev pub bytes_written : Traffic → ℕ
-bytes_written (Done g written) = written
-bytes_written (LogFull g written) = written
-bytes_written (Refused r) = 0
+abbrev pub bytes_written : Result Traffic Refusal → ℕ
+bytes_written (Ok t) = t.written
+bytes_written (Err r) = 0
 
 -- The draws.
 
@@ -89,17 +86,17 @@ started g x log = record { generator = g; pointers = []; store = x; log = log; w
 
 -- What it answers, and the image, table and log that it leaves.
 pub record LoggedOutcome : Type 0 where
-  pub answer : Traffic
+  pub answer : Result Traffic Refusal
   pub after : State
   pub log : List ℕ
 
 -- made of an answer and what is left
-abbrev pub logged : Traffic → State → List ℕ → LoggedOutcome
+abbrev pub logged : Result Traffic Refusal → State → List ℕ → LoggedOutcome
 logged a x log = record { answer = a; after = x; log = log }
 
--- the answer, by how it ends: 23 for a full log, the state and the bytes either way
-abbrev pub answer_of : Ended → Traffic
-answer_of e = cond e.full (LogFull e.at.generator e.at.written) (Done e.at.generator e.at.written)
+-- the answer, by how it ends
+abbrev pub answer_of : Ended → Result Traffic Refusal
+answer_of e = Ok (record { generator = e.at.generator; written = e.at.written; full = e.full })
 
 -- what is left where it ends so
 abbrev pub logged_by : Ended → LoggedOutcome
@@ -107,7 +104,7 @@ logged_by e = logged (answer_of e) e.at.store e.at.log
 
 -- what follows set-up
 abbrev pub after_set_up : Outcome → ℕ → ℕ → List ℕ → Answer → LoggedOutcome
-after_set_up o g draws log (Err r) = logged (Refused r) o.after log
+after_set_up o g draws log (Err r) = logged (Err r) o.after log
 after_set_up o g draws log (Ok v) = logged_by (draws_from draws (started g o.after log))
 
 -- A workload of so many draws from the state g: 1, 2, 3, then 23 before each record.

@@ -1,11 +1,9 @@
-// What the call `traffic` answers.
-use store::Refusal;
+// What the call `traffic` answers where set-up is accepted.
 
-// All draws are recorded, or the log has no space for the next record: either way the generator's state after the last recorded draw and the
-// bytes of log written. Or set-up is refused.
+// The generator's state after the last recorded draw, the bytes of log written, and whether the log has no space for the record of a next draw.
 #[derive(Clone, Copy)]
-pub enum Traffic {
-    Done(u64, u64),
-    LogFull(u64, u64),
-    Refused(Refusal),
+pub struct Traffic {
+    pub generator: u64,
+    pub written: u64,
+    pub full: bool,
 }

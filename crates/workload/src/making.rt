@@ -31,8 +31,9 @@ pub fn make(image: &mut [u8], table: &mut [u64], held: &mut Held, c: Choice)
     match c {
         Choice::Allocate(size) => join(image, table, held, size),
         Choice::Free(i, p) => {
-            store::free_number(image, table, p);
+            // before the call: so its position is not kept over it, and less stack is taken
             held.remove(i);
+            store::free_number(image, table, p);
         }
         Choice::Store(p, byte) => {
             let _ = store::store_byte(image, table, p, byte);

@@ -6,7 +6,7 @@ pub loop-i-init : goal.loop-i-init
 loop-i-init c = begun c.requires
 
 pub loop-i-preserved : goal.loop-i-preserved
-loop-i-preserved c = let l = c.loop-i in rw c.write8.ensures (turn l.invariant (omega arith) c.loop-i-test.true)
+loop-i-preserved c = let l = c.loop-i in rw c.write.ensures (turn l.invariant (omega arith) c.loop-i-test.true)
 
 -- all entries are put
 pub returns : goal.returns
