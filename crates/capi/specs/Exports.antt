@@ -4,14 +4,12 @@ use Rattle.std.specs.Prelude.{ℕ, ◌≡◌, refl, List, [], ◌∷◌, ℤ, po
 use Rattle.store.specs.State.{state, Outcome, returned, value, comparison_number, comparison_value, distances_number, start_distance, end_distance, usage_number, live_objects, live_bytes, free_bytes, overhead_bytes}
 use Rattle.store.specs.declared.answer.Refusal.TheVariants.{BadLength, Dangling}
 use Rattle.store.specs.State.{Answer}
-use Rattle.store.specs.declared.measuring.BodyEnds.{BodyEnds}
-use Rattle.block.specs.declared.walk.Counts.{Counts}
 use Rattle.placement.specs.Placement.{Placement, order_word}
 use Rattle.overhead.specs.Overhead.{Report}
 use Rattle.workload.specs.Traffic.{traffic_number, state_after, bytes_written, LoggedOutcome, logged}
 use Rattle.workload.specs.declared.answer.Traffic.{Traffic}
 use Rattle.store.specs.declared.answer.Refusal.{Refusal}
-use Rattle.block.specs.declared.order.Ordering.{Ordering}
+use Rattle.store.specs.State.{Usage, Comparison, Measurement}
 
 -- What the export of a call that gives no value returns and leaves.
 pub record Left : Type 0 where
@@ -65,7 +63,7 @@ abbrev pub compared : ℕ → ℤ → Compared
 compared r order = record { returned = r; order = order }
 
 -- what C sees of compare's answer
-abbrev pub exported_comparison : Result Ordering Refusal → Compared
+abbrev pub exported_comparison : Comparison → Compared
 exported_comparison c = compared (comparison_number c) (comparison_value c)
 
 -- What the export of distances returns and gives: both values are 0 where it is refused.
@@ -79,7 +77,7 @@ abbrev pub measured : ℕ → ℤ → ℤ → Measured
 measured r from_start to_end = record { returned = r; from_start = from_start; to_end = to_end }
 
 -- what C sees of distances' answer
-abbrev pub exported_distances : Result BodyEnds Refusal → Measured
+abbrev pub exported_distances : Measurement → Measured
 exported_distances m = measured (distances_number m) (start_distance m) (end_distance m)
 
 -- one byte before a body of ten, and refused
@@ -102,7 +100,7 @@ abbrev pub tallied : ℕ → ℕ → ℕ → ℕ → ℕ → Tallied
 tallied r objects live free overhead = record { returned = r; objects = objects; live = live; free = free; overhead = overhead }
 
 -- what C sees of tally's answer
-abbrev pub exported_usage : Result Counts Refusal → Tallied
+abbrev pub exported_usage : Usage → Tallied
 exported_usage u = tallied (usage_number u) (live_objects u) (live_bytes u) (free_bytes u) (overhead_bytes u)
 
 -- What the export of traffic returns, gives and leaves: both values are 0 where set-up is refused, and those of the load where the log is full.

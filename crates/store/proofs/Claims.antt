@@ -57,6 +57,7 @@ use Rattle.store.proofs.Sweeping.{sweep_freed}
 use Rattle.store.proofs.Gathering.{sweep_begins}
 use Rattle.store.specs.declared.answer.Refusal.{Refusal}
 use Rattle.block.specs.declared.order.Ordering.{Ordering}
+use Rattle.store.specs.State.{Usage, Comparison, Measurement}
 
 -- how a call ends: refused with nothing changed, or accepted with the shape kept
 data Ended (s : ℕ) (x : State) (r : Outcome) : Type 0 where
@@ -256,12 +257,12 @@ ended x (allocates_for size type cue) = ended_allocate x size type cue
 ended x (releases cue) = ended_release x cue
 
 -- a refused compare gives no value
-comparison_refused : (c : Result Ordering Refusal) → (comparison_number c ≡ 0 → ⊥) → comparison_value c ≡ pos 0
+comparison_refused : (c : Comparison) → (comparison_number c ≡ 0 → ⊥) → comparison_value c ≡ pos 0
 comparison_refused (Ok o) n = absurd (n refl)
 comparison_refused (Err r) n = refl
 
 -- refused distances are 0
-measurement_refused : (m : Result BodyEnds Refusal) → (distances_number m ≡ 0 → ⊥) → (start_distance m ≡ pos 0) × (end_distance m ≡ pos 0)
+measurement_refused : (m : Measurement) → (distances_number m ≡ 0 → ⊥) → (start_distance m ≡ pos 0) × (end_distance m ≡ pos 0)
 measurement_refused (Ok d) n = absurd (n refl)
 measurement_refused (Err r) n = (refl, refl)
 
@@ -271,7 +272,7 @@ answer_refused (Ok v) n = absurd (n refl)
 answer_refused (Err r) n = refl
 
 -- a refused tally gives no values
-usage_refused : (u : Result Counts Refusal) → (usage_number u ≡ 0 → ⊥) → (live_objects u ≡ 0) × (live_bytes u ≡ 0) × (free_bytes u ≡ 0) × (overhead_bytes u ≡ 0)
+usage_refused : (u : Usage) → (usage_number u ≡ 0 → ⊥) → (live_objects u ≡ 0) × (live_bytes u ≡ 0) × (free_bytes u ≡ 0) × (overhead_bytes u ≡ 0)
 usage_refused (Ok c) n = absurd (n refl)
 usage_refused (Err r) n = (refl, refl, refl, refl)
 

@@ -27,6 +27,7 @@ use Rattle.store.specs.declared.measuring.BodyEnds.{BodyEnds}
 use Rattle.store.specs.declared.release.FreedBlock.{FreedBlock}
 use Rattle.store.specs.declared.answer.Refusal.{Refusal}
 use Rattle.block.specs.declared.order.Ordering.{Ordering}
+use Rattle.store.specs.State.{Usage, Comparison, Measurement}
 
 -- Set-up: 1, 2, 3.
 
@@ -169,12 +170,12 @@ unfoldable pub distances_checks : ℕ → State → Answer
 distances_checks word x = and_then (opening x) λ s. located s (unpack word) x
 
 -- what follows where they are passed
-unfoldable pub distances_at : Answer → List ℕ → Pointer → Result BodyEnds Refusal
+unfoldable pub distances_at : Answer → List ℕ → Pointer → Measurement
 distances_at (Ok h) image p = measured_as (from_start h p) (to_end h (size_at image h) p)
 distances_at (Err r) image p = Err r
 
 -- its answer: how far the pointer is from the start and from the end of its object's body
-unfoldable pub distances : ℕ → State → Result BodyEnds Refusal
+unfoldable pub distances : ℕ → State → Measurement
 distances word x = distances_at (distances_checks word x) x.image (unpack word)
 
 -- Type check before a cast: 24, 10, 11, 25. A list of type descriptors is lent too, and only read.
@@ -282,12 +283,12 @@ copy target source n x =
 -- Compare: 6, the left's 10, 11, 13, the right's, which are copy's tests of the two.
 
 -- what follows where they are passed, on the right's address
-unfoldable pub compared : Answer → List ℕ → ℕ → ℕ → Result Ordering Refusal
+unfoldable pub compared : Answer → List ℕ → ℕ → ℕ → Comparison
 compared (Ok b) image a n = Ok (compare_bytes (take n (drop a image)) (take n (drop b image)))
 compared (Err r) image a n = Err r
 
 -- its answer: how the left's bytes stand to the right's
-unfoldable pub compare : ℕ → ℕ → ℕ → State → Result Ordering Refusal
+unfoldable pub compare : ℕ → ℕ → ℕ → State → Comparison
 compare left right n x = compared (copy_checks left right n x) x.image (unpack left).address n
 
 -- Text copy: the source's 10, 11, 13 (its first byte), 20, the target's 10, 11, 13 (all bytes).
@@ -443,15 +444,15 @@ free_total x = and_then (opening x) λ s. Ok (stored_total x.image)
 -- bytes (16 for each live header, and each live extent's bytes beyond header and size).
 
 -- what follows where 4 and 5 are passed
-unfoldable pub tally_opened : Answer → Result Counts Refusal → Result Counts Refusal
+unfoldable pub tally_opened : Answer → Usage → Usage
 tally_opened (Ok s) next = next
 tally_opened (Err r) next = Err r
 
 -- 7: what a count of the blocks comes to
-unfoldable pub tally_counted : Option Counts → Result Counts Refusal
+unfoldable pub tally_counted : Option Counts → Usage
 tally_counted (Some c) = Ok c
 tally_counted None = Err Unsound
 
 -- its answer
-unfoldable pub tally : State → Result Counts Refusal
+unfoldable pub tally : State → Usage
 tally x = tally_opened (opening x) (tally_counted (count_blocks x.image))

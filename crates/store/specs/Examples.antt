@@ -26,6 +26,7 @@ use Rattle.store.specs.declared.measuring.BodyEnds.{BodyEnds}
 use Rattle.block.specs.declared.walk.Counts.{Counts}
 use Rattle.store.specs.declared.answer.Refusal.{Refusal}
 use Rattle.block.specs.declared.order.Ordering.{Ordering}
+use Rattle.store.specs.State.{Usage, Comparison, Measurement}
 
 -- A case: what it starts from, and what the documents say of it. An image of L bytes is set up, and the sizes `before` are allocated.
 pub data Case : Type 0 where
@@ -116,7 +117,7 @@ abbrev given : Outcome → ℕ
 given o = (unpack (value o.answer)).address - 16
 
 -- tally returns that number and these counts
-abbrev gives : Result Counts Refusal → ℕ → ℕ → ℕ → ℕ → ℕ → Bool
+abbrev gives : Usage → ℕ → ℕ → ℕ → ℕ → ℕ → Bool
 gives u number objects live free overhead =
     eqb (usage_number u) number
     && (eqb (live_objects u) objects && (eqb (live_bytes u) live && (eqb (free_bytes u) free && eqb (overhead_bytes u) overhead)))
@@ -162,7 +163,7 @@ holds (damages L before at byte) =
     let x : State = placed before (begun L) in
     gives (tally (state (set x.image at byte) x.table)) 7 0 0 0 0
 holds (compares L before p bytes left right n number v) =
-    let c : Result Ordering Refusal = compare left right n (stored_from p bytes (placed before (begun L))) in
+    let c : Comparison = compare left right n (stored_from p bytes (placed before (begun L))) in
     eqb (comparison_number c) number && equal (comparison_value c) v
 holds (texts L before p bytes target source number copied seen) =
     let o : Outcome = copy_text target source (stored_from p bytes (placed before (begun L))) in
@@ -194,7 +195,7 @@ holds (retotals L sizes cues total index v at byte c number left) =
     && cond (eqb number 0) true (same_numbers o.after.image y.image && same_numbers o.after.table y.table))
 holds (measures L before entries at byte pointer number start end) =
     let x : State = placed before (begun L) in
-    let m : Result BodyEnds Refusal = distances pointer (state (set x.image at byte) (take entries x.table)) in
+    let m : Measurement = distances pointer (state (set x.image at byte) (take entries x.table)) in
     eqb (distances_number m) number && (equal (start_distance m) start && equal (end_distance m) end)
 holds (reads L before pointer header base size offset remaining) =
     finds (read_tag 6 (unpack pointer) (placed before (begun L))) header base size offset remaining

@@ -36,6 +36,18 @@ refusal_number Undescribed = 25
 abbrev pub Answer : Type 0
 Answer = Result ℕ Refusal
 
+-- how the left bytes of a compare stand to the right ones; or why they were not compared
+abbrev pub Comparison : Type 0
+Comparison = Result Ordering Refusal
+
+-- the distances from both ends of a body; or why they were not measured
+abbrev pub Measurement : Type 0
+Measurement = Result BodyEnds Refusal
+
+-- the memory in use; or why it was not counted
+abbrev pub Usage : Type 0
+Usage = Result Counts Refusal
+
 -- the number that a call returns: 0 where it is accepted
 abbrev pub returned : {A : Type 0} → Result A Refusal → ℕ
 returned (Ok v) = 0
@@ -46,61 +58,61 @@ abbrev pub value : Answer → ℕ
 value a = result_unwrap_or a 0
 
 -- the number that tally returns: 0 where it is accepted
-abbrev pub usage_number : Result Counts Refusal → ℕ
+abbrev pub usage_number : Usage → ℕ
 usage_number = returned
 
 -- a tally of so many live objects, and of live, free and overhead bytes
-abbrev pub usage_of : ℕ → ℕ → ℕ → ℕ → Result Counts Refusal
+abbrev pub usage_of : ℕ → ℕ → ℕ → ℕ → Usage
 usage_of objects live free overhead = Ok (record { objects = objects; live = live; free = free; overhead = overhead })
 
 -- the live objects that it gives: 0 where it is refused
-abbrev pub live_objects : Result Counts Refusal → ℕ
+abbrev pub live_objects : Usage → ℕ
 live_objects (Ok c) = c.objects
 live_objects (Err r) = 0
 
 -- the live bytes that it gives: 0 where it is refused
-abbrev pub live_bytes : Result Counts Refusal → ℕ
+abbrev pub live_bytes : Usage → ℕ
 live_bytes (Ok c) = c.live
 live_bytes (Err r) = 0
 
 -- the free bytes that it gives: 0 where it is refused
-abbrev pub free_bytes : Result Counts Refusal → ℕ
+abbrev pub free_bytes : Usage → ℕ
 free_bytes (Ok c) = c.free
 free_bytes (Err r) = 0
 
 -- the overhead bytes that it gives: 0 where it is refused
-abbrev pub overhead_bytes : Result Counts Refusal → ℕ
+abbrev pub overhead_bytes : Usage → ℕ
 overhead_bytes (Ok c) = c.overhead
 overhead_bytes (Err r) = 0
 
 -- live, free and overhead bytes are all bytes behind the superblock of an image of L bytes
-abbrev pub Balances : ℕ → Result Counts Refusal → Type 0
+abbrev pub Balances : ℕ → Usage → Type 0
 Balances L u = live_bytes u + free_bytes u + overhead_bytes u ≡ L - 16
 
 -- the number that compare returns: 0 where it is accepted
-abbrev pub comparison_number : Result Ordering Refusal → ℕ
+abbrev pub comparison_number : Comparison → ℕ
 comparison_number = returned
 
 -- the value that it gives: 0 where it is refused
-abbrev pub comparison_value : Result Ordering Refusal → ℤ
+abbrev pub comparison_value : Comparison → ℤ
 comparison_value (Ok o) = sign o
 comparison_value (Err r) = pos 0
 
 -- the number that distances returns: 0 where it is accepted
-abbrev pub distances_number : Result BodyEnds Refusal → ℕ
+abbrev pub distances_number : Measurement → ℕ
 distances_number = returned
 
 -- these distances from the start and to the end
-abbrev pub measured_as : ℤ → ℤ → Result BodyEnds Refusal
+abbrev pub measured_as : ℤ → ℤ → Measurement
 measured_as a b = Ok (record { from_start = a; to_end = b })
 
 -- the distance from the start that it gives: 0 where it is refused
-abbrev pub start_distance : Result BodyEnds Refusal → ℤ
+abbrev pub start_distance : Measurement → ℤ
 start_distance (Ok d) = d.from_start
 start_distance (Err r) = pos 0
 
 -- the distance to the end that it gives: 0 where it is refused
-abbrev pub end_distance : Result BodyEnds Refusal → ℤ
+abbrev pub end_distance : Measurement → ℤ
 end_distance (Ok d) = d.to_end
 end_distance (Err r) = pos 0
 

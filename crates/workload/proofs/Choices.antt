@@ -8,13 +8,13 @@ use Rattle.workload.specs.declared.choosing.Choice.{Choice}
 use Rattle.workload.specs.declared.choosing.Choice.TheVariants.{Allocate, Free, Store}
 
 -- a draw that allocates has room for a pointer
-pub allocates_room : (v n : ℕ) → allocates v n ≡ true → n < 64
+allocates_room : (v n : ℕ) → allocates v n ≡ true → n < 64
 unfolding allocates
 allocates_room v n e =
     by_bool (ltb (v % 4) 2) (λ t. ltb-true n 64 (rw t at e)) (λ f. let z : n ≡ 0 = eqb-true n 0 (rw f at e) in omega arith)
 
 -- one that does not has a pointer to take
-pub allocates_some : (v n : ℕ) → allocates v n ≡ false → 1 ≤ n
+allocates_some : (v n : ℕ) → allocates v n ≡ false → 1 ≤ n
 unfolding allocates
 allocates_some v n e =
     by_bool (ltb (v % 4) 2)

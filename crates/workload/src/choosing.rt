@@ -30,7 +30,7 @@ fn position(v: u64, count: usize) -> usize
 }
 
 // What the draw v asks for, with these live pointers in the order of their allocation.
-#[tactic(auto, using(crate::proofs::Choices::allocates_some, crate::proofs::Choices::allocates_room), unfolding(crate::specs::Choice::choice_of, crate::specs::Choice::HasRoom))]
+#[tactic(auto, unfolding(crate::specs::Choice::allocates, crate::specs::Choice::choice_of, crate::specs::Choice::HasRoom))]
 pub fn choose(v: u64, held: &[u64]) -> Choice
     ensures choice { result ≡ choice_of v held.now }
     ensures room { HasRoom 64 (length held.now) result }

@@ -20,7 +20,7 @@ pub fn record_length(c: Choice) -> usize
 }
 
 // Fills its space with it: its length, the call's number, and the call's arguments.
-#[tactic(auto, using(crate::proofs::Writers::length_allocate, crate::proofs::Writers::length_free, crate::proofs::Writers::length_store, crate::proofs::Writers::allocate_put, crate::proofs::Writers::free_put, crate::proofs::Writers::store_put))]
+#[tactic(auto, using(crate::proofs::Writers::length_allocate, crate::proofs::Writers::length_free, crate::proofs::Writers::length_store))]
 pub fn put_record(space: &mut [u8], c: Choice)
     requires { length space.old ≡ length (record_of (call_of c)) }
     ensures { space.new ≡ record_of (call_of c) }

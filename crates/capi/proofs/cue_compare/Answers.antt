@@ -10,5 +10,5 @@ use Rattle.capi.proofs.cue_compare.Goals as goal
 -- what `compare` answered
 pub returns : goal.returns
 returns c =
-    let fits : SFits w64 c.value.result = search rules in
-    ap₂ compared c.returned.ensures (to_z-of_z fits ∙ c.value.ensures) ∙ ap exported_comparison c.compare-c.ensures
+    let fits : SFits w64 c.compared.result = search rules in
+    ap₂ compared c.returned.ensures (to_z-of_z fits ∙ c.compared.ensures) ∙ ap exported_comparison c.compare-c.ensures

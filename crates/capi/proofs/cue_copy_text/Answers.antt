@@ -4,4 +4,4 @@ use Rattle.capi.proofs.cue_copy_text.Goals as goal
 
 -- what `copy_text` left
 pub returns : goal.returns
-returns c = gives _ _ _ _ _ _ c.returned.ensures c.value.ensures c.copy_text-a.ensures
+returns c = gives _ _ _ _ _ _ c.returned.ensures c.unwrap_or.ensures c.copy_text-a.ensures

@@ -10,12 +10,12 @@ use borrow.Author.Rules.{rules}
 use Rattle.capi.proofs.cue_distances.Goals as goal
 
 -- the distances
-pub returns-in-Distances : goal.returns-in-Distances
-returns-in-Distances c =
-    let start_fits : SFits w64 c.in-Distances.a = search rules in
-    let end_fits : SFits w64 c.in-Distances.b = search rules in
-    ap₂ (measured 0) (to_z-of_z start_fits) (to_z-of_z end_fits) ∙ ap exported_distances (sym c.in-Distances.is ∙ c.distances.ensures)
+pub returns-in-Ok : goal.returns-in-Ok
+returns-in-Ok c =
+    let start_fits : SFits w64 c.in-Ok.ends.from_start = search rules in
+    let end_fits : SFits w64 c.in-Ok.ends.to_end = search rules in
+    ap₂ (measured 0) (to_z-of_z start_fits) (to_z-of_z end_fits) ∙ ap exported_distances (sym c.in-Ok.is ∙ c.distances.ensures)
 
 -- row 4, 5, 10 or 11
-pub returns-in-Refused : goal.returns-in-Refused
-returns-in-Refused c = ap (λ (n : ℕ). measured n (pos 0) (pos 0)) c.number.ensures ∙ ap exported_distances (sym c.in-Refused.is ∙ c.distances.ensures)
+pub returns-in-Err : goal.returns-in-Err
+returns-in-Err c = ap (λ (n : ℕ). measured n (pos 0) (pos 0)) c.number.ensures ∙ ap exported_distances (sym c.in-Err.is ∙ c.distances.ensures)

@@ -5,4 +5,4 @@ use Rattle.capi.proofs.cue_has_type.Goals as goal
 
 -- what `has_type` answered
 pub returns : goal.returns
-returns c = ap₂ answered c.returned.ensures c.value.ensures ∙ ap exported_answer c.has_type-a.ensures
+returns c = ap₂ answered c.returned.ensures c.unwrap_or.ensures ∙ ap exported_answer c.has_type-a.ensures

@@ -4,4 +4,4 @@ use Rattle.capi.proofs.cue_release.Goals as goal
 
 -- what `release_cue` left
 pub returns : goal.returns
-returns c = gives _ _ _ _ _ _ c.returned.ensures c.value.ensures c.release_cue-a.ensures
+returns c = gives _ _ _ _ _ _ c.returned.ensures c.unwrap_or.ensures c.release_cue-a.ensures

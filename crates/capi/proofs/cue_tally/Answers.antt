@@ -5,9 +5,9 @@ use Rattle.capi.specs.Exports.{tallied, exported_usage}
 use Rattle.capi.proofs.cue_tally.Goals as goal
 
 -- the counts
-pub returns-in-Counts : goal.returns-in-Counts
-returns-in-Counts c = ap exported_usage (sym c.in-Counts.is ∙ c.tally.ensures)
+pub returns-in-Ok : goal.returns-in-Ok
+returns-in-Ok c = ap exported_usage (sym c.in-Ok.is ∙ c.tally.ensures)
 
 -- row 4, 5 or 7
-pub returns-in-Refused : goal.returns-in-Refused
-returns-in-Refused c = ap (λ (n : ℕ). tallied n 0 0 0 0) c.number.ensures ∙ ap exported_usage (sym c.in-Refused.is ∙ c.tally.ensures)
+pub returns-in-Err : goal.returns-in-Err
+returns-in-Err c = ap (λ (n : ℕ). tallied n 0 0 0 0) c.number.ensures ∙ ap exported_usage (sym c.in-Err.is ∙ c.tally.ensures)

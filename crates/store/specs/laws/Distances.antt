@@ -18,6 +18,7 @@ use Rattle.store.specs.declared.answer.Refusal.{Refusal}
 use Rattle.store.specs.State.{Answer}
 use Rattle.store.specs.declared.measuring.BodyEnds.{BodyEnds}
 use Rattle.store.specs.declared.locate.Reading.{Reading}
+use Rattle.store.specs.State.{Measurement}
 
 -- The difference of two numbers.
 
@@ -130,7 +131,7 @@ module _ (s : ℕ) (p : Pointer) (x : State) (o : Reading) (f : FoundAt s p x o)
 -- The call's rows.
 
 -- by what reading the tag gave
-unfoldable pub measured_by : Result Reading Refusal → Result BodyEnds Refusal
+unfoldable pub measured_by : Result Reading Refusal → Measurement
 measured_by (Ok o) = measured_as o.offset o.remaining
 measured_by (Err r) = Err r
 
