@@ -165,7 +165,7 @@ pub struct Order {
 
 impl Order {
     // An order of these places, at most eight.
-    pub fn new(order: &[u64], large: u64, tried: u64, floor: u64) -> Order {
+    pub fn new(order: &[u8], large: u64, tried: u64, floor: u64) -> Order {
         let mut places = [0; 8];
         for (place, position) in places.iter_mut().zip(order) {
             *place = *position;

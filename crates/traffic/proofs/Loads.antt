@@ -1,13 +1,14 @@
 -- What `recorded` uses: a load writes inside its log. Assumes nothing.
-use Rattle.std.proofs.Common.{ℕ, ◌≤◌, ◌≡◌, ap, List, arith, length}
+use Rattle.std.proofs.Common.{ℕ, ◌≤◌, ◌≡◌, ap, List, Result, arith, length}
 use Rattle.store.specs.State.{State}
+use Rattle.store.specs.declared.answer.Refusal.{Refusal}
 use Rattle.workload.specs.Traffic.{bytes_written, LoggedOutcome, logged}
 use Rattle.workload.specs.declared.answer.Traffic.{Traffic}
 use Rattle.workload.proofs.Claims.{load_inside}
 use Rattle.traffic.specs.Program.{blank, program_run}
 
 -- the bytes that an answer counts are in the log that comes with it
-pub inside_log : (g draws : ℕ) (log : List ℕ) {a : Traffic} {x : State} {log' : List ℕ}
+pub inside_log : (g draws : ℕ) (log : List ℕ) {a : Result Traffic Refusal} {x : State} {log' : List ℕ}
     → logged a x log' ≡ program_run g draws log
     → bytes_written a ≤ length log'
 inside_log g draws log {a} {log' = log'} o =
