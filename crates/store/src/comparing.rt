@@ -6,7 +6,8 @@ ghost use Rattle.store.specs.Calls.{compare};
 use crate::answer::{Answer, Refusal};
 use crate::locate::access;
 use crate::opening::opening;
-use block::order::{Ordering, compare_runs};
+use block::order::compare_runs;
+use std::cmp::Ordering;
 
 // How the left bytes stand to the right ones; or why they were not compared.
 #[derive(Clone, Copy)]
@@ -31,7 +32,7 @@ impl Comparison {
         ensures { result ≡ comparison_value self }
     {
         match self {
-            Comparison::Ordered(o) => o.sign(),
+            Comparison::Ordered(o) => o as i64,
             Comparison::Refused(_) => 0,
         }
     }
