@@ -37,20 +37,26 @@ pub fn write<const WIDTH: usize>(image: &mut [u8], at: usize, v: u64)
     image[at..at + WIDTH].copy_from_slice(&v.to_le_bytes()[..WIDTH]);
 }
 
-// Puts the low 1 to 8 bytes of v at `at`.
+// Puts the low 1 to 8 bytes of v at `at`. The compiler makes comparisons of two matches of four, and of one of eight a jump through a table, with which a store
+// takes 1 to 2 ns more.
 pub fn write_field(image: &mut [u8], at: usize, width: u64, v: u64)
     requires { (1 ≤ width) × (width ≤ 8) × (at + width ≤ length image.old) }
     ensures { image.new ≡ put image.old at (encode width v) }
 {
-    match width {
-        1 => write::<1>(image, at, v),
-        2 => write::<2>(image, at, v),
-        3 => write::<3>(image, at, v),
-        4 => write::<4>(image, at, v),
-        5 => write::<5>(image, at, v),
-        6 => write::<6>(image, at, v),
-        7 => write::<7>(image, at, v),
-        _ => write::<8>(image, at, v),
+    if width <= 4 {
+        match width {
+            1 => write::<1>(image, at, v),
+            2 => write::<2>(image, at, v),
+            3 => write::<3>(image, at, v),
+            _ => write::<4>(image, at, v),
+        }
+    } else {
+        match width {
+            5 => write::<5>(image, at, v),
+            6 => write::<6>(image, at, v),
+            7 => write::<7>(image, at, v),
+            _ => write::<8>(image, at, v),
+        }
     }
 }
 
