@@ -1,41 +1,8 @@
--- The turns of the loops that fill and copy runs of bytes. Assumes nothing.
-use Rattle.std.proofs.Common.{◌≡◌, ℕ, suc, ◌+◌, ◌-◌, ◌<◌, ◌≤◌, List, [], ◌∷◌, ◌++◌, length, get_or, take, drop, set, replicate, refl, sym, ap, ◌∙◌, add-one, arith, length-drop, length-take-le, take-suc, drop-drop, take-suc-set, take-add}
-use lib.ListN.{length-replicate}
+-- The turns of the loops that copy runs of bytes, and runs as parts of slices. Assumes nothing.
+use Rattle.std.proofs.Common.{◌≡◌, ℕ, ◌+◌, ◌-◌, ◌≤◌, List, ◌++◌, length, take, drop, refl, sym, ap, ◌∙◌, arith, length-drop, length-take-le, drop-drop, take-add}
 use borrow.Rule.Slice.PartMut.{put_mid}
 use Rattle.block.specs.Bytes.{put}
-use Rattle.block.specs.laws.Writes.{put_cons, put_nil, put-append, put-before, set-put-end, drop-put_above, part_put_below}
-
--- filling: what is left to fill, after one byte more
-pub fill_turn : (l : List ℕ) (at n i b : ℕ) → i < n → at + n ≤ length l
-    → put (set l (at + i) b) (at + (i + 1)) (replicate (n - (i + 1)) b) ≡ put l (at + i) (replicate (n - i) b)
-fill_turn l at n i b h fits =
-    let e : n - i ≡ suc (n - (i + 1)) = omega arith in
-    let f : at + (i + 1) ≡ suc (at + i) = omega arith in
-    let k : length (replicate (n - (i + 1)) b) ≡ n - (i + 1) = length-replicate (n - (i + 1)) b in
-    rw (e, f) (put_cons l (at + i) b (replicate (n - (i + 1)) b) (omega arith))
-
--- nothing left to fill
-pub fill_none : (l : List ℕ) (at n b : ℕ) → n ≡ 0 → put l at (replicate n b) ≡ l
-fill_none l at n b e = rw e (put_nil l at)
-
--- reading into a buffer: what is read, after one byte more
-pub gather_turn : (s buffer : List ℕ) (b i : ℕ) → i < length s → i < length buffer → b ≡ get_or s i 0 → take i buffer ≡ take i s
-    → take (i + 1) (set buffer i b) ≡ take (i + 1) s
-gather_turn s buffer b i h k e f =
-    ap (λ (n : ℕ). take n (set buffer i b)) (add-one i)
-    ∙ take-suc-set buffer i b k
-    ∙ ap (λ (x : List ℕ). x ++ (b ∷ [])) f
-    ∙ ap (λ (x : ℕ). take i s ++ (x ∷ [])) e
-    ∙ sym (ap (λ (n : ℕ). take n s) (add-one i) ∙ take-suc s i 0 h)
-
--- writing from a buffer: what is written, after one byte more
-pub scatter_turn : (l image s : List ℕ) (to i : ℕ) → to + i < length l → i < length s → image ≡ put l to (take i s)
-    → set image (to + i) (get_or s i 0) ≡ put l to (take (i + 1) s)
-scatter_turn l image s to i fits h e =
-    let part : length (take i s) ≡ i = length-take-le i s (omega arith) in
-    ap (λ (x : List ℕ). set x (to + i) (get_or s i 0)) e
-    ∙ set-put-end l to (get_or s i 0) (to + i) (take i s) (omega arith) fits
-    ∙ ap (put l to) (sym (ap (λ (k : ℕ). take k s) (add-one i) ∙ take-suc s i 0 h))
+use Rattle.block.specs.laws.Writes.{put-append, put-before, drop-put_above, part_put_below}
 
 -- copying from the first part on: what is copied, after k bytes more
 pub down_turn : (l image : List ℕ) (to from n i k : ℕ) → to ≤ from → from + n ≤ length l → i + k ≤ n → image ≡ put l to (take i (drop from l))

@@ -6,7 +6,7 @@ use Rattle.block.specs.Text.{text_from, text_of}
 use Rattle.block.specs.Layout.{superblock, superblock_good, header, free_header, live_header, header_at, well_formed, sound}
 use Rattle.block.specs.laws.Superblock.{opened}
 use Rattle.block.specs.Walk.{walk_in, walk_from, walk, fit_of, first_fit, met_of, walk_to, count_of, count_blocks, unsound, ended, walk_cue}
-use Rattle.block.specs.declared.order.Ordering.TheVariants as ordering
+use Rattle.std.specs.declared.cmp.Ordering.TheVariants as ordering
 use Rattle.block.specs.declared.walk.Fit.TheVariants as fit
 
 -- live blocks at 16 and 42 of sizes 10 and 20 and of cues 0 and 2^32 - 1, and a free one from 78 to the end

@@ -1,7 +1,7 @@
 -- How one run of bytes stands to another: document 02, W5. Assumes nothing.
 use Rattle.std.specs.Prelude.{ℕ, true, false, cond, List, [], ◌∷◌, ℤ, pos, negsuc, ◌==◌, nat_lt}
-use Rattle.block.specs.declared.order.Ordering.{Ordering}
-use Rattle.block.specs.declared.order.Ordering.TheVariants.{Less, Equal, Greater}
+use Rattle.std.specs.declared.cmp.Ordering.{Ordering}
+use Rattle.std.specs.declared.cmp.Ordering.TheVariants.{Less, Equal, Greater}
 
 -- by their first differing byte, unsigned; equal where none differs
 unfoldable pub compare_bytes : List ℕ → List ℕ → Ordering

@@ -16,7 +16,7 @@ use Rattle.block.specs.laws.Booleans.{and_left, and_right, and_both, true_false}
 use Rattle.block.specs.Bytes.{decode, field}
 use Rattle.block.specs.laws.Fields.{field_bytes_lem}
 use Rattle.block.specs.Order.{compare_bytes}
-use Rattle.block.specs.declared.order.Ordering.{Ordering}
+use Rattle.std.specs.declared.cmp.Ordering.{Ordering}
 use Rattle.block.specs.Layout.{stored_total, extent_at}
 use Rattle.store.specs.State.{State, Outcome, IsAccepted, returned, value, comparison_number, usage_number, free_bytes}
 use Rattle.store.specs.Claims.{NoLoad, NoAccess}

@@ -56,7 +56,7 @@ use Rattle.block.specs.declared.walk.Counts.{Counts}
 use Rattle.store.proofs.Sweeping.{sweep_freed}
 use Rattle.store.proofs.Gathering.{sweep_begins}
 use Rattle.store.specs.declared.answer.Refusal.{Refusal}
-use Rattle.block.specs.declared.order.Ordering.{Ordering}
+use Rattle.std.specs.declared.cmp.Ordering.{Ordering}
 use Rattle.store.specs.State.{Usage, Comparison, Measurement}
 
 -- how a call ends: refused with nothing changed, or accepted with the shape kept

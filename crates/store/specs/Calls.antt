@@ -26,7 +26,7 @@ use Rattle.store.specs.declared.locate.Reading.{Reading}
 use Rattle.store.specs.declared.measuring.BodyEnds.{BodyEnds}
 use Rattle.store.specs.declared.release.FreedBlock.{FreedBlock}
 use Rattle.store.specs.declared.answer.Refusal.{Refusal}
-use Rattle.block.specs.declared.order.Ordering.{Ordering}
+use Rattle.std.specs.declared.cmp.Ordering.{Ordering}
 use Rattle.store.specs.State.{Usage, Comparison, Measurement}
 
 -- Set-up: 1, 2, 3.

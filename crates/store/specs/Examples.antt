@@ -25,7 +25,7 @@ use Rattle.store.specs.declared.locate.Reading.{Reading}
 use Rattle.store.specs.declared.measuring.BodyEnds.{BodyEnds}
 use Rattle.block.specs.declared.walk.Counts.{Counts}
 use Rattle.store.specs.declared.answer.Refusal.{Refusal}
-use Rattle.block.specs.declared.order.Ordering.{Ordering}
+use Rattle.std.specs.declared.cmp.Ordering.{Ordering}
 use Rattle.store.specs.State.{Usage, Comparison, Measurement}
 
 -- A case: what it starts from, and what the documents say of it. An image of L bytes is set up, and the sizes `before` are allocated.

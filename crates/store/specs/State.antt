@@ -6,7 +6,7 @@ use Rattle.store.specs.declared.answer.Refusal.{Refusal}
 use Rattle.store.specs.declared.answer.Refusal.TheVariants.{BadExponent, BadLength, TooFewEntries, BadSuperblock, ShortTable, Empty, Unsound, NoSpace, EntryTaken, BadTag, Dangling, Leaves, OutOfBounds, BadWidth, NotBase, TooLarge, Unterminated, EntryLost, WrongTotal, BadDescriptor, Undescribed}
 use Rattle.store.specs.declared.measuring.BodyEnds.{BodyEnds}
 use Rattle.block.specs.declared.walk.Counts.{Counts}
-use Rattle.block.specs.declared.order.Ordering.{Ordering}
+use Rattle.std.specs.declared.cmp.Ordering.{Ordering}
 
 -- document 01's number of a refusal, or document 02's: 17 to 19 are a call log's, 23 a workload's
 abbrev pub refusal_number : Refusal → ℕ

@@ -5,15 +5,16 @@ ghost use Rattle.store.specs.Calls.{compare};
 
 use crate::answer::Refusal;
 use crate::opening::Opened;
-use block::order::{Ordering, compare_runs};
+use block::order::compare_runs;
 use frame::Pointer;
+use std::cmp::Ordering;
 
 // The value that a compare gives: -1, 0 or 1, and 0 where it is refused.
 pub fn compared(answer: Result<Ordering, Refusal>) -> i64
     ensures { result ≡ comparison_value answer }
 {
     match answer {
-        Ok(o) => o.sign(),
+        Ok(o) => o as i64,
         Err(_) => 0,
     }
 }

@@ -10,7 +10,7 @@ loop-i-init c =
     (omega arith, refl, rw e (sym (put_nil _ _)))
 
 pub loop-i-smaller : goal.loop-i-smaller
-loop-i-smaller c = omega (arith, c.part-k.ensures.2 (omega arith))
+loop-i-smaller c = omega arith
 
 pub loop-i-preserved : goal.loop-i-preserved
 loop-i-preserved c = (

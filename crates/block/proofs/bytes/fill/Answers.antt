@@ -1,19 +1,14 @@
-use Rattle.std.proofs.Common.{◌+◌, ◌-◌, sym, refl, ◌∙◌, add-zero, arith, length-set}
-use native.Mathlib.Nat.{sub-zero}
-use Rattle.block.proofs.Runs.{fill_turn, fill_none}
+use Rattle.std.proofs.Common.{◌≡◌, ◌+◌, ◌-◌, length, replicate, sym, ◌∙◌, arith, length-drop, length-take-le, take_all}
+use Rattle.std.proofs.lemmas.List.{length-replicate}
+use Rattle.block.proofs.Runs.{part_put}
 use Rattle.block.proofs.bytes.fill.Goals as goal
-
-pub loop-i-init : goal.loop-i-init
-loop-i-init c = (omega arith, refl, simp (add-zero, sub-zero))
-
-pub loop-i-preserved : goal.loop-i-preserved
-loop-i-preserved c =
-    let l = c.loop-i in
-    let a = c.args in
-    (omega arith, simp length-set l.invariant.1, fill_turn l.image a.at a.n l.i a.byte c.loop-i-test.true (omega arith) ∙ l.invariant.2)
 
 pub returns : goal.returns
 returns c =
-    let l = c.loop-i in
     let a = c.args in
-    sym (fill_none l.image (a.at + l.i) (a.n - l.i) a.byte (omega arith)) ∙ l.invariant.2
+    let l = c.loop-b in
+    let k : a.at + a.n - a.at ≡ a.n = omega arith in
+    let long : length l.b-items ≡ a.n = l.auto.b-items ∙ rw k (length-take-le a.n _ (simp length-drop (omega arith))) in
+    let all : l.b-index ≡ a.n = omega (arith, c.loop-b-test.false, l.auto.b-index-end, long) in
+    let set : l.b-items ≡ replicate a.n a.byte = sym (take_all a.n l.b-items (omega (arith, long))) ∙ rw all at l.invariant in
+    rw set (part_put a.image.now (replicate a.n a.byte) a.at (a.at + a.n) (simp length-replicate))

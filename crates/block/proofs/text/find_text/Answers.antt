@@ -1,5 +1,9 @@
-use Rattle.std.proofs.Common.{sym, ◌∙◌, arith}
-use Rattle.block.specs.laws.Text.{text_start, text_turn}
+use Rattle.std.proofs.Common.{◌≡◌, ◌+◌, ◌-◌, false, take, drop, sym, ◌∙◌, ap, arith, rules, tests}
+use Rattle.std.specs.List.{list_any, position_from}
+use Rattle.std.proofs.lemmas.Iterator.{YieldsList-from_slice}
+use Rattle.std.proofs.lemmas.Iterator.Search.{position_from_yields_List}
+use Rattle.std.proofs.lemmas.Iterator.Adapters.{position_from-zero}
+use Rattle.block.specs.laws.Text.{is_zero, text_start, text_turn, text_found, text_is_found}
 use Rattle.block.proofs.text.find_text.Goals as goal
 
 pub loop-i-init : goal.loop-i-init
@@ -7,15 +11,26 @@ loop-i-init c = let s = c.args in (omega arith, text_start s.image.now s.at s.n)
 
 pub loop-i-preserved : goal.loop-i-preserved
 loop-i-preserved c =
-    let s = c.args in (
-      omega arith,
-      c.loop-i.invariant.1
-          ∙ text_turn s.image.now s.at s.n c.requires 8 c.loop-i.i (omega arith) (sym c.has_zero8.ensures ∙ c.if-has_zero8.false),
-    )
+    let s = c.args in
+    let l = c.loop-i in
+    let e : s.at + l.i + 8 - (s.at + l.i) ≡ 8 = omega arith in
+    let none : list_any is_zero (take 8 (drop (s.at + l.i) s.image.now)) ≡ false = sym (rw e at c.contains.ensures.value) ∙ c.if-not-contains.true in
+    (omega arith, l.invariant.1 ∙ text_turn s.image.now s.at s.n c.requires 8 l.i (omega arith) none)
 
--- what is left, by bytes
-pub returns : goal.returns
-returns c = c.find_bytes.ensures ∙ sym c.loop-i.invariant.1
+pub returns-in-Some : goal.returns-in-Some
+returns-in-Some c =
+    let s = c.args in
+    let l = c.loop-i in
+    let left = take (s.n - l.i) (drop (s.at + l.i) s.image.now) in
+    let e : s.at + s.n - (s.at + l.i) ≡ s.n - l.i = omega arith in
+    let found : c.position.result ≡ position_from is_zero 0 left = position_from_yields_List is_zero _ _ c.position.result c.position.ensures.ran (YieldsList-from_slice left (rw e at c.iter.ensures.rest)) (λ x b q k. search (rules, tests)) ∙ position_from-zero is_zero left in
+    ap (text_found l.i) (sym c.in-Some.is ∙ found) ∙ sym (text_is_found l.i left) ∙ sym l.invariant.1
 
-pub find_bytes-requires : goal.find_bytes-requires
-find_bytes-requires c = (omega arith, omega arith)
+pub returns-in-None : goal.returns-in-None
+returns-in-None c =
+    let s = c.args in
+    let l = c.loop-i in
+    let left = take (s.n - l.i) (drop (s.at + l.i) s.image.now) in
+    let e : s.at + s.n - (s.at + l.i) ≡ s.n - l.i = omega arith in
+    let found : c.position.result ≡ position_from is_zero 0 left = position_from_yields_List is_zero _ _ c.position.result c.position.ensures.ran (YieldsList-from_slice left (rw e at c.iter.ensures.rest)) (λ x b q k. search (rules, tests)) ∙ position_from-zero is_zero left in
+    ap (text_found l.i) (sym c.in-None.is ∙ found) ∙ sym (text_is_found l.i left) ∙ sym l.invariant.1

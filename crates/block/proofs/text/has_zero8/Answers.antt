@@ -1,8 +1,0 @@
--- `block::text::has_zero8`: a zero in one of the two halves. Assumes nothing.
-use Rattle.block.specs.laws.Text.{zero_parts}
-use Rattle.block.proofs.text.has_zero8.Goals as goal
-
-pub returns : goal.returns
-returns c =
-    let a = c.args in
-    cc (zero_parts a.image.now 4 4 a.at)
