@@ -148,31 +148,31 @@ pub fn load(out: Stdout, t: Traffic) {
 }
 
 // The first so many places of an order.
-fn places(out: Stdout, order: [u64; 8], count: usize) {
+fn places(out: Stdout, order: [u8; 8], count: usize) {
     let mut i = 0;
     while i < 8 {
         if i < count {
             text(out, b" ");
-            decimal(out, order[i]);
+            decimal(out, u64::from(order[i]));
         }
         i += 1;
     }
 }
 
 // The answer of a search for an order of so many sizes.
-pub fn placed(out: Stdout, p: Placement, count: usize) {
-    if p.row != 0 {
-        refused(out, p.row);
-    } else {
-        let order = p.order;
-        text(out, b"order");
-        places(out, order, count);
-        text(out, b", large-framed ");
-        decimal(out, p.large);
-        text(out, b", tried ");
-        decimal(out, p.tried);
-        text(out, b", floor ");
-        decimal(out, p.floor);
+pub fn placed(out: Stdout, p: Result<Placement, placement::Refusal>, count: usize) {
+    match p {
+        Ok(p) => {
+            text(out, b"order");
+            places(out, p.order, count);
+            text(out, b", large-framed ");
+            decimal(out, p.large);
+            text(out, b", tried ");
+            decimal(out, p.tried);
+            text(out, b", floor ");
+            decimal(out, p.floor);
+        }
+        Err(r) => refused(out, r.number()),
     }
 }
 
@@ -184,22 +184,23 @@ fn over(out: Stdout, f: Fraction) {
 }
 
 // The answer of a report.
-pub fn reported(out: Stdout, r: Report) {
-    if r.row != 0 {
-        refused(out, r.row);
-    } else {
-        text(out, b"raw ");
-        decimal(out, r.raw);
-        text(out, b", headed ");
-        decimal(out, r.headed);
-        text(out, b", padded ");
-        decimal(out, r.padded);
-        text(out, b", end ");
-        decimal(out, r.end);
-        text(out, b", overheads ");
-        over(out, r.headers);
-        text(out, b" and ");
-        over(out, r.padding);
+pub fn reported(out: Stdout, r: Result<Report, overhead::Refusal>) {
+    match r {
+        Ok(r) => {
+            text(out, b"raw ");
+            decimal(out, r.raw);
+            text(out, b", headed ");
+            decimal(out, r.headed);
+            text(out, b", padded ");
+            decimal(out, r.padded);
+            text(out, b", end ");
+            decimal(out, r.end);
+            text(out, b", overheads ");
+            over(out, r.headers);
+            text(out, b" and ");
+            over(out, r.padding);
+        }
+        Err(r) => refused(out, r.number()),
     }
 }
 

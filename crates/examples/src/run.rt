@@ -1,5 +1,4 @@
 // The calls of the store, each with its line and the answer that docs/FORMAT.md gives for it: the returned number, and the value.
-ghost use Rattle.std.specs.Prelude.{ℕ, ◌<◌, slice_index};
 
 use crate::print::{YES, answer, ends, label, load, order, placed, reported, text, usage};
 use overhead::Report;
@@ -135,10 +134,13 @@ const SIZES: [u32; 20] = [
     40000, 20000, 12000, 31, 32, 48, 15, 179, 40, 268, 10, 65, 220, 0, 90, 47, 12, 200, 31, 65536,
 ];
 
-// Searches for an order of so many sizes from there on; of none where there are not as many. Each place of the order is a byte.
-fn searched(from: usize, count: usize, s: u32, budget: u64) -> Placement
-    ensures { (k : ℕ) → slice_index result.order k < 256 }
-{
+// Searches for an order of so many sizes from there on; of none where there are not as many.
+fn searched(
+    from: usize,
+    count: usize,
+    s: u32,
+    budget: u64,
+) -> Result<Placement, placement::Refusal> {
     let sizes = SIZES;
     if sizes.len() < from {
         return placement::order(&sizes[..0], s, budget);
@@ -154,7 +156,7 @@ fn searched(from: usize, count: usize, s: u32, budget: u64) -> Placement
 const REPORTED: [u32; 13] = [10, 20, 30, 100, 1000, 1, 16, 17, 65536, 1, 65536, 0, 65537];
 
 // The report on so many of these sizes from there on; on none where there are not as many.
-pub fn sized(from: usize, count: usize) -> Report {
+pub fn sized(from: usize, count: usize) -> Result<Report, overhead::Refusal> {
     let sizes = REPORTED;
     if sizes.len() < from {
         return overhead::report(&sizes[..0]);
@@ -167,13 +169,13 @@ pub fn sized(from: usize, count: usize) -> Report {
 }
 
 // The report on the longest list, of one size throughout.
-pub fn longest(size: u32) -> Report {
+pub fn longest(size: u32) -> Result<Report, overhead::Refusal> {
     let sizes: [u32; 65536] = [size; 65536];
     overhead::report(&sizes)
 }
 
 // The report on a list of one more.
-pub fn too_long(size: u32) -> Report {
+pub fn too_long(size: u32) -> Result<Report, overhead::Refusal> {
     let sizes: [u32; 65537] = [size; 65537];
     overhead::report(&sizes)
 }
@@ -296,22 +298,24 @@ impl Run {
         floor: u64,
     ) -> Run {
         let p = searched(from, count, s, budget);
-        let found = p.order_word();
         label(self.out, self.made);
         placed(self.out, p, count);
-        self.count(
-            p.row == number
-                && found == word
-                && p.large == large
-                && p.tried == tried
-                && p.floor == floor,
-        )
+        self.count(match p {
+            Ok(p) => {
+                number == 0
+                    && p.order_word() == word
+                    && p.large == large
+                    && p.tried == tried
+                    && p.floor == floor
+            }
+            Err(r) => r.number() == number && word == 0 && large == 0 && tried == 0 && floor == 0,
+        })
     }
 
     // A report: the returned number, the sums, the extra bytes of headers and of padding, and what they are over.
     pub fn overhead(
         self,
-        r: Report,
+        r: Result<Report, overhead::Refusal>,
         number: u32,
         raw: u64,
         headed: u64,
@@ -323,17 +327,29 @@ impl Run {
     ) -> Run {
         label(self.out, self.made);
         reported(self.out, r);
-        self.count(
-            r.row == number
-                && r.raw == raw
-                && r.headed == headed
-                && r.padded == padded
-                && r.end == end
-                && r.headers.extra == headers
-                && r.headers.over == over
-                && r.padding.extra == padding
-                && r.padding.over == over,
-        )
+        self.count(match r {
+            Ok(r) => {
+                number == 0
+                    && r.raw == raw
+                    && r.headed == headed
+                    && r.padded == padded
+                    && r.end == end
+                    && r.headers.extra == headers
+                    && r.headers.over == over
+                    && r.padding.extra == padding
+                    && r.padding.over == over
+            }
+            Err(r) => {
+                r.number() == number
+                    && raw == 0
+                    && headed == 0
+                    && padded == 0
+                    && end == 0
+                    && headers == 0
+                    && padding == 0
+                    && over == 0
+            }
+        })
     }
 
     // Tally: the returned number and the counts.
