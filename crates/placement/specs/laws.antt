@@ -4,6 +4,7 @@ pub mod Positions
 pub mod Picks
 pub mod Arrangements
 pub mod Packed
+pub mod Digits
 -- the search
 pub mod Least
 pub mod Counts

@@ -1,29 +1,10 @@
 // The large-framed objects of an order: placed end to end from address 16, without tails.
-ghost use Rattle.std.specs.Prelude.{ℕ, ◌≡◌, true, ◌<◌, ◌≤◌, length, slice_index};
+ghost use Rattle.std.specs.Prelude.{◌≡◌, true, ◌<◌, length};
 ghost use Rattle.placement.specs.Orders.{factorial, order_at};
 ghost use Rattle.placement.specs.Placement.{good_plan, large};
 
-use super::orders::order_at;
+use super::orders::Picks;
 use frame::same_frame;
-
-// The large-framed objects of an order.
-fn large_in(sizes: &[u32], s: u32, order: &[u8]) -> u64
-    requires exponent { s < 64 }
-    requires few { length order.now ≤ 8 }
-    requires positions { (k : ℕ) → k < length order.now → slice_index order.now k < length sizes.now }
-    ensures { result ≡ large s sizes.now order.now }
-{
-    let mut count = 0;
-    let mut h = 16;
-    for place in order {
-        let end = h + 16 + u64::from(sizes[usize::from(*place)]);
-        if !same_frame(s, h, end) {
-            count += 1;
-        }
-        h = end;
-    }
-    count
-}
 
 // The large-framed objects of the order that is tried as number i.
 pub fn large_of(sizes: &[u32], s: u32, i: u64) -> u64
@@ -31,7 +12,14 @@ pub fn large_of(sizes: &[u32], s: u32, i: u64) -> u64
     requires below { i < factorial (length sizes.now) }
     ensures { result ≡ large s sizes.now (order_at (length sizes.now) i) }
 {
-    let n = sizes.len();
-    let order = order_at(n, i);
-    large_in(sizes, s, &order[..n])
+    let mut count = 0;
+    let mut h = 16;
+    for place in Picks::new(sizes.len(), i) {
+        let end = h + 16 + u64::from(sizes[usize::from(place)]);
+        if !same_frame(s, h, end) {
+            count += 1;
+        }
+        h = end;
+    }
+    count
 }

@@ -20,11 +20,13 @@ overflow_add-headed c =
 
 pub fraction-requires-2 : goal.fraction-requires-2
 fraction-requires-2 c =
-    (sums-ordered _ _ (summed c.args.sizes.now c.sum-raw.result c.placed-blocks.result.0 c.placed-blocks.result.1 (search rules) c.placed-blocks.ensures.bytes c.placed-blocks.ensures.end)).1
+    (sums-ordered _ _ (summed c.args.sizes.now c.sum-raw.result c.placed-blocks.result.0 c.placed-blocks.result.1
+    (search rules) c.placed-blocks.ensures.bytes c.placed-blocks.ensures.end)).1
 
 pub returns : goal.returns
 returns c =
     report-given _ _ _ _ c.if-sizes-gt65536.false (sym c.good_sizes.ensures ∙ c.if-not-good_sizes.false)
-    (summed c.args.sizes.now c.sum-raw.result c.placed-blocks.result.0 c.placed-blocks.result.1 (search rules) c.placed-blocks.ensures.bytes c.placed-blocks.ensures.end)
+    (summed c.args.sizes.now c.sum-raw.result c.placed-blocks.result.0 c.placed-blocks.result.1
+    (search rules) c.placed-blocks.ensures.bytes c.placed-blocks.ensures.end)
     c.fraction.ensures
     c.fraction-2.ensures

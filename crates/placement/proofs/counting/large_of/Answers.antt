@@ -1,30 +1,48 @@
-use Rattle.std.proofs.Common.{◌≡◌, ◌∙◌, ap, length, take, take_at, arith, rules}
-use Rattle.placement.specs.Orders.{order_at}
-use Rattle.placement.specs.Placement.{large}
-use Rattle.placement.specs.laws.Arrangements.{only_orders}
+use Rattle.std.proofs.Common.{refl, sym, ◌∙◌, ap, get_or, arith}
+use Rattle.placement.specs.laws.Counts.{small_here, large_here}
 use Rattle.placement.specs.laws.Rows.{planned}
+use Rattle.placement.proofs.Picking.{counting_begins, counting_goes_on, counting_ends}
 use Rattle.placement.proofs.counting.large_of.Goals as goal
 
-pub order_at-order-requires : goal.order_at-order-requires
-order_at-order-requires c = ((planned _ _ c.requires.plan).few, c.requires.below)
+pub new-place-items-requires-clause-few : goal.new-place-items-requires-clause-few
+new-place-items-requires-clause-few c = (planned _ _ c.requires.plan).few
 
-pub slice_bounds-order-end : goal.slice_bounds-order-end
-slice_bounds-order-end c = let few = (planned _ _ c.requires.plan).few in search rules
+pub loop-place-init : goal.loop-place-init
+loop-place-init c =
+    let is = c.new-place-items.ensures in
+    let order_is = rw (← c.into_iter-place-iterator.ensures.into_iter_gives) at is in
+    record { can = tt; ends = tt; counted = counting_begins _ _ _ _ (planned _ _ c.requires.plan).few c.requires.below order_is }
 
-pub slice_bounds-large_in-end : goal.slice_bounds-large_in-end
-slice_bounds-large_in-end c = let few = (planned _ _ c.requires.plan).few in search rules
+pub same_frame-requires : goal.same_frame-requires
+same_frame-requires c = omega (arith, (planned _ _ c.requires.plan).most)
 
-pub large_in-requires-clause-exponent : goal.large_in-requires-clause-exponent
-large_in-requires-clause-exponent c = omega (arith, (planned _ _ c.requires.plan).most)
+pub loop-place-preserved-then-not-same_frame : goal.loop-place-preserved-then-not-same_frame
+loop-place-preserved-then-not-same_frame c =
+    let now = c.loop-place in
+    let size = c.from-in-loop-place in
+    let sizes = c.type_inv.sizes c.from.result in
+    let one = large_here c.args.s now.h size.result (sym c.same_frame.ensures ∙ c.if-not-same_frame.true) in
+    record {
+      can = tt;
+      ends = tt;
+      counted =
+          counting_goes_on _ _ _ _ _ _ _ _ _ _ _ now.invariant.counted c.in-Some.ensures.steps
+          (size.ensures ∙ ap (λ k. get_or c.args.sizes.now k 0) c.from.ensures) (omega (arith, size.ensures, sizes.fits)) (omega (arith, one)) refl;
+    }
 
-pub large_in-requires-clause-positions : goal.large_in-requires-clause-positions
-large_in-requires-clause-positions c k h =
-    let order = only_orders _ _ c.requires.below in
-    let is : take (length c.args.sizes.now) c.order_at-order.result ≡ order_at (length c.args.sizes.now) c.args.i =
-    ap (take _) c.order_at-order.ensures ∙ take_at (order_at _ _) _ _ order.length_is in
-    rw is (order.below k (omega (arith, rw is at h, order.length_is)))
+pub loop-place-preserved : goal.loop-place-preserved
+loop-place-preserved c =
+    let now = c.loop-place in
+    let size = c.from-in-loop-place in
+    let sizes = c.type_inv.sizes c.from.result in
+    let none = small_here c.args.s now.h size.result (sym c.same_frame.ensures ∙ c.if-not-same_frame.false) in
+    record {
+      can = tt;
+      ends = tt;
+      counted =
+          counting_goes_on _ _ _ _ _ _ _ _ _ _ _ now.invariant.counted c.in-Some.ensures.steps
+          (size.ensures ∙ ap (λ k. get_or c.args.sizes.now k 0) c.from.ensures) (omega (arith, size.ensures, sizes.fits)) (omega (arith, none)) refl;
+    }
 
 pub returns : goal.returns
-returns c =
-    let order = only_orders _ _ c.requires.below in
-    c.large_in.ensures ∙ ap (large c.args.s c.args.sizes.now) (ap (take _) c.order_at-order.ensures ∙ take_at (order_at _ _) _ _ order.length_is)
+returns c = counting_ends _ _ _ _ _ _ c.loop-place.invariant.counted c.in-None.ensures.steps.0

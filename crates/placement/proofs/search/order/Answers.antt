@@ -42,7 +42,8 @@ pub floor_of-requires : goal.floor_of-requires
 floor_of-requires c = let most = (planned c.args.s _ (sym c.good_plan.ensures ∙ c.if-not-good_plan.false)).most in omega arith
 
 -- the parts of what is found
-makes : (s : ℕ) (sizes : List ℕ) (budget : ℕ) (order : List ℕ) (count tried floor index : ℕ) → good_plan s sizes ≡ true → tried ≡ min budget (factorial (length sizes))
+makes : (s : ℕ) (sizes : List ℕ) (budget : ℕ) (order : List ℕ) (count tried floor index : ℕ)
+    → good_plan s sizes ≡ true → tried ≡ min budget (factorial (length sizes))
     → BestFound s sizes tried (count, index) → order ≡ eight_places (order_at (length sizes) index) → floor ≡ floor_of s sizes
     → ◌≡◌ {A = Placement} (record { row = 0; order = order; large = count; tried = tried; floor = floor }) (placement s sizes budget)
 unfolding found

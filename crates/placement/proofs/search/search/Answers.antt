@@ -8,5 +8,6 @@ use Rattle.placement.proofs.search.search.Goals as goal
 pub returns : goal.returns
 returns c =
     rw (reduce_from_yields_List lesser _ _ c.min.ensures.ran
-    (YieldsList-from_map _ (pair c.args.s c.args.sizes.now) (YieldsList-from_range 0 _ c.args.tried c.map.ensures.source (omega arith)) c.map.ensures.closure (λ x r q k. search rules)))
+    (YieldsList-from_map _ (pair c.args.s c.args.sizes.now) (YieldsList-from_range 0 _ c.args.tried c.map.ensures.source (omega arith))
+    c.map.ensures.closure (λ x r q k. search rules)))
     (least_is_best _ _ _ c.requires.most)
