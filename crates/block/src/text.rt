@@ -11,6 +11,6 @@ pub fn find_text(image: &[u8], at: usize, n: usize) -> Option<u64>
     while 8 <= n - i && !image[at + i..at + i + 8].contains(&0) {
         i += 8;
     }
-    let rest = &image[at + i..at + n];
-    rest.iter().position(|&b| b == 0).map(|k| (i + k) as u64)
+    let k = image[at + i..at + n].iter().position(|&b| b == 0)?;
+    Some((i + k) as u64)
 }

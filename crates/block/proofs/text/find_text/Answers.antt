@@ -17,20 +17,22 @@ loop-i-preserved c =
     let none : list_any is_zero (take 8 (drop (s.at + l.i) s.image.now)) ≡ false = sym (rw e at c.contains.ensures.value) ∙ c.if-not-contains.true in
     (omega arith, l.invariant.1 ∙ text_turn s.image.now s.at s.n c.requires 8 l.i (omega arith) none)
 
-pub returns-in-Some : goal.returns-in-Some
-returns-in-Some c =
+pub returns : goal.returns
+returns c =
     let s = c.args in
     let l = c.loop-i in
     let left = take (s.n - l.i) (drop (s.at + l.i) s.image.now) in
     let e : s.at + s.n - (s.at + l.i) ≡ s.n - l.i = omega arith in
     let found : c.position.result ≡ position_from is_zero 0 left = position_from_yields_List is_zero _ _ c.position.result c.position.ensures.ran (YieldsList-from_slice left (rw e at c.iter.ensures.rest)) (λ x b q k. search (rules, tests)) ∙ position_from-zero is_zero left in
-    ap (text_found l.i) (sym c.in-Some.is ∙ found) ∙ sym (text_is_found l.i left) ∙ sym l.invariant.1
+    let text = sym (text_is_found l.i left) ∙ sym l.invariant.1 in
+    ap (text_found l.i) (sym c.in_ok-k.was ∙ found) ∙ text
 
-pub returns-in-None : goal.returns-in-None
-returns-in-None c =
+pub returns-in_err-k : goal.returns-in_err-k
+returns-in_err-k c =
     let s = c.args in
     let l = c.loop-i in
     let left = take (s.n - l.i) (drop (s.at + l.i) s.image.now) in
     let e : s.at + s.n - (s.at + l.i) ≡ s.n - l.i = omega arith in
     let found : c.position.result ≡ position_from is_zero 0 left = position_from_yields_List is_zero _ _ c.position.result c.position.ensures.ran (YieldsList-from_slice left (rw e at c.iter.ensures.rest)) (λ x b q k. search (rules, tests)) ∙ position_from-zero is_zero left in
-    ap (text_found l.i) (sym c.in-None.is ∙ found) ∙ sym (text_is_found l.i left) ∙ sym l.invariant.1
+    let text = sym (text_is_found l.i left) ∙ sym l.invariant.1 in
+    rw c.from_residual.ensures (ap (text_found l.i) (sym c.in_err-k.was ∙ found) ∙ text)
