@@ -153,11 +153,11 @@ allocate-word size type cue p x e = go (allocate_checks size x) refl
         rw w (pack_small (pointer_to s h size) (pointer_range s h size t.opens.high (omega (arith, t.inside, t.opens.short))))
 
 -- where a new object goes, with its pointer and entry
-abbrev pub site_with : ℕ → Tagged → Result (Result Site Refusal) Refusal
+abbrev pub site_with : ℕ → Tagged → Result Site Refusal
 site_with h t = Ok (record { header = h; tagged = t })
 
 -- The answer of its tests, with the object's pointer and entry.
-unfoldable pub site_of : ℕ → ℕ → Answer → Result (Result Site Refusal) Refusal
+unfoldable pub site_of : ℕ → ℕ → Answer → Result Site Refusal
 site_of s size (Ok h) = site_with h (tagged s h size)
 site_of s size (Err r) = Err r
 
@@ -178,11 +178,11 @@ site_declined s size (Err t) r e = let w : t ≡ r = cc in ap Err w
 pub site_chosen : (s size : ℕ) (a : Answer) (h : ℕ) (t : Tagged) → site_of s size a ≡ site_with h t → (a ≡ Ok h) × (t ≡ tagged s h size)
 unfolding site_of
 site_chosen s size (Ok k) h t e =
-    let chosen : Result Site Refusal = record { header = k; tagged = tagged s k size } in
-    let wanted : Result Site Refusal = record { header = h; tagged = t } in
+    let chosen : Site = record { header = k; tagged = tagged s k size } in
+    let wanted : Site = record { header = h; tagged = t } in
     let q : chosen ≡ wanted = cc in
-    let p : k ≡ h = ap (λ (x : Result Site Refusal). x.header) q in
-    (ap Ok p, sym (ap (λ (x : Result Site Refusal). x.tagged) q) ∙ ap (λ (j : ℕ). tagged s j size) p)
+    let p : k ≡ h = ap (λ (x : Site). x.header) q in
+    (ap Ok p, sym (ap (λ (x : Site). x.tagged) q) ∙ ap (λ (j : ℕ). tagged s j size) p)
 site_chosen s size (Err r) h t e = let z : ◌≡◌ {A = ℕ} 0 1 = cc in absurd (omega arith)
 
 -- What it comes to, where rows 4 and 5 are passed.

@@ -1,5 +1,5 @@
 -- `store::allocate_for` meets its contract: refused by its tests, or the block is taken and noted. Assumes nothing.
-use Rattle.std.proofs.Common.{arith, sym, ap, ◌∙◌, Result}
+use Rattle.std.proofs.Common.{arith, sym, ap, ◌∙◌}
 use Rattle.std.proofs.lemmas.Grind.{common_steps}
 use Rattle.std.proofs.lemmas.Result.{err_from_is_err_and}
 use Rattle.std.specs.Prelude.{◌≡◌, ℕ, Ok}
@@ -17,7 +17,7 @@ use Rattle.store.proofs.Lent.{opens, opened}
 use Rattle.store.proofs.allocation.allocate_for.Goals as goal
 
 -- where its rows are passed, the tests found the block, and its tag is the object's
-chosen : (size : ℕ) (o : Opened) (x : State) (site : Result Site Refusal) → seen o ≡ x → Ok site ≡ site_of o.s size (allocate_checks size (seen o))
+chosen : (size : ℕ) (o : Opened) (x : State) (site : Site) → seen o ≡ x → Ok site ≡ site_of o.s size (allocate_checks size (seen o))
     → (allocate_checks size x ≡ Ok site.header) × (site.tagged ≡ tagged o.s site.header size)
 chosen size o x site e q =
     let (found, t) = site_chosen o.s size _ site.header site.tagged (sym q) in
