@@ -6,9 +6,6 @@ use Rattle.block.proofs.bytes.copy_down.Goals as goal
 pub loop-i-init : goal.loop-i-init
 loop-i-init c = (omega arith, refl, sym (put_nil _ _))
 
-pub loop-i-smaller : goal.loop-i-smaller
-loop-i-smaller c = omega arith
-
 pub loop-i-preserved : goal.loop-i-preserved
 loop-i-preserved c = (
   omega arith,
@@ -21,6 +18,3 @@ returns c =
     let l = c.loop-i in
     let e : l.i ≡ c.args.n = omega arith in
     rw e at l.invariant.2
-
-pub copy_part-requires : goal.copy_part-requires
-copy_part-requires c = (omega arith, omega arith, omega arith)

@@ -9,9 +9,6 @@ loop-i-init c =
     let e : c.args.n - c.args.n ≡ 0 = omega arith in
     (omega arith, refl, rw e (sym (put_nil _ _)))
 
-pub loop-i-smaller : goal.loop-i-smaller
-loop-i-smaller c = omega arith
-
 pub loop-i-preserved : goal.loop-i-preserved
 loop-i-preserved c = (
   omega arith,
@@ -24,6 +21,3 @@ returns c =
     let l = c.loop-i in
     let e : l.i ≡ 0 = omega arith in
     l.invariant.2 ∙ rw e (simp (add-zero, sub-zero))
-
-pub copy_part-requires : goal.copy_part-requires
-copy_part-requires c = (omega arith, omega arith, omega arith)
