@@ -659,14 +659,11 @@ fn other_orders(run: &mut Run) {
         order(&[31, 32, 48, 15, 179, 40, 268, 10, 65], 6, 1),
         Err(BadPlan),
     );
-    run.call("no size")
-        .gives(order(&[], 6, 1), Err(BadPlan));
+    run.call("no size").gives(order(&[], 6, 1), Err(BadPlan));
     run.call("a size of 65536")
         .gives(order(&[31, 65536], 6, 1), Err(BadPlan));
-    run.call("s = 5")
-        .gives(order(&[31], 5, 1), Err(BadPlan));
-    run.call("s = 16")
-        .gives(order(&[31], 16, 1), Err(BadPlan));
+    run.call("s = 5").gives(order(&[31], 5, 1), Err(BadPlan));
+    run.call("s = 16").gives(order(&[31], 16, 1), Err(BadPlan));
     run.call("no size and no order")
         .gives(order(&[], 6, 0), Err(BadPlan));
 }

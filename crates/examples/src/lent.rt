@@ -103,12 +103,7 @@ impl<'a> Store<'a> {
     // What is in use.
     pub fn tally(&self) -> Result<Counts, Refusal> {
         let counts = store::tally(self.image, self.table)?;
-        Ok(Counts(
-            counts.objects,
-            counts.live,
-            counts.free,
-            counts.overhead,
-        ))
+        Ok(Counts(counts.objects, counts.live, counts.free, counts.overhead))
     }
 
     // Whether there is an object or a field of this type, by a list of descriptors.
@@ -149,8 +144,9 @@ impl<'a> Store<'a> {
 // The first best order of objects of these sizes.
 pub fn order(sizes: &[u32], s: u32, budget: u64) -> Result<Order, placement::Refusal> {
     let p = placement::order(sizes, s, budget)?;
+    let places = p.order;
     Ok(Order {
-        places: p.order,
+        places,
         count: sizes.len(),
         large: p.large,
         tried: p.tried,

@@ -67,7 +67,13 @@ impl Opened<'_> {
 }
 
 // Puts the value into `width` bytes through a pointer.
-pub fn store(image: &mut [u8], table: &[u64], pointer: u64, width: u64, value: u64) -> Result<u64, Refusal>
+pub fn store(
+    image: &mut [u8],
+    table: &[u64],
+    pointer: u64,
+    width: u64,
+    value: u64,
+) -> Result<u64, Refusal>
     ensures { outcome result image.new table.now ≡ store pointer width value (state image.old table.now) }
 {
     let at = Opened::new(image, table)?.storable(pointer, width, value)?;
@@ -85,7 +91,13 @@ pub fn store_byte(image: &mut [u8], table: &[u64], pointer: u64, byte: u8) -> Re
 }
 
 // Sets that many bytes through a pointer to one value.
-pub fn fill(image: &mut [u8], table: &[u64], pointer: u64, length: u32, value: u8) -> Result<u64, Refusal>
+pub fn fill(
+    image: &mut [u8],
+    table: &[u64],
+    pointer: u64,
+    length: u32,
+    value: u8,
+) -> Result<u64, Refusal>
     ensures { outcome result image.new table.now ≡ fill pointer length value (state image.old table.now) }
 {
     let at = Opened::new(image, table)?.fillable(pointer, length)?;

@@ -80,7 +80,13 @@ fn allot(image: &mut [u8], h: u64, size: u64, ty: u64, cue: u64)
 }
 
 // A new object of `size` bytes for the cue; the number is its tagged base.
-pub fn allocate_for(image: &mut [u8], table: &mut [u64], size: u32, ty: u16, cue: u32) -> Result<u64, Refusal>
+pub fn allocate_for(
+    image: &mut [u8],
+    table: &mut [u64],
+    size: u32,
+    ty: u16,
+    cue: u32,
+) -> Result<u64, Refusal>
     ensures { outcome result image.new table.new ≡ allocate_for size ty cue (state image.old table.old) }
 {
     let site = Opened::new(image, table)?.allocatable(size)?;

@@ -49,7 +49,13 @@ fn cast(list: &[u8], wanted: u64, ty: u64, size: u64, distance: i64) -> Result<u
 }
 
 // Whether the object's type has the wanted one at the pointer's distance from the base: 1 for yes, 0 for no.
-pub fn has_type(image: &[u8], table: &[u64], list: &[u8], pointer: u64, wanted: u16) -> Result<u64, Refusal>
+pub fn has_type(
+    image: &[u8],
+    table: &[u64],
+    list: &[u8],
+    pointer: u64,
+    wanted: u16,
+) -> Result<u64, Refusal>
     ensures { result ≡ has_type list.now pointer wanted (state image.now table.now) }
 {
     let store = Opened::new(image, table)?;

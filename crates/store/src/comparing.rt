@@ -20,7 +20,13 @@ pub fn compared(answer: Result<Ordering, Refusal>) -> i64
 }
 
 // How that many bytes of the left stand to those of the right.
-pub fn compare(image: &[u8], table: &[u64], left: u64, right: u64, length: u32) -> Result<Ordering, Refusal>
+pub fn compare(
+    image: &[u8],
+    table: &[u64],
+    left: u64,
+    right: u64,
+    length: u32,
+) -> Result<Ordering, Refusal>
     ensures { result ≡ compare left right length (state image.now table.now) }
 {
     let b = Opened::new(image, table)?.both(left, right, length)?;

@@ -23,7 +23,13 @@ impl Opened<'_> {
 }
 
 // Copies that many bytes, as if all of the source's were read first.
-pub fn copy(image: &mut [u8], table: &[u64], target: u64, source: u64, length: u32) -> Result<u64, Refusal>
+pub fn copy(
+    image: &mut [u8],
+    table: &[u64],
+    target: u64,
+    source: u64,
+    length: u32,
+) -> Result<u64, Refusal>
     ensures { outcome result image.new table.now ≡ copy target source length (state image.old table.now) }
 {
     let from = Opened::new(image, table)?.both(target, source, length)?;

@@ -27,12 +27,12 @@ pub allot-requires : goal.allot-requires
 allot-requires c = let a = allocate_parts _ _ _ (chosen _ c.in_ok-new.field-0 _ _ c.in_ok-new.ensures c.in_ok-site.ensures).0 in (a.lowest.is_sound, a.lowest.fits_in, a.total_holds)
 
 pub note-requires : goal.note-requires
-note-requires c = 
+note-requires c =
     let (found, t) = chosen _ c.in_ok-new.field-0 _ _ c.in_ok-new.ensures c.in_ok-site.ensures in
     rw t (tagged_in _ _ _ _ (fit_needs (state _ _) _ _ _ (opened c.in_ok-new.field-0 _ c.in_ok-new.ensures) (allocate_parts _ _ _ found).found).3)
 
 pub pack-requires : goal.pack-requires
-pack-requires c = 
+pack-requires c =
     let (found, t) = chosen _ c.in_ok-new.field-0 _ _ c.in_ok-new.ensures c.in_ok-site.ensures in
     let o = opened c.in_ok-new.field-0 _ c.in_ok-new.ensures in
     rw (c.pointer.ensures ∙ ap tagged_pointer t ∙ tagged_pointer_lem _ _ _) (pointer_range _ _ _ o.high (omega (arith, (allocate_parts _ _ _ found).inside, o.short)))
@@ -47,7 +47,7 @@ returns-in_err-site c = let p = err_from_is_err_and c.from_residual-in_err-site.
 
 -- the object
 pub returns : goal.returns
-returns c = 
+returns c =
     let (found, t) = chosen _ c.in_ok-new.field-0 _ _ c.in_ok-new.ensures c.in_ok-site.ensures in
     allocate_done _ (state _ _) _ _ _ _ _ _ _ _ found (opened c.in_ok-new.field-0 _ c.in_ok-new.ensures).exponent c.allot.ensures (c.pointer.ensures ∙ ap tagged_pointer t ∙ tagged_pointer_lem _ _ _)
     (c.note.ensures ∙ ap (λ (u : Tagged). noted_for u c.in_ok-site.site.header c.args.table.now) t ∙ tagged-noted _ _ _ _ _)

@@ -38,7 +38,7 @@ returns-in_err-object c = rw (← c.in_ok-store.ensures) (let p = err_from_is_er
 
 -- row 25, or the answer
 pub returns : goal.returns
-returns c = 
+returns c =
     let a = c.args in
     let opened : State = seen c.in_ok-store.store in
     let good : good_list a.list.now ≡ true = sym c.good_list.ensures ∙ c.if-not-good_list.false in

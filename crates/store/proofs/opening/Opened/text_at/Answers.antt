@@ -27,20 +27,20 @@ pub returns-then-not-in_body : goal.returns-then-not-in_body
 returns-then-not-in_body c = grind (arith, common_steps, text_out)
 
 pub overflow_cast-object : goal.overflow_cast-object
-overflow_cast-object c = 
+overflow_cast-object c =
     let ahead = body_ahead _ _ (seen c.args.self.now) _ (sym c.in_ok-object.ensures) c.args.self.now.opens (sym c.if-not-in_body.ensures) in
     let fits : SFits w64 c.in_ok-object.object.remaining = search rules in
     rw (to_z-of_z fits ∙ ahead.remaining) (tt, record { fits = omega (arith, ahead.inside, ahead.short) })
 
 pub find_text-requires : goal.find_text-requires
-find_text-requires c = 
+find_text-requires c =
     let ahead = body_ahead _ _ (seen c.args.self.now) _ (sym c.in_ok-object.ensures) c.args.self.now.opens (sym c.if-not-in_body.ensures) in
     let fits : SFits w64 c.in_ok-object.object.remaining = search rules in
     rw (to_z-of_z fits ∙ ahead.remaining) (omega (arith, ap (λ (p : Pointer). p.address) c.unpack-at.ensures, ahead.inside))
 
 -- the length, or row 20
 pub returns : goal.returns
-returns c = 
+returns c =
     let ahead = body_ahead _ _ (seen c.args.self.now) _ (sym c.in_ok-object.ensures) c.args.self.now.opens (sym c.if-not-in_body.ensures) in
     let fits : SFits w64 c.in_ok-object.object.remaining = search rules in
     c.ok_or.ensures.value
