@@ -78,15 +78,6 @@ module _ (s : ℕ) (p : Pointer) (n : ℕ) (x : State) where
   unfolding reached_by
   access_refused r e = sym (ap (λ (f : Result Reading Refusal). reached_by f p n) e) ∙ reached_by_lem s p n x
 
-  module _ (o : Reading) (read : read_tag s p x ≡ Ok o) where
-    through_tag : demand (le_z (pos 0) o.offset && le_z (pos n) o.remaining) OutOfBounds (Ok p.address) ≡ accessed s p n x
-    unfolding reached_by
-    through_tag = sym (ap (λ (f : Result Reading Refusal). reached_by f p n) read) ∙ reached_by_lem s p n x
-
-    -- row 13
-    pub access_outside : le_z (pos 0) o.offset && le_z (pos n) o.remaining ≡ false → Err OutOfBounds ≡ accessed s p n x
-    access_outside e = ap (λ (b : Bool). demand b OutOfBounds (Ok p.address)) (sym e) ∙ through_tag
-
-    -- the address
-    pub access_inside : le_z (pos 0) o.offset && le_z (pos n) o.remaining ≡ true → Ok p.address ≡ accessed s p n x
-    access_inside e = ap (λ (b : Bool). demand b OutOfBounds (Ok p.address)) (sym e) ∙ through_tag
+  -- row 13, or the address
+  pub access_reached : (o : Reading) → read_tag s p x ≡ Ok o → reached_by (Ok o) p n ≡ accessed s p n x
+  access_reached o e = sym (ap (λ (f : Result Reading Refusal). reached_by f p n) e) ∙ reached_by_lem s p n x

@@ -11,6 +11,7 @@ use frame::Pointer;
 
 impl Opened<'_> {
     // The rows of copy and of compare; the number is the second pointer's address.
+    #[inline(always)]
     pub fn both(&self, first: u64, second: u64, length: u32) -> Result<u64, Refusal>
         ensures { result ≡ copy_checks first second length (seen self.now) }
     {

@@ -1,8 +1,9 @@
 // From a pointer to the header that its tag leads to, and to the bytes behind its address.
-ghost use Rattle.std.specs.Prelude.{◌≡◌, true, false, ◌&&◌, ◌+◌, ◌<◌, ◌^◌, pos};
+ghost use Rattle.std.specs.Prelude.{◌≡◌, Ok, true, false, ◌&&◌, ◌+◌, ◌<◌, ◌^◌, pos};
 ghost use Rattle.std.specs.Int.Signed.{le_z};
 ghost use Rattle.frame.specs.Pointers.{InRange, unpack};
 ghost use Rattle.store.specs.Calls.{reading, read_tag, accessed};
+ghost use Rattle.store.specs.laws.Access.{reached_by};
 ghost use Rattle.store.specs.Opened.{seen};
 
 use crate::answer::Refusal;
@@ -34,6 +35,20 @@ impl Reading {
     }
 }
 
+impl Reading {
+    // Row 13 for n bytes through the pointer whose tag was read; the number is the address.
+    #[inline(always)]
+    fn reach(self, p: Pointer, n: u64) -> Result<u64, Refusal>
+        requires { n < 2 ^ 63 }
+        ensures { result ≡ reached_by (Ok self) p n }
+    {
+        if !self.in_body(n) {
+            return Err(Refusal::OutOfBounds);
+        }
+        Ok(p.address)
+    }
+}
+
 // The object of `size` bytes at h, with the pointer's distances: the one place that measures them.
 fn measure(p: Pointer, h: u64, size: u64) -> Reading
     requires { (InRange p) × (h + 16 + size < 2 ^ 63) }
@@ -55,6 +70,7 @@ fn measure(p: Pointer, h: u64, size: u64) -> Reading
 
 impl Opened<'_> {
     // Reads a small-framed tag: rows 10 and 11. The header stands in the pointer's slot, so no table is read.
+    #[inline(always)]
     fn small_object(&self, p: Pointer) -> Result<Reading, Refusal>
         requires { (InRange p) × (p.flag ≡ true) }
         ensures { result ≡ read_tag self.now.s p (seen self.now) }
@@ -71,6 +87,7 @@ impl Opened<'_> {
     }
 
     // Reads a large-framed tag: rows 10 and 11. An entry may hold any number.
+    #[inline(always)]
     fn large_object(&self, p: Pointer) -> Result<Reading, Refusal>
         requires { (InRange p) × (p.flag ≡ false) }
         ensures { result ≡ read_tag self.now.s p (seen self.now) }
@@ -91,6 +108,7 @@ impl Opened<'_> {
     }
 
     // Reads a tag: rows 10 and 11.
+    #[inline(always)]
     pub fn locate(&self, pointer: u64) -> Result<Reading, Refusal>
         ensures { result ≡ read_tag self.now.s (unpack pointer) (seen self.now) }
     {
@@ -103,14 +121,16 @@ impl Opened<'_> {
     }
 
     // n bytes through a pointer: rows 10, 11 and 13; the number is the address.
+    #[inline(always)]
     pub fn access(&self, pointer: u64, n: u64) -> Result<u64, Refusal>
         requires { n < 2 ^ 63 }
         ensures { result ≡ accessed self.now.s (unpack pointer) n (seen self.now) }
     {
-        let object = self.locate(pointer)?;
-        if !object.in_body(n) {
-            return Err(Refusal::OutOfBounds);
+        let p = Pointer::unpack(pointer);
+        if p.flag {
+            self.small_object(p)?.reach(p, n)
+        } else {
+            self.large_object(p)?.reach(p, n)
         }
-        Ok(Pointer::unpack(pointer).address)
     }
 }

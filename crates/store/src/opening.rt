@@ -23,7 +23,9 @@ impl<'a> Opened<'a> {
     pub fn new(image: &'a [u8], table: &'a [u64]) -> Result<Opened<'a>, Refusal>
         ensures { OpenedAs result (state image.entry.now table.entry.now) }
     {
-        let s = open(image).ok_or(Refusal::BadSuperblock)?;
+        let Some(s) = open(image) else {
+            return Err(Refusal::BadSuperblock);
+        };
         if (table.len() as u64) < used_entries(s, image.len() as u64) {
             return Err(Refusal::ShortTable);
         }

@@ -9,8 +9,8 @@ pub used_entries-requires : goal.used_entries-requires
 used_entries-requires c = grind (arith, common_steps, superblock_parts, opened_is_good)
 
 -- row 4
-pub returns-in_err-s : goal.returns-in_err-s
-returns-in_err-s c = grind (arith, common_steps, opened_is_bad, not_open)
+pub returns-in_default : goal.returns-in_default
+returns-in_default c = grind (arith, common_steps, opened_is_bad, not_open)
 
 -- row 5
 pub returns-then-table-used_entries : goal.returns-then-table-used_entries
