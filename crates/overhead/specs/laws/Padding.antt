@@ -1,8 +1,10 @@
 -- Padded blocks: the power of two that one has, and the multiple where it starts. Assumes nothing.
-use Rattle.std.specs.Prelude.{ℕ, zero, suc, ◌+◌, ◌-◌, ◌*◌, ◌/◌, ◌^◌, ◌≤◌, ◌<◌, ◌≡◌, refl, leb}
-use Rattle.std.proofs.Common.{sym, ap, ◌∙◌, add-zero, pow-suc, mul-le-mul_right, div-lt_iff_lt-mul, suc-mul, suc-add, add-suc, sub-add_cancel, arith, pow_pos, pow_mono, pow-add, leb-true, leb-false}
+use Rattle.std.specs.Prelude.{ℕ, zero, suc, ◌+◌, ◌-◌, ◌*◌, ◌/◌, ◌%◌, ◌^◌, ◌≤◌, ◌<◌, ◌≡◌, refl, max, leb}
+use Rattle.std.proofs.Common.{sym, ap, ◌∙◌, one-mul, add-zero, pow-suc, mul-le-mul_right, div-lt_iff_lt-mul, suc-mul, suc-add, add-suc, sub-add_cancel, arith, pow_pos, pow_mono, pow-add, leb-true, leb-false}
 use Rattle.std.proofs.Math.Nat.{two-pow-succ, lt-div-mul-add}
 use Rattle.std.proofs.Math.Pow.{pow-lt}
+use lib.Count.{count_leading_zeros}
+use Rattle.std.proofs.lemmas.Nat.{leading_top, shl_whole}
 use Rattle.block.specs.laws.Booleans.{by_bool}
 use Rattle.overhead.specs.Overhead.{doubled_in, padded, block_start}
 use Rattle.overhead.specs.Claims.{LowestPower, LowestMultiple}
@@ -46,6 +48,23 @@ one_power size p q a b =
     let l = a.lowest m (omega (arith, b.least)) (omega (arith, b.covers)) in
     let g = b.lowest n (omega (arith, a.least)) (omega (arith, a.covers)) in
     omega arith
+
+-- 2 to the length in bits of one less than the bytes to hold is the padded size
+pub by_length : (size held : ℕ) → size ≤ 65536 → held ≡ max size 16 → (1 * 2 ^ (32 - count_leading_zeros 32 (held - 1))) % 2 ^ 64 ≡ padded size
+by_length size held h is =
+    let (j, e, l, m) = leading_top 32 (held - 1) (omega arith) (omega arith) in
+    let length_is : 32 - count_leading_zeros 32 (held - 1) ≡ suc j = omega arith in
+    let lowest : LowestPower size (2 ^ suc j) =
+    record {
+      power = (suc j, refl);
+      least = omega arith;
+      covers = omega arith;
+      lowest = λ n a b. half_at_most j n (omega arith);
+    } in
+    ap (λ (n : ℕ). (1 * 2 ^ n) % 2 ^ 64) length_is
+    ∙ shl_whole 1 1 (suc j) 64 (omega arith) (omega arith)
+    ∙ one-mul (2 ^ suc j)
+    ∙ one_power size (2 ^ suc j) (padded size) lowest (lowest_power size)
 
 -- a padded size is 65,536 at most
 pub padded_most : (size : ℕ) → size ≤ 65536 → padded size ≤ 65536
