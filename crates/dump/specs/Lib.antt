@@ -1,2 +1,3 @@
 -- definitions
 pub mod Dump
+pub mod Files

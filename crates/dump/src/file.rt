@@ -1,4 +1,7 @@
 // The files of a dump, as arguments name them: `IMAGE=winch.image TABLE=winch.table`.
+ghost use Rattle.std.specs.Prelude.{◌≡◌, true, false, MatchOption};
+ghost use Rattle.dump.specs.Files.{names_file, file_name, file_bytes};
+
 use crate::Dump;
 use std::env::FillError;
 use std::fmt::{Display, Formatter};
@@ -12,28 +15,44 @@ const IMAGE: &[u8] = b"IMAGE=";
 const TABLE: &[u8] = b"TABLE=";
 
 // Such a word has at most 4,096 bytes of name.
-const LONGEST: usize = 4102;
+pub const LONGEST_WORD: usize = 4102;
 
-// Whether argument i is a word that names a file for a dump. The name may be empty.
-pub fn names_dump(rt: &impl Env, i: usize) -> bool {
-    let mut buf = [0u8; LONGEST];
-    match argument(rt, i, &mut buf) {
-        Ok(word) => word.starts_with(IMAGE) || word.starts_with(TABLE),
-        Err(_) => false,
-    }
+// A file, and what it is to hold.
+#[derive(Drop)]
+pub struct Named<'a> {
+    pub name: &'a [u8],
+    pub bytes: &'a [u8],
+}
+
+// Whether a word names a file for a dump. The name may be empty.
+#[tactic(auto, unfolding(crate::specs::Files::names_file, crate::specs::Files::names_image))]
+pub fn names_file(word: &[u8]) -> bool
+    ensures { result ≡ names_file word.now }
+{
+    word.starts_with(IMAGE) || word.starts_with(TABLE)
 }
 
 impl Dump {
-    // Makes image or entries the whole of the file that argument i names, if it names one. A failure is told on standard error, and
-    // the exit status stays 0.
+    // The file that a word names.
+    #[tactic(auto, unfolding(crate::specs::Files::names_file, crate::specs::Files::names_image, crate::specs::Files::file_name, crate::specs::Files::file_bytes))]
+    pub fn named<'a>(&'a self, word: &'a [u8]) -> Option<Named<'a>>
+        ensures { MatchOption result (names_file word.now ≡ false) (λ file. (names_file word.now ≡ true) × (file.name.now ≡ file_name word.now) × (file.bytes.now ≡ file_bytes self.now.image self.now.entries word.now)) }
+    {
+        if let Some(name) = word.strip_prefix(IMAGE) {
+            return Some(Named { name, bytes: &self.image });
+        }
+        let name = word.strip_prefix(TABLE)?;
+        Some(Named { name, bytes: &self.entries })
+    }
+
+    // Writes the file that argument i names, if it names one. A failure is told on standard error, and the exit status stays 0.
+    // Without a clause: std's say nothing of arguments and files.
     pub fn write_named(&self, rt: &(impl Env + Files + Eprint), i: usize) {
-        let mut buf = [0u8; LONGEST];
-        match argument(rt, i, &mut buf) {
-            Ok(word) => {
-                if let Some(name) = word.strip_prefix(IMAGE) {
-                    write_file(rt, name, &self.image);
-                } else if let Some(name) = word.strip_prefix(TABLE) {
-                    write_file(rt, name, &self.entries);
+        let mut buf = [0u8; LONGEST_WORD];
+        match rt.arg(i, &mut buf) {
+            Ok(n) => {
+                if let Some(file) = self.named(&buf[..n]) {
+                    file.write(rt);
                 }
             }
             Err(FillError::NotPresent) => {}
@@ -42,23 +61,19 @@ impl Dump {
     }
 }
 
-// Argument i, in `buf`.
-fn argument<'a>(rt: &impl Env, i: usize, buf: &'a mut [u8]) -> Result<&'a [u8], FillError> {
-    let n = rt.arg(i, buf)?;
-    Ok(&buf[..n])
-}
-
-// Makes `bytes` the whole of the file of this name; an empty name is none. The library takes text alone as a name.
-fn write_file(rt: &(impl Files + Eprint), name: &[u8], bytes: &[u8]) {
-    if name.is_empty() {
-        return;
-    }
-    let Ok(name) = str::from_utf8(name) else {
-        fail(rt, "name of a dump", "Not UTF-8");
-        return;
-    };
-    if let Err(error) = fs::write(rt, name, bytes) {
-        fail(rt, name, Reason(error));
+impl Named<'_> {
+    // Makes `bytes` the whole of the file; an empty name is none. The library takes text alone as a name.
+    fn write(&self, rt: &(impl Files + Eprint)) {
+        if self.name.is_empty() {
+            return;
+        }
+        let Ok(name) = str::from_utf8(self.name) else {
+            fail(rt, "name of a dump", "Not UTF-8");
+            return;
+        };
+        if let Err(error) = fs::write(rt, name, self.bytes) {
+            fail(rt, name, Reason(error));
+        }
     }
 }
 

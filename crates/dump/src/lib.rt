@@ -7,7 +7,7 @@ ghost use Rattle.std.specs.Prelude.{◌≡◌, ◌*◌, length};
 ghost use Rattle.dump.specs.Dump.{table_bytes};
 
 use block::bytes::write;
-pub use file::names_dump;
+pub use file::{LONGEST_WORD, Named, names_file};
 
 // The image and the table's entries, 8 bytes for each.
 #[derive(Drop)]

@@ -5,7 +5,7 @@
 mod number;
 mod recording;
 
-use dump::names_dump;
+use dump::{LONGEST_WORD, names_file};
 use number::read_number;
 use recording::recorded;
 use std::env::FillError;
@@ -18,7 +18,12 @@ fn is_given(rt: &impl Env, i: usize) -> bool {
 
 // Whether argument i may stand where no number may: it is missing, or names a file.
 fn is_behind(rt: &impl Env, i: usize) -> bool {
-    !is_given(rt, i) || names_dump(rt, i)
+    let mut word = [0u8; LONGEST_WORD];
+    match rt.arg(i, &mut word) {
+        Ok(n) => names_file(&word[..n]),
+        Err(FillError::NotPresent) => true,
+        Err(FillError::TooLong) => false,
+    }
 }
 
 // Argument i as a number; `default` where it is missing or names a file. One of over 64 bytes is refused, as an empty one is.
@@ -37,7 +42,7 @@ fn requested(rt: &impl Env) -> Option<(u64, u64)> {
     let is_malformed = is_given(rt, 5)
         || !is_behind(rt, 3)
         || !is_behind(rt, 4)
-        || (names_dump(rt, 1) && !is_behind(rt, 2));
+        || (is_behind(rt, 1) && !is_behind(rt, 2));
     if is_malformed {
         return None;
     }
