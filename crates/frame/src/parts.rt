@@ -53,10 +53,7 @@ impl Pointer {
         requires { (s < 16) × (self.flag ≡ false) }
         ensures { result ≡ good_tag s self }
     {
-        if self.tag <= s as u64 {
-            return false;
-        }
-        self.tag <= 31
+        (s as u64) < self.tag && self.tag <= 31
     }
 
     // The exponent of the slot or frame that the pointer may move in, for the slot exponent s; none where the tag number is out of range.

@@ -3,16 +3,16 @@ ghost use Rattle.std.specs.Prelude.{◌≡◌, true, ◌+◌, ◌<◌, ◌≤◌
 ghost use Rattle.frame.specs.Frame.{frame_start};
 ghost use Rattle.frame.specs.Pointers.{InRange, good_tag};
 ghost use Rattle.frame.specs.Tags.{first_held, last_held, wrapper, tag_matches, used_entries, entry_at};
-ghost use Rattle.frame.specs.laws.Tags.{slot_holds, frame_holds, tagged, tagged_pointer};
+ghost use Rattle.frame.specs.laws.Tags.{slot_holds, frame_holds, tagged};
 
 use crate::number::{frame_number, frame_start, same_frame};
 use crate::parts::Pointer;
 
 // The pointer to an object, with its table entry where it is large-framed.
 #[derive(Clone, Copy)]
-pub enum Tagged {
-    Small(Pointer),
-    Large(Pointer, usize),
+pub struct Tagged {
+    pub pointer: Pointer,
+    pub entry: Option<usize>,
 }
 
 // The first byte that the wrapper frame of an object holds: its header's.
@@ -60,34 +60,25 @@ pub fn tag_object(s: u32, h: u64, size: u64) -> Tagged
     requires { (s < 16) × (16 ≤ h) × (h + 16 + size ≤ 2 ^ 30) }
     ensures { result ≡ tagged s h size }
 {
+    let address = h + 16;
     if same_frame(s, first_held(h), last_held(h, size)) {
-        Tagged::Small(Pointer {
-            flag: true,
-            tag: h - frame_start(h, s),
-            address: h + 16,
-        })
+        Tagged {
+            pointer: Pointer {
+                flag: true,
+                tag: h - frame_start(h, s),
+                address,
+            },
+            entry: None,
+        }
     } else {
         let n = wrapper_above(s, h, size);
-        let entry = entry_index(s, n, h);
-        Tagged::Large(
-            Pointer {
+        Tagged {
+            pointer: Pointer {
                 flag: false,
                 tag: n as u64,
-                address: h + 16,
+                address,
             },
-            entry,
-        )
-    }
-}
-
-impl Tagged {
-    // The pointer alone.
-    pub fn pointer(self) -> Pointer
-        ensures { result ≡ tagged_pointer self }
-    {
-        match self {
-            Tagged::Small(p) => p,
-            Tagged::Large(p, _) => p,
+            entry: Some(entry_index(s, n, h)),
         }
     }
 }
@@ -100,18 +91,12 @@ impl Pointer {
     {
         let a = first_held(h);
         let e = last_held(h, size);
-        let t = self.tag;
         if self.flag {
-            if !same_frame(s, a, e) {
-                return false;
-            }
-            return h - frame_start(h, s) == t;
+            same_frame(s, a, e) && h - frame_start(h, s) == self.tag
+        } else {
+            let n = self.tag as u32;
+            same_frame(n, a, e) && !same_frame(n - 1, a, e)
         }
-        let n = t as u32;
-        if !same_frame(n, a, e) {
-            return false;
-        }
-        !same_frame(n - 1, a, e)
     }
 
     // Whether the object of `size` bytes that a small-framed tag leads to has this very tag: its header stands at that place of the slot, so its last byte
@@ -130,9 +115,6 @@ impl Pointer {
     {
         let half = self.tag as u32 - 1;
         let lower = 2 * (self.address >> (self.tag as u32));
-        if h >> half != lower {
-            return false;
-        }
-        last_held(h, size) >> half == lower + 1
+        h >> half == lower && last_held(h, size) >> half == lower + 1
     }
 }
