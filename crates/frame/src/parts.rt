@@ -75,19 +75,8 @@ impl Pointer {
         requires { (InRange self) × (n < 64) }
         ensures { result ≡ moved self n distance }
     {
-        let from = self.address;
-        if distance > 0xffff_ffff_ffff {
-            return None;
-        }
-        let sum = from as i64 + distance;
-        if sum < 0 {
-            return None;
-        }
-        let to = sum as u64;
-        if to > 0xffff_ffff_ffff {
-            return None;
-        }
-        if to >> n == from >> n {
+        let to = self.address.checked_add_signed(distance)?;
+        if to <= 0xffff_ffff_ffff && to >> n == self.address >> n {
             Some(Pointer {
                 address: to,
                 ..self

@@ -1,6 +1,6 @@
 -- `frame::tag_object` meets its contract: one test by shifts says whether the object is small-framed; only a large-framed one has its frame number found.
 -- Assumes nothing.
-use Rattle.std.proofs.Common.{◌≤◌, ◌<◌, ◌^◌, sym, ◌∙◌, div-mul-le_self, arith}
+use Rattle.std.proofs.Common.{◌≤◌, ◌<◌, ◌^◌, div-mul-le_self, arith}
 use Rattle.frame.specs.Tags.{wrapper}
 use Rattle.frame.specs.laws.Wrappers.{wrapper-at_most}
 use Rattle.frame.specs.laws.Tags.{tagged, pointer_small, pointer_large, tagged_small, tagged-large}

@@ -1,6 +1,5 @@
 -- `frame::Pointer::frame_holds`: the header's half of the frame, then the last byte's. Assumes nothing.
-use Rattle.std.proofs.Common.{arith, eq-eqb, ne_eqb}
-use Rattle.std.proofs.lemmas.Nat.{shr_le}
+use Rattle.std.proofs.Common.{eq-eqb, ne_eqb}
 use Rattle.frame.proofs.parts.Pointer.frame_holds.Goals as goal
 
 -- the header is in the lower half: the last byte decides

@@ -1,5 +1,5 @@
 -- `frame::Pointer::tag_matches`: each way out is a way through the test (`Tests`). Assumes nothing.
-use Rattle.std.proofs.Common.{arith, sym, ◌∙◌, ◌≤◌, ◌<◌}
+use Rattle.std.proofs.Common.{arith}
 use Rattle.frame.specs.laws.Pointers.{good_large}
 use Rattle.frame.proofs.Tests.{flagged, framed}
 use Rattle.frame.proofs.parts.Pointer.tag_matches.Goals as goal
