@@ -14,31 +14,27 @@ pub fn slot_exponent(image: &[u8]) -> u64
     read::<2>(image, 6)
 }
 
+// The length of the longest image, in bytes.
+const LONGEST: u64 = 1 << 30;
+
 // The slot exponent of any image whose superblock is as laid out.
 pub fn open(image: &[u8]) -> Option<u32>
     ensures { result ≡ opened image.now }
 {
     let len = image.len() as u64;
-    if len < 64 {
+    if len < 64 || LONGEST < len {
         return None;
     }
-    if 1073741824 < len {
-        return None;
-    }
-    if read::<4>(image, 0) != 16 {
-        return None;
-    }
-    if read::<2>(image, 4) != 3 {
-        return None;
-    }
-    if read::<4>(image, 8) != len {
+    if (
+        read::<4>(image, 0),
+        read::<2>(image, 4),
+        read::<4>(image, 8),
+    ) != (16, 3, len)
+    {
         return None;
     }
     let s = slot_exponent(image);
-    if s < 6 {
-        return None;
-    }
-    if 15 < s {
+    if s < 6 || 15 < s {
         return None;
     }
     Some(s as u32)

@@ -7,4 +7,4 @@ use Rattle.block.proofs.header.free_sound.Goals as goal
 -- each test, by the field that it reads
 pub returns : goal.returns
 unfolding header_at
-returns c = rw (c.requires.2, c.type_at-ty.ensures, c.size_at-size.ensures, c.cue_at-cue.ensures) (sym (free_by _ _ c.requires.0 c.requires.1 c.requires.3))
+returns c = rw (c.requires.2, c.type_at.ensures, c.size_at.ensures, c.cue_at.ensures) (sym (free_by _ _ c.requires.0 c.requires.1 c.requires.3))

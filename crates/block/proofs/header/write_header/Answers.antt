@@ -6,5 +6,5 @@ use Rattle.block.proofs.header.write_header.Goals as goal
 pub returns : goal.returns
 unfolding header
 returns c =
-    let a = c.args in
-    cc (put-fields a.image.now a.h a.extent a.kind a.ty a.size a.cue c.requires)
+    let d = c.args.d in
+    cc (put-fields c.args.image.now c.args.h d.extent d.kind d.ty d.size d.cue c.requires)
