@@ -1,31 +1,29 @@
--- Moves: where the sum of address and distance is no 64-bit address, and where it is. Assumes nothing.
-use Rattle.std.proofs.Common.{◌≡◌, ℕ, ◌<◌, ◌^◌, ℤ, pos, negsuc, ◌+ℤ◌, refl, ap, arith, le-leb, le-ltb, lt-ltb, w64, None}
-use Rattle.std.specs.Prelude.{unsigned_abs}
-use Rattle.std.specs.Int.{FitsUnsigned}
-use Rattle.frame.specs.Pointers.{landed, moved}
+-- Moves: the wrapped sum of address and distance lands where the sum of the integers does. Assumes nothing.
+use Rattle.std.specs.Prelude.{◌≡◌, ℕ, suc, ◌+◌, ◌-◌, ◌%◌, ◌≤◌, ◌^◌, ltb, ℤ, pos, negsuc, FitsSigned}
+use Rattle.std.proofs.Common.{ap, ⊎_elim, arith, le-ltb, ltb-true, ltb-false, w64, to_z, of_z}
+use Rattle.std.proofs.Math.Facts.{to_z-of_z}
+use Rattle.std.proofs.lemmas.Bool.{cases_Bool}
+use Rattle.std.specs.Int.{cast_unsigned}
+use Rattle.frame.specs.Pointers.{InRange, landed, moved}
 use Rattle.frame.specs.declared.parts.Pointer.{Pointer}
 
--- an address is a number of 64 bits, and only that
-natural : (x : ℕ) → x < 2 ^ 48 → FitsUnsigned w64 (pos x)
-natural x l = (record { le = rw (le-leb 0 x (omega arith)) tt }, record { lt = rw (lt-ltb x (2 ^ 64) (omega arith)) tt })
+-- a negative sum wraps to a number above every address
+wrapped : (p : Pointer) (n : ℕ) (d : ℤ) (t : ℕ) → InRange p → FitsSigned w64 d → t ≡ (p.address + cast_unsigned w64 d) % 2 ^ 64 → landed p n (pos t) ≡ moved p n d
+unfolding moved landed
+wrapped p n (pos k) t r f e =
+    let a = r.address in
+    let b = f.sfits in
+    let sum : t ≡ p.address + k = omega arith in
+    ap (λ (x : ℕ). landed p n (pos x)) sum
+wrapped p n (negsuc k) t r f e =
+    let a = r.address in
+    let b = f.sfits in
+    ⊎_elim
+    (λ l. let high : 2 ^ 48 ≤ t = omega (arith, ltb-true _ _ l) in rw l (simp (le-ltb t (2 ^ 48) high)))
+    (λ l. let sum : t ≡ p.address - suc k = omega (arith, ltb-false _ _ l) in rw l (ap (λ (x : ℕ). landed p n (pos x)) sum))
+    (cases_Bool (ltb p.address (suc k)))
 
-number : (z : ℤ) (a : ℕ) → FitsUnsigned w64 z × (a ≡ unsigned_abs z) → pos a ≡ z
-number (pos x) a f = ap pos f.1
-number (negsuc x) a f = absurd f.0.0.le
-
--- the sum is negative, or past every address
-lost : (p : Pointer) (n : ℕ) (z : ℤ) → (FitsUnsigned w64 z → ⊥) → None ≡ landed p n z
-unfolding landed
-lost p n (pos x) f =
-    let past : x < 2 ^ 48 → ⊥ = λ l. f (natural x l) in
-    simp (le-ltb x (2 ^ 48) (omega (arith, past)))
-lost p n (negsuc x) f = refl
-
-pub moved-lost : (p : Pointer) (n : ℕ) (d : ℤ) → (FitsUnsigned w64 (pos p.address +ℤ d) → ⊥) → None ≡ moved p n d
-unfolding moved
-moved-lost p n d f = lost p n (pos p.address +ℤ d) f
-
--- it is an address
-pub moved_landed : (p : Pointer) (n : ℕ) (d : ℤ) (a : ℕ) → FitsUnsigned w64 (pos p.address +ℤ d) × (a ≡ unsigned_abs (pos p.address +ℤ d)) → landed p n (pos a) ≡ moved p n d
-unfolding moved
-moved_landed p n d a f = ap (landed p n) (number _ a f)
+-- the same, of the distance as the machine has it
+pub moved_wrapped : (p : Pointer) (n : ℕ) (d : ℤ) (t : ℕ) → InRange p → FitsSigned w64 d → t ≡ (p.address + cast_unsigned w64 (to_z w64 (of_z w64 d))) % 2 ^ 64
+    → landed p n (pos t) ≡ moved p n d
+moved_wrapped p n d t r f e = wrapped p n d t r f (rw (to_z-of_z f) at e)

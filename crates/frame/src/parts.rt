@@ -75,7 +75,8 @@ impl Pointer {
         requires { (InRange self) × (n < 64) }
         ensures { result ≡ moved self n distance }
     {
-        let to = self.address.checked_add_signed(distance)?;
+        // a negative sum wraps to a number above every address
+        let to = self.address.wrapping_add_signed(distance);
         if to <= 0xffff_ffff_ffff && to >> n == self.address >> n {
             Some(Pointer {
                 address: to,
