@@ -23,6 +23,7 @@ pub struct Header {
 }
 
 // The extent in the header at h, in bytes.
+#[tactic(auto, unfolding(crate::specs::Layout::header_at))]
 pub fn extent_at(image: &[u8], h: usize) -> u64
     requires { h + 16 ≤ length image.now }
     ensures { result ≡ extent_at image.now h }
@@ -31,6 +32,7 @@ pub fn extent_at(image: &[u8], h: usize) -> u64
 }
 
 // Its kind.
+#[tactic(auto, unfolding(crate::specs::Layout::header_at))]
 pub fn kind_at(image: &[u8], h: usize) -> u64
     requires { h + 16 ≤ length image.now }
     ensures { result ≡ kind_at image.now h }
@@ -39,6 +41,7 @@ pub fn kind_at(image: &[u8], h: usize) -> u64
 }
 
 // Its type number.
+#[tactic(auto, unfolding(crate::specs::Layout::header_at))]
 fn type_at(image: &[u8], h: usize) -> u64
     requires { h + 16 ≤ length image.now }
     ensures { result ≡ type_at image.now h }
@@ -47,6 +50,7 @@ fn type_at(image: &[u8], h: usize) -> u64
 }
 
 // The raw size in it, in bytes.
+#[tactic(auto, unfolding(crate::specs::Layout::header_at))]
 pub fn size_at(image: &[u8], h: usize) -> u64
     requires { h + 16 ≤ length image.now }
     ensures { result ≡ size_at image.now h }
@@ -55,6 +59,7 @@ pub fn size_at(image: &[u8], h: usize) -> u64
 }
 
 // The number of its cue.
+#[tactic(auto, unfolding(crate::specs::Layout::header_at))]
 fn cue_at(image: &[u8], h: usize) -> u64
     requires { h + 16 ≤ length image.now }
     ensures { result ≡ cue_at image.now h }
@@ -63,6 +68,7 @@ fn cue_at(image: &[u8], h: usize) -> u64
 }
 
 // The fields of the header at h.
+#[tactic(auto, unfolding(crate::specs::Layout::header_at))]
 pub fn read_header(image: &[u8], h: usize) -> Header
     requires { h + 16 ≤ length image.now }
     ensures { result ≡ header_at image.now h }
@@ -77,6 +83,7 @@ pub fn read_header(image: &[u8], h: usize) -> Header
 }
 
 // Whether the header at h, of a free block, is sound.
+#[tactic(auto, using(crate::proofs::Headers::free_by), unfolding(crate::specs::Layout::header_at))]
 fn free_sound(image: &[u8], h: usize, extent: u64) -> bool
     requires { (16 ≤ h) × (h + 16 ≤ length image.now) × (extent ≡ extent_at image.now h) × (kind_at image.now h ≡ 1) }
     ensures { result ≡ sound image.now h }
@@ -108,6 +115,7 @@ fn live_sound(image: &[u8], h: usize, extent: u64) -> bool
 }
 
 // Whether the header at h is sound. A walk waits for the extent, so it is read before the branch.
+#[tactic(auto, using(crate::specs::laws::Soundness::unsound_kind))]
 fn is_sound(image: &[u8], h: usize) -> bool
     requires { (16 ≤ h) × (h + 16 ≤ length image.now) }
     ensures { result ≡ sound image.now h }
@@ -160,6 +168,7 @@ pub fn live_size(image: &[u8], h: u64) -> Option<u64>
 }
 
 // Writes a header at h.
+#[tactic(auto, using(crate::proofs::Headers::put_fields), unfolding(crate::specs::Layout::header))]
 fn write_header(image: &mut [u8], h: usize, d: Header)
     requires { h + 16 ≤ length image.old }
     ensures { image.new ≡ put image.old h (header d.extent d.kind d.ty d.size d.cue) }

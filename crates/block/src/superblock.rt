@@ -41,6 +41,7 @@ pub fn open(image: &[u8]) -> Option<u32>
 }
 
 // Writes the superblock of an image with slot exponent s and that free total.
+#[tactic(auto, using(crate::proofs::Headers::put_fields), unfolding(crate::specs::Layout::superblock))]
 pub fn write_superblock(image: &mut [u8], s: u32, total: u64)
     requires { 16 ≤ length image.old }
     ensures { image.new ≡ put image.old 0 (superblock s (length image.old) total) }
@@ -54,6 +55,7 @@ pub fn write_superblock(image: &mut [u8], s: u32, total: u64)
 }
 
 // The free total in the superblock, in bytes: any 32-bit number on a damaged image.
+#[tactic(auto, using(crate::specs::laws::Total::total_bound))]
 pub fn stored_total(image: &[u8]) -> u64
     requires { 16 ≤ length image.now }
     ensures { (result ≡ stored_total image.now) × (result < 2 ^ 32) }
@@ -62,6 +64,7 @@ pub fn stored_total(image: &[u8]) -> u64
 }
 
 // Writes the free total.
+#[tactic(auto, unfolding(crate::specs::Layout::with_total))]
 pub fn write_total(image: &mut [u8], total: u64)
     requires { 16 ≤ length image.old }
     ensures { image.new ≡ with_total image.old total }

@@ -14,6 +14,7 @@ pub struct Pointer {
 
 impl Pointer {
     // The parts of a 64-bit pointer.
+    #[tactic(auto, unfolding(crate::specs::Pointers::unpack))]
     pub fn unpack(word: u64) -> Self
         ensures { result ≡ unpack word }
     {
@@ -25,6 +26,7 @@ impl Pointer {
     }
 
     // The 64-bit pointer of these parts.
+    #[tactic(auto, using(crate::proofs::Shifts::packed), unfolding(crate::specs::Pointers::pack))]
     pub fn pack(self) -> u64
         requires { InRange self }
         ensures { result ≡ pack self }
@@ -41,6 +43,7 @@ impl Pointer {
     }
 
     // Whether a small-framed pointer's tag number is a place in its slot.
+    #[tactic(auto, using(crate::proofs::Shifts::shr_none), unfolding(crate::specs::Pointers::good_tag))]
     pub fn slot_tag_good(self, s: u32) -> bool
         requires { (s < 16) × (self.flag ≡ true) }
         ensures { result ≡ good_tag s self }
@@ -49,6 +52,7 @@ impl Pointer {
     }
 
     // Whether a large-framed pointer's tag number is the exponent of a frame above the slot.
+    #[tactic(auto, unfolding(crate::specs::Pointers::good_tag))]
     pub fn frame_tag_good(self, s: u32) -> bool
         requires { (s < 16) × (self.flag ≡ false) }
         ensures { result ≡ good_tag s self }
@@ -57,6 +61,7 @@ impl Pointer {
     }
 
     // The exponent of the slot or frame that the pointer may move in, for the slot exponent s; none where the tag number is out of range.
+    #[tactic(auto, using(crate::specs::laws::Pointers::good_large), unfolding(crate::specs::Pointers::reach, crate::specs::laws::Pointers::reach_of))]
     pub fn reach(self, s: u32) -> Option<u32>
         requires { s < 16 }
         ensures { result ≡ reach_of s self }

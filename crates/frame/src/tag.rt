@@ -40,6 +40,7 @@ fn wrapper_above(s: u32, h: u64, size: u64) -> u32
 }
 
 // How many table entries an image of `len` bytes uses.
+#[tactic(auto, unfolding(crate::specs::Tags::used_entries))]
 pub fn used_entries(s: u32, len: u64) -> u64
     requires { (s < 16) × (1 ≤ len) × (len ≤ 2 ^ 30) }
     ensures { result ≡ used_entries s len }
@@ -48,6 +49,7 @@ pub fn used_entries(s: u32, len: u64) -> u64
 }
 
 // The table entry of the frame of 2^n bytes that holds the address.
+#[tactic(auto, unfolding(crate::specs::Tags::entry_at))]
 pub fn entry_index(s: u32, n: u32, address: u64) -> usize
     requires { (s < n) × (n < 32) × (frame_start n address < 2 ^ 30) }
     ensures { result ≡ entry_at s n address }
@@ -85,6 +87,7 @@ pub fn tag_object(s: u32, h: u64, size: u64) -> Tagged
 
 impl Pointer {
     // Whether the object at h has this very flag and tag number, in constant time.
+    #[tactic(auto, using(crate::specs::laws::Pointers::good_large, crate::specs::laws::Tags::tag_test_lem))]
     pub fn tag_matches(self, s: u32, h: u64, size: u64) -> bool
         requires { (s < 16) × (good_tag s self ≡ true) × (16 ≤ h) × (h + size < 2 ^ 62) }
         ensures { result ≡ tag_matches s h size self }
