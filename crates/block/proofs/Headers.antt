@@ -10,10 +10,10 @@ use Rattle.block.specs.Layout.{within, extent_at, kind_at, type_at, size_at, cue
 use Rattle.block.specs.laws.Soundness.{sound_by, unsound_low, unsound_past}
 
 -- five fields of 4, 2, 2, 4 and 4 bytes, written one behind the other: the form of a superblock and of a header
-pub put-fields : (image : List ℕ) (h a b c d e : ℕ) → h + 16 ≤ length image
+pub put_fields : (image : List ℕ) (h a b c d e : ℕ) → h + 16 ≤ length image
     → put (put (put (put (put image h (encode 4 a)) (h + 4) (encode 2 b)) (h + 6) (encode 2 c)) (h + 8) (encode 4 d)) (h + 12) (encode 4 e)
     ≡ put image h (encode 4 a ++ (encode 2 b ++ (encode 2 c ++ (encode 4 d ++ encode 4 e))))
-put-fields image h a b c d e room =
+put_fields image h a b c d e room =
     let la = length-encode 4 a in
     let lb = length-encode 2 b in
     let lc = length-encode 2 c in

@@ -7,6 +7,11 @@ ghost use Rattle.block.specs.laws.Soundness.{examined, object_at};
 use super::bytes::{read, write};
 use std::num::wrapping_sub_u64;
 
+// The kind of a free block, and of a live one. A damaged image may have any other number.
+pub const FREE: u64 = 1;
+
+pub const LIVE: u64 = 2;
+
 // A block header's fields.
 #[derive(Clone, Copy)]
 pub struct Header {
@@ -18,6 +23,7 @@ pub struct Header {
 }
 
 // The extent in the header at h, in bytes.
+#[tactic(auto, unfolding(crate::specs::Layout::header_at))]
 pub fn extent_at(image: &[u8], h: usize) -> u64
     requires { h + 16 ≤ length image.now }
     ensures { result ≡ extent_at image.now h }
@@ -26,6 +32,7 @@ pub fn extent_at(image: &[u8], h: usize) -> u64
 }
 
 // Its kind.
+#[tactic(auto, unfolding(crate::specs::Layout::header_at))]
 pub fn kind_at(image: &[u8], h: usize) -> u64
     requires { h + 16 ≤ length image.now }
     ensures { result ≡ kind_at image.now h }
@@ -34,6 +41,7 @@ pub fn kind_at(image: &[u8], h: usize) -> u64
 }
 
 // Its type number.
+#[tactic(auto, unfolding(crate::specs::Layout::header_at))]
 fn type_at(image: &[u8], h: usize) -> u64
     requires { h + 16 ≤ length image.now }
     ensures { result ≡ type_at image.now h }
@@ -42,6 +50,7 @@ fn type_at(image: &[u8], h: usize) -> u64
 }
 
 // The raw size in it, in bytes.
+#[tactic(auto, unfolding(crate::specs::Layout::header_at))]
 pub fn size_at(image: &[u8], h: usize) -> u64
     requires { h + 16 ≤ length image.now }
     ensures { result ≡ size_at image.now h }
@@ -50,6 +59,7 @@ pub fn size_at(image: &[u8], h: usize) -> u64
 }
 
 // The number of its cue.
+#[tactic(auto, unfolding(crate::specs::Layout::header_at))]
 fn cue_at(image: &[u8], h: usize) -> u64
     requires { h + 16 ≤ length image.now }
     ensures { result ≡ cue_at image.now h }
@@ -58,34 +68,32 @@ fn cue_at(image: &[u8], h: usize) -> u64
 }
 
 // The fields of the header at h.
+#[tactic(auto, unfolding(crate::specs::Layout::header_at))]
 pub fn read_header(image: &[u8], h: usize) -> Header
     requires { h + 16 ≤ length image.now }
     ensures { result ≡ header_at image.now h }
 {
-    let extent = extent_at(image, h);
-    let kind = kind_at(image, h);
-    let ty = type_at(image, h);
-    let size = size_at(image, h);
-    let cue = cue_at(image, h);
     Header {
-        extent,
-        kind,
-        ty,
-        size,
-        cue,
+        extent: extent_at(image, h),
+        kind: kind_at(image, h),
+        ty: type_at(image, h),
+        size: size_at(image, h),
+        cue: cue_at(image, h),
     }
 }
 
 // Whether the header at h, of a free block, is sound.
+#[tactic(auto, using(crate::proofs::Headers::free_by), unfolding(crate::specs::Layout::header_at))]
 fn free_sound(image: &[u8], h: usize, extent: u64) -> bool
     requires { (16 ≤ h) × (h + 16 ≤ length image.now) × (extent ≡ extent_at image.now h) × (kind_at image.now h ≡ 1) }
     ensures { result ≡ sound image.now h }
 {
     let room = (image.len() - h) as u64;
-    let ty = type_at(image, h);
-    let size = size_at(image, h);
-    let cue = cue_at(image, h);
-    (16 <= extent) & (extent <= room) & (ty == 0) & (size == 0) & (cue == 0)
+    (16 <= extent)
+        & (extent <= room)
+        & (type_at(image, h) == 0)
+        & (size_at(image, h) == 0)
+        & (cue_at(image, h) == 0)
 }
 
 // Whether an extent holds a header and `size` bytes, and at most 15 more: one comparison, of a difference that wraps.
@@ -107,15 +115,15 @@ fn live_sound(image: &[u8], h: usize, extent: u64) -> bool
 }
 
 // Whether the header at h is sound. A walk waits for the extent, so it is read before the branch.
+#[tactic(auto, using(crate::specs::laws::Soundness::unsound_kind))]
 fn is_sound(image: &[u8], h: usize) -> bool
     requires { (16 ≤ h) × (h + 16 ≤ length image.now) }
     ensures { result ≡ sound image.now h }
 {
     let extent = extent_at(image, h);
-    let kind = kind_at(image, h);
-    match kind {
-        1 => free_sound(image, h, extent),
-        2 => live_sound(image, h, extent),
+    match kind_at(image, h) {
+        FREE => free_sound(image, h, extent),
+        LIVE => live_sound(image, h, extent),
         _ => false,
     }
 }
@@ -124,14 +132,8 @@ fn is_sound(image: &[u8], h: usize) -> bool
 pub fn examine(image: &[u8], h: u64) -> Option<Header>
     ensures { result ≡ examined image.now h }
 {
-    let len = image.len() as u64;
-    if h < 16 {
-        return None;
-    }
-    if len < 16 {
-        return None;
-    }
-    if len - 16 < h {
+    let last = (image.len() as u64).checked_sub(16)?;
+    if h < 16 || last < h {
         return None;
     }
     let at = h as usize;
@@ -159,26 +161,23 @@ pub fn live_size(image: &[u8], h: u64) -> Option<u64>
         return None;
     }
     let at = h as usize;
-    if kind_at(image, at) != 2 {
-        return None;
-    }
-    let extent = extent_at(image, at);
-    if !live_sound(image, at, extent) {
+    if kind_at(image, at) != LIVE || !live_sound(image, at, extent_at(image, at)) {
         return None;
     }
     Some(size_at(image, at))
 }
 
 // Writes a header at h.
-fn write_header(image: &mut [u8], h: usize, extent: u64, kind: u64, ty: u64, size: u64, cue: u64)
+#[tactic(auto, using(crate::proofs::Headers::put_fields), unfolding(crate::specs::Layout::header))]
+fn write_header(image: &mut [u8], h: usize, d: Header)
     requires { h + 16 ≤ length image.old }
-    ensures { image.new ≡ put image.old h (header extent kind ty size cue) }
+    ensures { image.new ≡ put image.old h (header d.extent d.kind d.ty d.size d.cue) }
 {
-    write::<4>(image, h, extent);
-    write::<2>(image, h + 4, kind);
-    write::<2>(image, h + 6, ty);
-    write::<4>(image, h + 8, size);
-    write::<4>(image, h + 12, cue);
+    write::<4>(image, h, d.extent);
+    write::<2>(image, h + 4, d.kind);
+    write::<2>(image, h + 6, d.ty);
+    write::<4>(image, h + 8, d.size);
+    write::<4>(image, h + 12, d.cue);
 }
 
 // Writes the header of a free block at h.
@@ -186,7 +185,14 @@ pub fn write_free(image: &mut [u8], h: usize, extent: u64)
     requires { h + 16 ≤ length image.old }
     ensures { image.new ≡ put image.old h (free_header extent) }
 {
-    write_header(image, h, extent, 1, 0, 0, 0);
+    let d = Header {
+        extent,
+        kind: FREE,
+        ty: 0,
+        size: 0,
+        cue: 0,
+    };
+    write_header(image, h, d);
 }
 
 // Writes the header of a live block at h.
@@ -194,5 +200,12 @@ pub fn write_live(image: &mut [u8], h: usize, extent: u64, ty: u64, size: u64, c
     requires { h + 16 ≤ length image.old }
     ensures { image.new ≡ put image.old h (live_header extent ty size cue) }
 {
-    write_header(image, h, extent, 2, ty, size, cue);
+    let d = Header {
+        extent,
+        kind: LIVE,
+        ty,
+        size,
+        cue,
+    };
+    write_header(image, h, d);
 }

@@ -14,37 +14,34 @@ pub fn slot_exponent(image: &[u8]) -> u64
     read::<2>(image, 6)
 }
 
+// The length of the longest image, in bytes.
+const LONGEST: u64 = 1 << 30;
+
 // The slot exponent of any image whose superblock is as laid out.
 pub fn open(image: &[u8]) -> Option<u32>
     ensures { result ≡ opened image.now }
 {
     let len = image.len() as u64;
-    if len < 64 {
+    if len < 64 || LONGEST < len {
         return None;
     }
-    if 1073741824 < len {
-        return None;
-    }
-    if read::<4>(image, 0) != 16 {
-        return None;
-    }
-    if read::<2>(image, 4) != 3 {
-        return None;
-    }
-    if read::<4>(image, 8) != len {
+    if (
+        read::<4>(image, 0),
+        read::<2>(image, 4),
+        read::<4>(image, 8),
+    ) != (16, 3, len)
+    {
         return None;
     }
     let s = slot_exponent(image);
-    if s < 6 {
-        return None;
-    }
-    if 15 < s {
+    if s < 6 || 15 < s {
         return None;
     }
     Some(s as u32)
 }
 
 // Writes the superblock of an image with slot exponent s and that free total.
+#[tactic(auto, using(crate::proofs::Headers::put_fields), unfolding(crate::specs::Layout::superblock))]
 pub fn write_superblock(image: &mut [u8], s: u32, total: u64)
     requires { 16 ≤ length image.old }
     ensures { image.new ≡ put image.old 0 (superblock s (length image.old) total) }
@@ -58,6 +55,7 @@ pub fn write_superblock(image: &mut [u8], s: u32, total: u64)
 }
 
 // The free total in the superblock, in bytes: any 32-bit number on a damaged image.
+#[tactic(auto, using(crate::specs::laws::Total::total_bound))]
 pub fn stored_total(image: &[u8]) -> u64
     requires { 16 ≤ length image.now }
     ensures { (result ≡ stored_total image.now) × (result < 2 ^ 32) }
@@ -66,6 +64,7 @@ pub fn stored_total(image: &[u8]) -> u64
 }
 
 // Writes the free total.
+#[tactic(auto, unfolding(crate::specs::Layout::with_total))]
 pub fn write_total(image: &mut [u8], total: u64)
     requires { 16 ≤ length image.old }
     ensures { image.new ≡ with_total image.old total }

@@ -2,7 +2,7 @@
 ghost use Rattle.std.specs.Prelude.{◌≡◌};
 ghost use Rattle.block.specs.Walk.{first_fit, walk_to, count_blocks};
 
-use super::header::examine;
+use super::header::{FREE, LIVE, examine};
 
 // How the search for room ends: at a free block that is long enough, at an unsound header, or at the image's end.
 #[derive(Clone, Copy)]
@@ -34,10 +34,10 @@ pub fn first_fit(image: &[u8], need: u64) -> Fit
             }
             break Fit::Unsound(h);
         };
-        if d.kind == 1 && need <= d.extent {
+        if d.kind == FREE && need <= d.extent {
             break Fit::At(h);
         }
-        h = h + d.extent;
+        h += d.extent;
     }
 }
 
@@ -58,7 +58,7 @@ pub fn walk_to(image: &[u8], target: u64) -> Option<u64>
             break None;
         }
         before = h;
-        h = h + d.extent;
+        h += d.extent;
     }
 }
 
@@ -83,12 +83,12 @@ pub fn count_blocks(image: &[u8]) -> Option<Counts>
             }
             break None;
         };
-        if d.kind == 2 {
-            objects = objects + 1;
+        if d.kind == LIVE {
+            objects += 1;
         } else {
-            free = free + d.extent;
+            free += d.extent;
         }
-        live = live + d.size;
-        h = h + d.extent;
+        live += d.size;
+        h += d.extent;
     }
 }

@@ -14,6 +14,7 @@ pub struct Pointer {
 
 impl Pointer {
     // The parts of a 64-bit pointer.
+    #[tactic(auto, unfolding(crate::specs::Pointers::unpack))]
     pub fn unpack(word: u64) -> Self
         ensures { result ≡ unpack word }
     {
@@ -25,6 +26,7 @@ impl Pointer {
     }
 
     // The 64-bit pointer of these parts.
+    #[tactic(auto, using(crate::proofs::Shifts::packed), unfolding(crate::specs::Pointers::pack))]
     pub fn pack(self) -> u64
         requires { InRange self }
         ensures { result ≡ pack self }
@@ -41,6 +43,7 @@ impl Pointer {
     }
 
     // Whether a small-framed pointer's tag number is a place in its slot.
+    #[tactic(auto, using(crate::proofs::Shifts::shr_none), unfolding(crate::specs::Pointers::good_tag))]
     pub fn slot_tag_good(self, s: u32) -> bool
         requires { (s < 16) × (self.flag ≡ true) }
         ensures { result ≡ good_tag s self }
@@ -49,17 +52,16 @@ impl Pointer {
     }
 
     // Whether a large-framed pointer's tag number is the exponent of a frame above the slot.
+    #[tactic(auto, unfolding(crate::specs::Pointers::good_tag))]
     pub fn frame_tag_good(self, s: u32) -> bool
         requires { (s < 16) × (self.flag ≡ false) }
         ensures { result ≡ good_tag s self }
     {
-        if self.tag <= s as u64 {
-            return false;
-        }
-        self.tag <= 31
+        (s as u64) < self.tag && self.tag <= 31
     }
 
     // The exponent of the slot or frame that the pointer may move in, for the slot exponent s; none where the tag number is out of range.
+    #[tactic(auto, using(crate::specs::laws::Pointers::good_large), unfolding(crate::specs::Pointers::reach, crate::specs::laws::Pointers::reach_of))]
     pub fn reach(self, s: u32) -> Option<u32>
         requires { s < 16 }
         ensures { result ≡ reach_of s self }
@@ -78,19 +80,9 @@ impl Pointer {
         requires { (InRange self) × (n < 64) }
         ensures { result ≡ moved self n distance }
     {
-        let from = self.address;
-        if distance > 0xffff_ffff_ffff {
-            return None;
-        }
-        let sum = from as i64 + distance;
-        if sum < 0 {
-            return None;
-        }
-        let to = sum as u64;
-        if to > 0xffff_ffff_ffff {
-            return None;
-        }
-        if to >> n == from >> n {
+        // a negative sum wraps to a number above every address
+        let to = self.address.wrapping_add_signed(distance);
+        if to <= 0xffff_ffff_ffff && to >> n == self.address >> n {
             Some(Pointer {
                 address: to,
                 ..self

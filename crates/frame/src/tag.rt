@@ -3,16 +3,16 @@ ghost use Rattle.std.specs.Prelude.{◌≡◌, true, ◌+◌, ◌<◌, ◌≤◌
 ghost use Rattle.frame.specs.Frame.{frame_start};
 ghost use Rattle.frame.specs.Pointers.{InRange, good_tag};
 ghost use Rattle.frame.specs.Tags.{first_held, last_held, wrapper, tag_matches, used_entries, entry_at};
-ghost use Rattle.frame.specs.laws.Tags.{slot_holds, frame_holds, tagged, tagged_pointer};
+ghost use Rattle.frame.specs.laws.Tags.{slot_holds, frame_holds, tagged};
 
 use crate::number::{frame_number, frame_start, same_frame};
 use crate::parts::Pointer;
 
 // The pointer to an object, with its table entry where it is large-framed.
 #[derive(Clone, Copy)]
-pub enum Tagged {
-    Small(Pointer),
-    Large(Pointer, usize),
+pub struct Tagged {
+    pub pointer: Pointer,
+    pub entry: Option<usize>,
 }
 
 // The first byte that the wrapper frame of an object holds: its header's.
@@ -40,6 +40,7 @@ fn wrapper_above(s: u32, h: u64, size: u64) -> u32
 }
 
 // How many table entries an image of `len` bytes uses.
+#[tactic(auto, unfolding(crate::specs::Tags::used_entries))]
 pub fn used_entries(s: u32, len: u64) -> u64
     requires { (s < 16) × (1 ≤ len) × (len ≤ 2 ^ 30) }
     ensures { result ≡ used_entries s len }
@@ -48,6 +49,7 @@ pub fn used_entries(s: u32, len: u64) -> u64
 }
 
 // The table entry of the frame of 2^n bytes that holds the address.
+#[tactic(auto, unfolding(crate::specs::Tags::entry_at))]
 pub fn entry_index(s: u32, n: u32, address: u64) -> usize
     requires { (s < n) × (n < 32) × (frame_start n address < 2 ^ 30) }
     ensures { result ≡ entry_at s n address }
@@ -60,58 +62,44 @@ pub fn tag_object(s: u32, h: u64, size: u64) -> Tagged
     requires { (s < 16) × (16 ≤ h) × (h + 16 + size ≤ 2 ^ 30) }
     ensures { result ≡ tagged s h size }
 {
+    let address = h + 16;
     if same_frame(s, first_held(h), last_held(h, size)) {
-        Tagged::Small(Pointer {
-            flag: true,
-            tag: h - frame_start(h, s),
-            address: h + 16,
-        })
+        Tagged {
+            pointer: Pointer {
+                flag: true,
+                tag: h - frame_start(h, s),
+                address,
+            },
+            entry: None,
+        }
     } else {
         let n = wrapper_above(s, h, size);
-        let entry = entry_index(s, n, h);
-        Tagged::Large(
-            Pointer {
+        Tagged {
+            pointer: Pointer {
                 flag: false,
                 tag: n as u64,
-                address: h + 16,
+                address,
             },
-            entry,
-        )
-    }
-}
-
-impl Tagged {
-    // The pointer alone.
-    pub fn pointer(self) -> Pointer
-        ensures { result ≡ tagged_pointer self }
-    {
-        match self {
-            Tagged::Small(p) => p,
-            Tagged::Large(p, _) => p,
+            entry: Some(entry_index(s, n, h)),
         }
     }
 }
 
 impl Pointer {
     // Whether the object at h has this very flag and tag number, in constant time.
+    #[tactic(auto, using(crate::specs::laws::Pointers::good_large, crate::specs::laws::Tags::tag_test_lem))]
     pub fn tag_matches(self, s: u32, h: u64, size: u64) -> bool
         requires { (s < 16) × (good_tag s self ≡ true) × (16 ≤ h) × (h + size < 2 ^ 62) }
         ensures { result ≡ tag_matches s h size self }
     {
         let a = first_held(h);
         let e = last_held(h, size);
-        let t = self.tag;
         if self.flag {
-            if !same_frame(s, a, e) {
-                return false;
-            }
-            return h - frame_start(h, s) == t;
+            same_frame(s, a, e) && h - frame_start(h, s) == self.tag
+        } else {
+            let n = self.tag as u32;
+            same_frame(n, a, e) && !same_frame(n - 1, a, e)
         }
-        let n = t as u32;
-        if !same_frame(n, a, e) {
-            return false;
-        }
-        !same_frame(n - 1, a, e)
     }
 
     // Whether the object of `size` bytes that a small-framed tag leads to has this very tag: its header stands at that place of the slot, so its last byte
@@ -130,9 +118,6 @@ impl Pointer {
     {
         let half = self.tag as u32 - 1;
         let lower = 2 * (self.address >> (self.tag as u32));
-        if h >> half != lower {
-            return false;
-        }
-        last_held(h, size) >> half == lower + 1
+        h >> half == lower && last_held(h, size) >> half == lower + 1
     }
 }

@@ -92,7 +92,7 @@ pub fn allocate_for(
     let site = Opened::new(image, table)?.allocatable(size)?;
     allot(image, site.header, size as u64, ty as u64, cue as u64);
     note(table, site.tagged, site.header);
-    Ok(site.tagged.pointer().pack())
+    Ok(site.tagged.pointer.pack())
 }
 
 // A new object of `size` bytes for no cue, which is cue 0.

@@ -31,10 +31,7 @@ pub fn entry_holds(table: &[u64], t: Tagged, v: u64) -> bool
     requires { EntryIn t table.now }
     ensures { result ≡ holds_for t v table.now }
 {
-    match t {
-        Tagged::Small(_) => true,
-        Tagged::Large(_, entry) => table[entry] == v,
-    }
+    t.entry.is_none_or(|entry| table[entry] == v)
 }
 
 // Puts v into the object's entry, where it has one: the header's place, or zero.
@@ -42,8 +39,7 @@ pub fn note(table: &mut [u64], t: Tagged, v: u64)
     requires { EntryIn t table.old }
     ensures { table.new ≡ noted_for t v table.old }
 {
-    match t {
-        Tagged::Small(_) => {}
-        Tagged::Large(_, entry) => table[entry] = v,
+    if let Some(entry) = t.entry {
+        table[entry] = v;
     }
 }

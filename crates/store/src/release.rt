@@ -11,7 +11,7 @@ use crate::entries::clear_entry;
 use crate::opening::Opened;
 use crate::total::total_fits;
 use block::bytes::fill;
-use block::header::{Header, examine, extent_at, kind_at, write_free};
+use block::header::{FREE, Header, examine, extent_at, kind_at, write_free};
 use block::superblock::{stored_total, write_total};
 use block::walk::walk_to;
 use frame::Pointer;
@@ -32,7 +32,7 @@ fn merge_start(image: &[u8], before: u64, h: u64) -> u64
     if before == 0 {
         return h;
     }
-    if kind_at(image, before as usize) == 1 {
+    if kind_at(image, before as usize) == FREE {
         before
     } else {
         h
@@ -44,7 +44,7 @@ fn merge_end(next: u64, d: Header) -> u64
     requires { next + d.extent < 2 ^ 64 }
     ensures { result ≡ cond (eqb d.kind 1) (next + d.extent) next }
 {
-    if d.kind == 1 { next + d.extent } else { next }
+    if d.kind == FREE { next + d.extent } else { next }
 }
 
 // Row 7 of free, and what is merged with the sound block at h.

@@ -13,7 +13,7 @@ use crate::entries::{entry_holds, note};
 use crate::opening::Opened;
 use crate::release::merge;
 use crate::total::total_fits;
-use block::header::{Header, examine, extent_at, kind_at, read_header};
+use block::header::{FREE, Header, LIVE, examine, extent_at, kind_at, read_header};
 use block::superblock::{stored_total, write_total};
 use frame::tag_object;
 
@@ -21,7 +21,7 @@ use frame::tag_object;
 fn is_of_cue(d: Header, cue: u64) -> bool
     ensures { result ≡ is_of_cue cue d }
 {
-    d.kind == 2 && d.cue == cue
+    d.kind == LIVE && d.cue == cue
 }
 
 // Row 21 up to the object at h: those before it are held, and so is this one.
@@ -72,7 +72,7 @@ fn merge_end_at(image: &[u8], next: u64) -> u64
         return next;
     }
     let at = next as usize;
-    if kind_at(image, at) == 1 {
+    if kind_at(image, at) == FREE {
         next + extent_at(image, at)
     } else {
         next
@@ -83,7 +83,7 @@ fn merge_end_at(image: &[u8], next: u64) -> u64
 fn merge_start_behind(h: u64, next: u64, d: Header) -> u64
     ensures { result ≡ cond (eqb d.kind 1) h next }
 {
-    if d.kind == 1 { h } else { next }
+    if d.kind == FREE { h } else { next }
 }
 
 // Writes the run from `from` to h, where there is one, as one free block.

@@ -1,6 +1,6 @@
 -- An object's tag and its pointer.
 -- In order: the test of a tag in constant time; the pointer to an object; its pointer with its entry. Not here: wrapper frames and entries (`Wrappers`). Assumes nothing.
-use Rattle.std.specs.Prelude.{ℕ, ◌+◌, ◌-◌, ◌*◌, ◌/◌, ◌^◌, ◌≤◌, ◌<◌, ◌≡◌, refl, Bool, true, false, cond, ◌&&◌, not, leb, eqb}
+use Rattle.std.specs.Prelude.{ℕ, ◌+◌, ◌-◌, ◌*◌, ◌/◌, ◌^◌, ◌≤◌, ◌<◌, ◌≡◌, refl, Bool, true, false, cond, ◌&&◌, not, leb, eqb, None, Some}
 use Rattle.std.proofs.Common.{sym, ap, ◌∙◌, lt_of_not-le, lt_of_lt_of_le, mod-lt, arith, pow_pos, pow_mono, shr-shr}
 use Rattle.std.proofs.Math.Bool.{and-true}
 use Rattle.std.proofs.Math.Nat.{mul-add-div_right}
@@ -14,7 +14,6 @@ use Rattle.frame.specs.Tags.{first_held, last_held, wrapper, is_small, tag_numbe
 use Rattle.frame.specs.laws.Wrappers.{wrapper_iff, wrapper-at_most, slot_place}
 use Rattle.frame.specs.declared.parts.Pointer.{Pointer}
 use Rattle.frame.specs.declared.tag.Tagged.{Tagged}
-use Rattle.frame.specs.declared.tag.Tagged.TheVariants.{Small, Large}
 
 -- The tag.
 
@@ -226,41 +225,16 @@ matches_pointer s h size p e =
 
 -- what `tag_object` answers: an object's pointer, with its entry where it is large-framed
 unfoldable pub tagged : ℕ → ℕ → ℕ → Tagged
-tagged s h size = cond (is_small s h size) (Small (pointer_to s h size)) (Large (pointer_to s h size) (entry_of s h size))
+tagged s h size = record { pointer = pointer_to s h size; entry = cond (is_small s h size) None (Some (entry_of s h size)) }
 
--- the pointer of a tagged object
-unfoldable pub tagged_pointer : Tagged → Pointer
-tagged_pointer (Small p) = p
-tagged_pointer (Large p i) = p
+pub tagged_pointer : (s h size : ℕ) → (tagged s h size).pointer ≡ pointer_to s h size
+unfolding tagged
+tagged_pointer s h size = refl
 
-pub tagged_pointer_lem : (s h size : ℕ) → tagged_pointer (tagged s h size) ≡ pointer_to s h size
-unfolding tagged_pointer tagged
-tagged_pointer_lem s h size = by_frame s h size (λ l. rw (le-leb _ _ l)) (λ l. rw (lt-leb _ _ l))
-
-pub tagged_small : (s h size : ℕ) → wrapper h size ≤ s → tagged s h size ≡ Small (pointer_to s h size)
+pub tagged_small : (s h size : ℕ) → wrapper h size ≤ s → (tagged s h size).entry ≡ None
 unfolding tagged
 tagged_small s h size l = rw (le-leb (wrapper h size) s l)
 
-pub tagged-large : (s h size : ℕ) → s < wrapper h size → tagged s h size ≡ Large (pointer_to s h size) (entry_of s h size)
+pub tagged-large : (s h size : ℕ) → s < wrapper h size → (tagged s h size).entry ≡ Some (entry_of s h size)
 unfolding tagged
 tagged-large s h size l = rw (lt-leb (wrapper h size) s l)
-
--- and what a tag says
-
-pub tagged-is_small : (s h size : ℕ) (p : Pointer) → tagged s h size ≡ Small p → (wrapper h size ≤ s) × (p ≡ pointer_to s h size)
-tagged-is_small s h size p e =
-    by_frame s h size
-    (λ l. let x : tagged s h size ≡ Small (pointer_to s h size) = tagged_small s h size l in (l, (cc)))
-    (λ l.
-    let x : tagged s h size ≡ Large (pointer_to s h size) (entry_of s h size) = tagged-large s h size l in
-    let z : ◌≡◌ {A = ℕ} 0 1 = cc in
-    absurd (omega arith))
-
-pub tagged_is_large : (s h size : ℕ) (p : Pointer) (i : ℕ) → tagged s h size ≡ Large p i → (s < wrapper h size) × (p ≡ pointer_to s h size) × (i ≡ entry_of s h size)
-tagged_is_large s h size p i e =
-    by_frame s h size
-    (λ l.
-    let x : tagged s h size ≡ Small (pointer_to s h size) = tagged_small s h size l in
-    let z : ◌≡◌ {A = ℕ} 0 1 = cc in
-    absurd (omega arith))
-    (λ l. let x : tagged s h size ≡ Large (pointer_to s h size) (entry_of s h size) = tagged-large s h size l in (l, (cc), (cc)))

@@ -1,6 +1,6 @@
 -- Table entries: rows 9 and 21, noting an object's header place, and clearing it.
 -- In order: of an object by its header place and size; of two objects; by its pointer with its entry; by a pointer that leads to it. Assumes nothing.
-use Rattle.std.specs.Prelude.{ℕ, ◌+◌, ◌/◌, ◌^◌, ◌≤◌, ◌<◌, ◌≡◌, Bool, true, false, cond, List, length, drop, get_or, set, eqb}
+use Rattle.std.specs.Prelude.{ℕ, ◌+◌, ◌/◌, ◌^◌, ◌≤◌, ◌<◌, ◌≡◌, Bool, true, false, cond, List, length, drop, get_or, set, eqb, None, Some}
 use Rattle.std.proofs.Math.Path.{refl}
 use Rattle.std.proofs.Common.{sym, ap, ◌∙◌, length-set, get_or-set_same, get_or-set_other, drop-set-lt, le-leb, eq-eqb, eqb-true}
 use Rattle.std.proofs.lemmas.List.{set_comm}
@@ -13,7 +13,6 @@ use Rattle.frame.proofs.Objects.{entries_apart}
 use Rattle.frame.specs.laws.Tags.{tagged, by_frame, pointer_small, pointer_large, matches_pointer, tagged_small, tagged-large}
 use Rattle.frame.specs.declared.parts.Pointer.{Pointer}
 use Rattle.frame.specs.declared.tag.Tagged.{Tagged}
-use Rattle.frame.specs.declared.tag.Tagged.TheVariants.{Small, Large}
 use Rattle.block.specs.laws.Booleans.{by_bool}
 use Rattle.store.specs.Calls.{entry_holds, noted}
 
@@ -101,34 +100,28 @@ holds_kept s h size entry k n v table behind short e =
 -- By the pointer with its entry, as the code has it.
 
 -- the table has the entry, where there is one
-unfoldable pub EntryIn : Tagged → List ℕ → Type 0
-EntryIn (Small p) table = Unit
-EntryIn (Large p i) table = i < length table
+abbrev pub EntryIn : Tagged → List ℕ → Type 0
+EntryIn t table = elim t.entry [ None ↦ Unit | Some i ↦ i < length table ]
 
 -- row 9 or 21: the entry, where there is one, holds the value
-unfoldable pub holds_for : Tagged → ℕ → List ℕ → Bool
-holds_for (Small p) v table = true
-holds_for (Large p i) v table = eqb (get_or table i 0) v
+abbrev pub holds_for : Tagged → ℕ → List ℕ → Bool
+holds_for t v table = elim t.entry [ None ↦ true | Some i ↦ eqb (get_or table i 0) v ]
 
 -- the table with the entry set
-unfoldable pub noted_for : Tagged → ℕ → List ℕ → List ℕ
-noted_for (Small p) entry table = table
-noted_for (Large p i) entry table = set table i entry
+abbrev pub noted_for : Tagged → ℕ → List ℕ → List ℕ
+noted_for t entry table = elim t.entry [ None ↦ table | Some i ↦ set table i entry ]
 
 module _ (s h size : ℕ) (table : List ℕ) where
   pub tagged_in : (s < wrapper h size → entry_of s h size < length table) → EntryIn (tagged s h size) table
-  unfolding EntryIn
   tagged_in f = by_frame s h size (λ l. rw (tagged_small s h size l) tt) (λ l. rw (tagged-large s h size l) (f l))
 
   pub tagged-holds : (v : ℕ) → holds_for (tagged s h size) v table ≡ entry_holds s h size v table
-  unfolding holds_for
   tagged-holds v =
       by_frame s h size
       (λ l. rw (tagged_small s h size l) (sym (holds_small s h size v table l)))
       (λ l. rw (tagged-large s h size l) (sym (holds-large s h size v table (entry_of s h size) l refl)))
 
   pub tagged-noted : (entry : ℕ) → noted_for (tagged s h size) entry table ≡ noted s h size entry table
-  unfolding noted_for
   tagged-noted entry =
       by_frame s h size
       (λ l. rw (tagged_small s h size l) (sym (noted_small s h size entry table l)))

@@ -12,9 +12,3 @@ loop-i-preserved c = (
   omega arith,
   rw c.copy_part.ensures (down_turn _ _ _ _ c.args.n _ _ (omega arith) (omega arith) (omega arith) c.loop-i.invariant.2),
 )
-
-pub returns : goal.returns
-returns c =
-    let l = c.loop-i in
-    let e : l.i ≡ c.args.n = omega arith in
-    rw e at l.invariant.2

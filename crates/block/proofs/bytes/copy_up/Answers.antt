@@ -15,9 +15,3 @@ loop-i-preserved c = (
   omega arith,
   rw c.copy_part.ensures (up_turn _ _ _ _ c.args.n _ _ (omega arith) (omega arith) (omega arith) (omega arith) c.loop-i.invariant.2),
 )
-
-pub returns : goal.returns
-returns c =
-    let l = c.loop-i in
-    let e : l.i ≡ 0 = omega arith in
-    l.invariant.2 ∙ rw e (simp (add-zero, sub-zero))

@@ -1,35 +1,24 @@
 -- `block::superblock::open`: each test that fails rules out a field of `Superblock`; where all pass, the exponent is the one read. Assumes nothing.
-use Rattle.std.proofs.Common.{sym, ap, ◌∙◌, arith, rules, Some}
+use Rattle.std.proofs.Common.{sym, ap, ◌∙◌, arith, rules, Some, eq-eqb}
 use Rattle.block.specs.laws.Superblock.{superblock_good_lem, opened_good, opened_bad}
 use Rattle.block.proofs.superblock.open.Goals as goal
 
--- an image that is too short
+-- a length out of range
 pub returns-then-len-lt64 : goal.returns-then-len-lt64
-returns-then-len-lt64 c = sym (opened_bad _ (λ p. omega arith))
+returns-then-len-lt64 c = sym (opened_bad _ (λ p. omega (arith, c.then-len-lt64.either)))
 
--- too long
-pub returns-then-len-gt1073741824 : goal.returns-then-len-gt1073741824
-returns-then-len-gt1073741824 c = sym (opened_bad _ (λ p. omega arith))
+-- another extent, kind or length
+pub returns-then-ne : goal.returns-then-ne
+returns-then-ne c =
+    sym
+    (opened_bad _
+    (λ p.
+    let e = rw (c.read.ensures, c.read-2.ensures, c.read-3.ensures, eq-eqb _ _ p.own_length, eq-eqb _ _ p.own_kind, eq-eqb _ _ p.has_length) at c.if-ne.ensures in
+    cc e))
 
--- another extent
-pub returns-then-read-ne16 : goal.returns-then-read-ne16
-returns-then-read-ne16 c = sym (opened_bad _ (λ p. omega arith))
-
--- another kind
-pub returns-then-read-ne3 : goal.returns-then-read-ne3
-returns-then-read-ne3 c = sym (opened_bad _ (λ p. omega arith))
-
--- another length than the image's
-pub returns-then-read-len : goal.returns-then-read-len
-returns-then-read-len c = sym (opened_bad _ (λ p. omega arith))
-
--- a slot exponent that is too low
+-- a slot exponent out of range
 pub returns-then-s-lt6 : goal.returns-then-s-lt6
-returns-then-s-lt6 c = sym (opened_bad _ (λ p. omega arith))
-
--- too high
-pub returns-then-s-gt15 : goal.returns-then-s-gt15
-returns-then-s-gt15 c = sym (opened_bad _ (λ p. omega arith))
+returns-then-s-lt6 c = sym (opened_bad _ (λ p. omega (arith, c.then-s-lt6.either)))
 
 -- a good superblock
 pub returns : goal.returns

@@ -3,7 +3,7 @@ use Rattle.block.specs.Walk.{count_of, count_blocks}
 use Rattle.block.specs.laws.Turns.{Seen, seen_at, size-inside, at_unsound}
 use Rattle.block.proofs.Counting.{counts_none, counts_all, counts_live, counts-free}
 use Rattle.block.proofs.walk.count_blocks.Goals as goal
-use Rattle.block.proofs.walk.count_blocks.Goals.{then-d-eq2, else-d-eq2}
+use Rattle.block.proofs.walk.count_blocks.Goals.{then-d-eq-LIVE, else-d-eq-LIVE}
 
 pub overflow_add-objects : goal.overflow_add-objects
 overflow_add-objects c =
@@ -38,9 +38,9 @@ loop-d-preserved c =
     let seen : Seen c.args.image.now c.loop-d.h c.in-Some.d = seen_at _ _ _ (sym c.examine.ensures ∙ c.in-Some.is) in
     let w = c.loop-d.invariant in
     let s = seen in
-    elim c.if-d-eq2.branch [
-      | then-d-eq2 j ↦ rw (j.objects-is, j.free-is) (counts_live w s j.if-d-eq2.true)
-      | else-d-eq2 j ↦ rw (j.objects-is, j.free-is) (counts-free w s j.if-d-eq2.false)
+    elim c.if-d-eq-LIVE.branch [
+      | then-d-eq-LIVE j ↦ rw (j.objects-is, j.free-is) (counts_live w s j.if-d-eq-LIVE.true)
+      | else-d-eq-LIVE j ↦ rw (j.objects-is, j.free-is) (counts-free w s j.if-d-eq-LIVE.false)
     ]
 
 -- the image's end

@@ -21,7 +21,7 @@ loop-d-smaller c =
 pub loop-d-preserved : goal.loop-d-preserved
 loop-d-preserved c =
     let seen : Seen c.args.image.now c.loop-d.h c.in-Some.d = seen_at _ _ _ (sym c.examine.ensures ∙ c.in-Some.is) in
-    let passed : (fitting c.args.need).stops c.loop-d.h c.in-Some.d ≡ false = ⊎_elim (λ w. simp (and-false, lt-leb c.args.need c.in-Some.d.extent w.1)) (λ w. simp (ne_eqb c.in-Some.d.kind 1 w)) c.else-d-eq1.either in
+    let passed : (fitting c.args.need).stops c.loop-d.h c.in-Some.d ≡ false = ⊎_elim (λ w. simp (and-false, lt-leb c.args.need c.in-Some.d.extent w.1)) (λ w. simp (ne_eqb c.in-Some.d.kind 1 w)) c.else-d-eq-FREE.either in
     goes_on c.loop-d.invariant seen passed
 
 -- the image's end
@@ -39,4 +39,4 @@ pub returns-then-need-d : goal.returns-then-need-d
 unfolding first_fit fit_of
 returns-then-need-d c =
     let seen : Seen c.args.image.now c.loop-d.h c.in-Some.d = seen_at _ _ _ (sym c.examine.ensures ∙ c.in-Some.is) in
-    ap fit_of (at_stop c.loop-d.invariant seen (simp (eq-eqb _ _ c.if-d-eq1.true, c.if-need-d.true-raw)))
+    ap fit_of (at_stop c.loop-d.invariant seen (simp (eq-eqb _ _ c.if-d-eq-FREE.true, c.if-need-d.true-raw)))

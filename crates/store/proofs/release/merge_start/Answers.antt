@@ -9,9 +9,9 @@ pub returns-then-before-eq0 : goal.returns-then-before-eq0
 returns-then-before-eq0 c = sym (starts_first _ _ _ (omega arith))
 
 -- the block before is free
-pub returns-then-kind_at-eq1 : goal.returns-then-kind_at-eq1
-returns-then-kind_at-eq1 c = sym (starts_before _ _ _ (omega arith) cc)
+pub returns-then-kind_at-eq-FREE : goal.returns-then-kind_at-eq-FREE
+returns-then-kind_at-eq-FREE c = sym (starts_before _ _ _ (omega arith) cc)
 
 -- it is live
-pub returns-else-kind_at-eq1 : goal.returns-else-kind_at-eq1
-returns-else-kind_at-eq1 c = sym (starts_here _ _ _ (λ k. c.if-kind_at-eq1.false (c.kind_at.ensures ∙ k)))
+pub returns-else-kind_at-eq-FREE : goal.returns-else-kind_at-eq-FREE
+returns-else-kind_at-eq-FREE c = sym (starts_here _ _ _ (λ k. c.if-kind_at-eq-FREE.false (c.kind_at.ensures ∙ k)))

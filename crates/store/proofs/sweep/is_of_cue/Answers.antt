@@ -3,9 +3,9 @@ use borrow.Author.Tests.{eq-eqb, ne_eqb}
 use Rattle.store.proofs.sweep.is_of_cue.Goals as goal
 
 -- a live block: the cue decides
-pub returns-then-d-eq2 : goal.returns-then-d-eq2
-returns-then-d-eq2 c = simp (eq-eqb _ _ c.if-d-eq2.true)
+pub returns-then-d-eq-LIVE : goal.returns-then-d-eq-LIVE
+returns-then-d-eq-LIVE c = simp (eq-eqb _ _ c.if-d-eq-LIVE.true)
 
 -- another block
-pub returns-else-d-eq2 : goal.returns-else-d-eq2
-returns-else-d-eq2 c = simp (ne_eqb _ _ c.if-d-eq2.false)
+pub returns-else-d-eq-LIVE : goal.returns-else-d-eq-LIVE
+returns-else-d-eq-LIVE c = simp (ne_eqb _ _ c.if-d-eq-LIVE.false)

@@ -33,12 +33,12 @@ overflow_add-result c =
     omega (arith, c.extent_at.ensures, sound-end _ _ is_sound)
 
 -- a free block stands there
-pub returns-then-kind_at-eq1 : goal.returns-then-kind_at-eq1
-returns-then-kind_at-eq1 c =
+pub returns-then-kind_at-eq-FREE : goal.returns-then-kind_at-eq-FREE
+returns-then-kind_at-eq-FREE c =
     let inside : let a = c.args in a.next < length a.image.now = omega (arith, c.requires.0) in
     ap (λ (n : ℕ). c.args.next + n) c.extent_at.ensures
-    ∙ sym (merge_end-free _ _ inside (eq-eqb _ _ (sym c.kind_at.ensures ∙ c.if-kind_at-eq1.true)))
+    ∙ sym (merge_end-free _ _ inside (eq-eqb _ _ (sym c.kind_at.ensures ∙ c.if-kind_at-eq-FREE.true)))
 
 -- a live one
-pub returns-else-kind_at-eq1 : goal.returns-else-kind_at-eq1
-returns-else-kind_at-eq1 c = sym (merge_end_live _ _ (ne_eqb _ _ (λ e. c.if-kind_at-eq1.false (c.kind_at.ensures ∙ e))))
+pub returns-else-kind_at-eq-FREE : goal.returns-else-kind_at-eq-FREE
+returns-else-kind_at-eq-FREE c = sym (merge_end_live _ _ (ne_eqb _ _ (λ e. c.if-kind_at-eq-FREE.false (c.kind_at.ensures ∙ e))))

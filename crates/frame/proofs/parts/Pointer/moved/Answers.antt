@@ -1,29 +1,22 @@
--- `frame::Pointer::moved`: each way out is a law of `Moves`, over the tests that were passed before it. Assumes nothing.
-use Rattle.frame.proofs.Moves.{far, sum_fits, negative, address_fits, past, within, elsewhere}
+-- `frame::Pointer::moved`: the wrapped sum of address and distance is an address of the frame, or not (`Moves`). Assumes nothing.
+use Rattle.std.proofs.Common.{◌^◌, arith, lt-ltb, le-ltb, eq-eqb, ne_eqb}
+use Rattle.std.proofs.Math.Bool.{and-false}
+use Rattle.frame.specs.Pointers.{landed}
+use Rattle.frame.proofs.Moves.{moved_wrapped}
 use Rattle.frame.proofs.parts.Pointer.moved.Goals as goal
+use Rattle.frame.proofs.parts.Pointer.moved.Goals.{else-to-le281474976710655-via-then-to-le281474976710655+else-to-n, else-to-le281474976710655-via-else-to-le281474976710655}
 
--- the distance is above every address
-pub returns-then-distance-gt281474976710655 : goal.returns-then-distance-gt281474976710655
-returns-then-distance-gt281474976710655 c = far (search) (search) _ c.if-distance-gt281474976710655.true
-
-pub overflow_add-sum : goal.overflow_add-sum
-overflow_add-sum c = sum_fits c.requires.0 c.ranges.distance c.if-distance-gt281474976710655.false
-
--- the sum is negative
-pub returns-then-sum-lt0 : goal.returns-then-sum-lt0
-returns-then-sum-lt0 c = negative (search) (search) (search) _ c.if-sum-lt0.true
-
-pub overflow_cast-to : goal.overflow_cast-to
-overflow_cast-to c = address_fits c.requires.0 c.ranges.distance (search) c.if-sum-lt0.false
-
--- the sum is above every address
-pub returns-then-to-gt281474976710655 : goal.returns-then-to-gt281474976710655
-returns-then-to-gt281474976710655 c = past (search) (search) (search) (search) _ c.if-to-gt281474976710655.true
-
--- the sum is in the frame
 pub returns-then-to-n : goal.returns-then-to-n
-returns-then-to-n c = within (search) (search) (search) (search) _ (search) c.if-to-n.true
+unfolding landed
+returns-then-to-n c =
+    rw (← moved_wrapped c.args.self c.args.n c.args.distance _ c.requires.0 c.ranges.distance c.wrapping_add_signed-to.ensures)
+    (simp (lt-ltb c.wrapping_add_signed-to.result (2 ^ 48) (omega arith), eq-eqb _ _ c.if-to-n.true))
 
--- the sum is in another
-pub returns-else-to-n : goal.returns-else-to-n
-returns-else-to-n c = elsewhere (search) (search) (search) (search) _ (search) c.if-to-n.false
+pub returns-else-to-le281474976710655 : goal.returns-else-to-le281474976710655
+unfolding landed
+returns-else-to-le281474976710655 c =
+    rw (← moved_wrapped c.args.self c.args.n c.args.distance _ c.requires.0 c.ranges.distance c.wrapping_add_signed-to.ensures)
+    (elim c.else-to-le281474976710655.branch [
+      | else-to-le281474976710655-via-then-to-le281474976710655+else-to-n w ↦ simp (ne_eqb _ _ w.if-to-n.false, and-false)
+      | else-to-le281474976710655-via-else-to-le281474976710655 w ↦ simp (le-ltb c.wrapping_add_signed-to.result (2 ^ 48) (omega arith))
+    ])

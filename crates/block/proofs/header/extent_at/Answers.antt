@@ -1,7 +1,0 @@
--- `block::header::extent_at` reads one field of `header_at`. Assumes nothing.
-use Rattle.block.specs.Layout.{header_at}
-use Rattle.block.proofs.header.extent_at.Goals as goal
-
-pub returns : goal.returns
-unfolding header_at
-returns c = cc
