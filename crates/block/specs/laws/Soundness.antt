@@ -1,9 +1,9 @@
 -- Sound headers: taken apart, and how a header is sound. Assumes nothing.
+use Rattle.std.proofs.lemmas.Bool.{lt-leb}
 use Rattle.std.specs.Prelude.{◌≡◌, ℕ, ◌+◌, ◌<◌, ◌≤◌, Bool, true, false, cond, ◌&&◌, ◌⊎◌, List, length, ◌==◌, ◌≢◌, nat_le, None, Option, Some}
 use Rattle.std.proofs.Math.Path.{refl}
-use Rattle.std.proofs.Common.{ap, ◌∙◌, ⊎_elim, inl, inr, arith}
+use Rattle.std.proofs.Common.{ap, ◌∙◌, ⊎_elim, inl, inr, arith, le-leb, eq-eqb, ne_eqb, leb-true, eqb-true}
 use Rattle.std.proofs.Math.Bool.{and-false}
-use borrow.Author.Tests.{le-leb, lt-leb, eq-eqb, ne_eqb, leb-true, eqb-true}
 use Rattle.block.specs.laws.Booleans.{by_bool, and_left, and_right}
 use Rattle.block.specs.Layout.{fields, header_at, extent_at, kind_at, size_at, is_live, free_formed, live_formed, well_formed, sound}
 use Rattle.block.specs.declared.header.Header.{Header}

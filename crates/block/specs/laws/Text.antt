@@ -1,10 +1,9 @@
 -- Texts: their length, and a search that passes bytes without a zero among them. Assumes nothing.
 use Rattle.std.specs.Prelude.{◌≡◌, ℕ, suc, ◌+◌, ◌-◌, ◌<◌, ◌≤◌, Bool, false, List, [], ◌∷◌, ◌++◌, length, take, drop, ◌==◌, ◌≢◌, refl, None, Option, Some}
-use Rattle.std.proofs.Common.{sym, ◌∙◌, add-zero, drop-drop, take-add, length-drop, length-take-le, eq-eqb, ne_eqb, eqb-true}
+use Rattle.std.proofs.Common.{sym, ◌∙◌, add-zero, drop-drop, take-add, length-drop, length-take-le, eq-eqb, ne_eqb, eqb-true, arith}
 use Rattle.std.proofs.Math.Path.{ap}
 use mathlib.Mathlib.Data.Bool.Basic.{or-eq-false-eq-eq-false-and-eq-false}
 use Rattle.std.proofs.Math.Nat.{sub-zero}
-use native.Mathlib.Omega.{arith}
 use Rattle.std.proofs.lemmas.Bool.{eqb-false}
 use Rattle.std.specs.List.{list_any, position_from}
 use Rattle.block.specs.Text.{text_from, text_of}

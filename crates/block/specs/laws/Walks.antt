@@ -1,9 +1,9 @@
 -- Every walk over the blocks.
 -- In order: its bound, its steps, what it carries along, the places that it comes by. Not here: what each of its uses finds. Assumes nothing.
+use Rattle.std.proofs.lemmas.Bool.{eqb-false}
 use Rattle.std.specs.Prelude.{◌≡◌, ℕ, zero, suc, ◌+◌, ◌<◌, ◌≤◌, true, false, List, length, ◌==◌, ◌≢◌}
 use Rattle.std.proofs.Math.Path.{refl, sym, ap, subst}
-use Rattle.std.proofs.Common.{◌∙◌, arith}
-use borrow.Author.Tests.{eq-eqb, ne_eqb, eqb-true, eqb-false}
+use Rattle.std.proofs.Common.{◌∙◌, arith, eq-eqb, ne_eqb, eqb-true}
 use Rattle.block.specs.Layout.{header_at, extent_at, sound}
 use Rattle.block.specs.laws.Booleans.{by_bool}
 use Rattle.block.specs.laws.Soundness.{sound-same, sound_low, sound_in, sound-extent, unsound_past}

@@ -1,4 +1,4 @@
-use Rattle.std.proofs.Common.{◌≡◌, sym, refl, arith}
+use Rattle.std.proofs.Common.{sym, refl, arith}
 use Rattle.block.specs.laws.Writes.{put_nil}
 use Rattle.block.proofs.Runs.{down_turn}
 use Rattle.block.proofs.bytes.copy_down.Goals as goal

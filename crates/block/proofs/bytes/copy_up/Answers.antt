@@ -1,5 +1,4 @@
-use Rattle.std.proofs.Common.{◌≡◌, ◌-◌, sym, refl, ◌∙◌, add-zero, arith}
-use native.Mathlib.Nat.{sub-zero}
+use Rattle.std.proofs.Common.{◌≡◌, ◌-◌, sym, refl, arith}
 use Rattle.block.specs.laws.Writes.{put_nil}
 use Rattle.block.proofs.Runs.{up_turn}
 use Rattle.block.proofs.bytes.copy_up.Goals as goal

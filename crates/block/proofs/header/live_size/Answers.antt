@@ -1,5 +1,5 @@
 -- `block::header::live_size`: no room, another kind, and an unsound header are no object; else the size is read. Assumes nothing.
-use Rattle.std.proofs.Common.{◌≡◌, sym, ap, ◌∙◌, arith, Some}
+use Rattle.std.proofs.Common.{sym, ap, ◌∙◌, arith, Some}
 use Rattle.block.specs.laws.Soundness.{object_live, object_unsound, object_dead}
 use Rattle.block.proofs.Headers.{unroomy}
 use Rattle.block.proofs.header.live_size.Goals as goal

@@ -1,6 +1,6 @@
+use Rattle.std.proofs.lemmas.Bool.{lt-leb}
 use Rattle.std.proofs.Common.{◌≡◌, false, sym, ap, ◌∙◌, ⊎_elim, arith, eq-eqb, ne_eqb}
-use mathlib.Core.Bool.{and-false}
-use borrow.Author.Tests.{lt-leb}
+use Rattle.std.proofs.Math.Bool.{and-false}
 use Rattle.block.specs.Walk.{fitting, fit_of, first_fit}
 use Rattle.block.specs.laws.Turns.{Seen, seen_at, begins, at-end, at_unsound, at_stop, goes_on}
 use Rattle.block.proofs.walk.first_fit.Goals as goal

@@ -1,5 +1,5 @@
+use Rattle.std.proofs.lemmas.Bool.{lt-leb}
 use Rattle.std.proofs.Common.{sym, ◌∙◌, arith, eq-eqb, ne_eqb, le-leb}
-use borrow.Author.Tests.{lt-leb}
 use Rattle.block.specs.Walk.{met_of, walk_to}
 use Rattle.block.specs.laws.Turns.{Seen, seen_at, begins, at_stop, goes_on}
 use Rattle.block.specs.laws.WalkTo.{walk_to_lost}
