@@ -22,6 +22,7 @@ pub struct Counts {
 }
 
 // The first block that is unsound, or free with an extent of `need` or more.
+#[tactic(auto, using(crate::specs::laws::Turns::block_inside, crate::specs::laws::Turns::block_long))]
 pub fn first_fit(image: &[u8], need: u64) -> Fit
     ensures { result ≡ first_fit image.now need }
 {
@@ -42,6 +43,7 @@ pub fn first_fit(image: &[u8], need: u64) -> Fit
 }
 
 // Walks to the block at `target`: the place of the block before it, 0 where there is none; or none where no block is met there.
+#[tactic(auto, using(crate::specs::laws::Turns::block_inside, crate::specs::laws::Turns::block_long))]
 pub fn walk_to(image: &[u8], target: u64) -> Option<u64>
     ensures { result ≡ walk_to image.now target }
 {
@@ -63,6 +65,7 @@ pub fn walk_to(image: &[u8], target: u64) -> Option<u64>
 }
 
 // Counts the blocks; none where a header is unsound. Free ones have size 0; and what is neither live nor free behind the superblock is overhead, so that no sum is kept of it.
+#[tactic(auto, using(crate::specs::laws::Turns::block_inside, crate::specs::laws::Turns::block_long))]
 pub fn count_blocks(image: &[u8]) -> Option<Counts>
     ensures { result ≡ count_blocks image.now }
 {

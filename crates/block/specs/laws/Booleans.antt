@@ -9,7 +9,7 @@ by_bool false p q = q refl
 
 -- no test is both
 pub true_false : {b : Bool} → b ≡ true → b ≢ false
-true_false p q = let z : ◌≡◌ {A = Bool} true false = cc in let y : ◌≡◌ {A = ℕ} 0 1 = cc in omega arith
+true_false p q = cc
 
 -- a test that cannot hold is false
 pub refuted : (b : Bool) → (b ≢ true) → b ≡ false
@@ -27,4 +27,4 @@ and_left false b e = e
 
 pub and_right : (a b : Bool) → a && b ≡ true → b ≡ true
 and_right true b e = e
-and_right false b e = let z : ◌≡◌ {A = ℕ} 0 1 = cc in absurd (omega arith)
+and_right false b e = cc

@@ -31,8 +31,8 @@ count_is image a e = ap count_of e
 -- and no other are
 count_ended : (w : Walked Counts) (a : Counts) → count_of w ≡ Some a → w ≡ ended a
 unfolding count_of
-count_ended (stopped b h) a e = let z : ◌≡◌ {A = ℕ} 0 1 = cc in absurd (omega arith)
-count_ended (unsound h) a e = let z : ◌≡◌ {A = ℕ} 0 1 = cc in absurd (omega arith)
+count_ended (stopped b h) a e = cc
+count_ended (unsound h) a e = cc
 count_ended (ended b) a e = let x : b ≡ a = cc in ap ended x
 
 -- every byte between the superblock and h is counted once

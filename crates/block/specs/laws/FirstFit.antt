@@ -10,19 +10,19 @@ use Rattle.block.specs.declared.walk.Fit.TheVariants as fit
 fit_at : (w : Walked Unit) (h : ℕ) → fit_of w ≡ fit.At h → w ≡ stopped tt h
 unfolding fit_of
 fit_at (stopped tt g) h e = let z : g ≡ h = cc in ap (stopped tt) z
-fit_at (unsound g) h e = let z : ◌≡◌ {A = ℕ} 0 1 = cc in absurd (omega arith)
-fit_at (ended a) h e = let z : ◌≡◌ {A = ℕ} 0 1 = cc in absurd (omega arith)
+fit_at (unsound g) h e = cc
+fit_at (ended a) h e = cc
 
 fit_unsound : (w : Walked Unit) (h : ℕ) → fit_of w ≡ fit.Unsound h → w ≡ unsound h
 unfolding fit_of
-fit_unsound (stopped a g) h e = let z : ◌≡◌ {A = ℕ} 0 1 = cc in absurd (omega arith)
+fit_unsound (stopped a g) h e = cc
 fit_unsound (unsound g) h e = let z : g ≡ h = cc in ap unsound z
-fit_unsound (ended a) h e = let z : ◌≡◌ {A = ℕ} 0 1 = cc in absurd (omega arith)
+fit_unsound (ended a) h e = cc
 
 fit_end : (image : List ℕ) (w : Walked Unit) → fit_of w ≡ fit.End → place image w ≡ length image
 unfolding fit_of place
-fit_end image (stopped a g) e = let z : ◌≡◌ {A = ℕ} 0 1 = cc in absurd (omega arith)
-fit_end image (unsound g) e = let z : ◌≡◌ {A = ℕ} 0 1 = cc in absurd (omega arith)
+fit_end image (stopped a g) e = cc
+fit_end image (unsound g) e = cc
 fit_end image (ended a) e = refl
 
 -- a block that first fit passed does not fit

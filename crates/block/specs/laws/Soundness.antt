@@ -180,13 +180,13 @@ unfolding object_at
 object_is image h size e =
     by_bool (sound image h && is_live image h)
     (λ t. let x : Some (size_at image h) ≡ Some size = rw t at e in (and_left _ (is_live image h) t, and_right (sound image h) _ t, (cc)))
-    (λ t. let x : None ≡ Some size = rw t at e in let z : ◌≡◌ {A = ℕ} 0 1 = cc in absurd (omega arith))
+    (λ t. let x : None ≡ Some size = rw t at e in cc)
 
 pub object_is_none : (image : List ℕ) (h : ℕ) → object_at image h ≡ None → sound image h && is_live image h ≡ false
 unfolding object_at
 object_is_none image h e =
     by_bool (sound image h && is_live image h)
-    (λ t. let x : Some (size_at image h) ≡ None = rw t at e in let z : ◌≡◌ {A = ℕ} 0 1 = cc in absurd (omega arith))
+    (λ t. let x : Some (size_at image h) ≡ None = rw t at e in cc)
     (λ t. t)
 
 -- what `examine` answers
@@ -207,10 +207,10 @@ pub examined_is_sound : (image : List ℕ) (h : ℕ) (d : Header) → examined i
 examined_is_sound image h d e =
     by_bool (sound image h)
     (λ t. let x : examined image h ≡ Some (header_at image h) = examined-sound image h t in (t, (cc)))
-    (λ t. let x : examined image h ≡ None = examined_unsound image h t in let z : ◌≡◌ {A = ℕ} 0 1 = cc in absurd (omega arith))
+    (λ t. let x : examined image h ≡ None = examined_unsound image h t in cc)
 
 pub examined_is_unsound : (image : List ℕ) (h : ℕ) → examined image h ≡ None → sound image h ≡ false
 examined_is_unsound image h e =
     by_bool (sound image h)
-    (λ t. let x : examined image h ≡ Some (header_at image h) = examined-sound image h t in let z : ◌≡◌ {A = ℕ} 0 1 = cc in absurd (omega arith))
+    (λ t. let x : examined image h ≡ Some (header_at image h) = examined-sound image h t in cc)
     (λ t. t)

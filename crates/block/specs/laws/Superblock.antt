@@ -134,10 +134,10 @@ pub opened_is_good : (image : List ℕ) (s : ℕ) → opened image ≡ Some s �
 opened_is_good image s e =
     by_bool (superblock_good image)
     (λ t. let x : opened image ≡ Some (slot_exponent image) = opened_good image t in (t, (cc)))
-    (λ t. let x : opened image ≡ None = opened-refused image t in let z : ◌≡◌ {A = ℕ} 0 1 = cc in absurd (omega arith))
+    (λ t. let x : opened image ≡ None = opened-refused image t in cc)
 
 pub opened_is_bad : (image : List ℕ) → opened image ≡ None → superblock_good image ≡ false
 opened_is_bad image e =
     by_bool (superblock_good image)
-    (λ t. let x : opened image ≡ Some (slot_exponent image) = opened_good image t in let z : ◌≡◌ {A = ℕ} 0 1 = cc in absurd (omega arith))
+    (λ t. let x : opened image ≡ Some (slot_exponent image) = opened_good image t in cc)
     (λ t. t)

@@ -27,7 +27,7 @@ text_whole bs = refl
 -- its zero byte is one of the list's
 text_from_bound : (n : ℕ) (bs : List ℕ) (m : ℕ) → text_from n bs ≡ Some m → m < n + length bs
 unfolding text_from
-text_from_bound n [] m e = let z : ◌≡◌ {A = ℕ} 0 1 = cc in absurd (omega arith)
+text_from_bound n [] m e = cc
 text_from_bound n (b ∷ bs) m e =
     by_bool (b == 0)
     (λ t. let q : n ≡ m = cc (text_ends n b bs (eqb-true b 0 t)) in omega arith)

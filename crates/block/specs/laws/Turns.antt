@@ -1,5 +1,5 @@
 -- A turn of a loop that walks: what is left of the walk, the header that was examined, and how the walk ends or goes on. Assumes nothing.
-use Rattle.std.specs.Prelude.{◌≡◌, ℕ, ◌+◌, ◌≤◌, true, false, ◌⊎◌, List, length, ◌==◌, ◌≢◌, None, Some}
+use Rattle.std.specs.Prelude.{◌≡◌, ℕ, ◌+◌, ◌≤◌, true, false, ◌⊎◌, List, length, ◌==◌, ◌≢◌, None, Option, Some}
 use Rattle.std.proofs.Common.{sym, ap, ◌∙◌, subst, ⊎_elim, arith, eq-eqb, eqb-true}
 use Rattle.std.proofs.lemmas.Bool.{eqb-false}
 use Rattle.block.specs.laws.Booleans.{by_bool}
@@ -29,6 +29,17 @@ seen_at image h d e =
       inside = subst (λ (x : Header). h + x.extent ≤ length image) (sym r) (sound-end image h o);
       long = subst (λ (x : Header). 16 ≤ x.extent) (sym r) (sound-extent image h o);
     }
+
+-- the same, of a header that was examined
+pub seen : {image : List ℕ} {h : ℕ} {r : Option Header} {d : Header} → r ≡ examined image h → r ≡ Some d → Seen image h d
+seen e i = seen_at _ _ _ (sym e ∙ i)
+
+-- so a walk goes on, and not past the end
+pub block_long : (image : List ℕ) (h : ℕ) (d : Header) → examined image h ≡ Some d → 16 ≤ d.extent
+block_long image h d e = (seen_at image h d e).long
+
+pub block_inside : (image : List ℕ) (h : ℕ) (d : Header) → examined image h ≡ Some d → h + d.extent ≤ length image
+block_inside image h d e = (seen_at image h d e).inside
 
 -- a live block holds its raw size
 pub live_holds : {image : List ℕ} {h : ℕ} {d : Header} → Seen image h d → d.kind ≡ 2 → 16 + d.size ≤ d.extent

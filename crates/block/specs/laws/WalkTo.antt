@@ -45,9 +45,9 @@ met_after image target before (stopped a h) r e =
       is_sound = ap (sound image) (sym z) ∙ r.1;
       behind = subst (λ (b : ℕ). Behind image b target) y (subst (Behind image a) z r.0.1);
     })
-    (λ t. let z : ◌≡◌ {A = ℕ} 0 1 = cc in absurd (omega arith))
-met_after image target before (unsound h) r e = let z : ◌≡◌ {A = ℕ} 0 1 = cc in absurd (omega arith)
-met_after image target before (ended a) r e = let z : ◌≡◌ {A = ℕ} 0 1 = cc in absurd (omega arith)
+    (λ t. cc)
+met_after image target before (unsound h) r e = cc
+met_after image target before (ended a) r e = cc
 
 -- a walk that stops at the target meets it
 pub walk_to_stopped : (image : List ℕ) (target before : ℕ) → walk (reaching target) image 0 ≡ stopped before target → walk_to image target ≡ Some before

@@ -18,7 +18,7 @@ and_left false b e = e
 
 pub and_right : (a b : Bool) → a && b ≡ true → b ≡ true
 and_right true b e = e
-and_right false b e = let z : ◌≡◌ {A = ℕ} 0 1 = cc in absurd (omega arith)
+and_right false b e = cc
 
 -- Parts and packing are inverse both ways.
 
@@ -99,7 +99,7 @@ unfolding reach_of
 reach_bad s p h = go (good_tag s p) refl h
   where
     go : (b : Bool) → good_tag s p ≡ b → cond b (Some (reach s p)) None ≡ None → good_tag s p ≡ false
-    go true g e = let z : ◌≡◌ {A = ℕ} 0 1 = cc in absurd (omega arith)
+    go true g e = cc
     go false g e = g
 
 -- the slot or frame that a pointer may move in
@@ -122,7 +122,7 @@ reach-within s p n h = go (good_tag s p) refl h
   where
     go : (b : Bool) → good_tag s p ≡ b → cond b (Some (reach s p)) None ≡ Some n → Reaches s p n
     go true g e = let q : n ≡ reach s p = cc in record { good = g; exponent = q; small = λ l. rw q (reach_bound s p g l) }
-    go false g e = let z : ◌≡◌ {A = ℕ} 0 1 = cc in absurd (omega arith)
+    go false g e = cc
 
 -- An accepted move of p by d in a frame of size 2^n: q keeps flag and tag number and stays in the frame.
 pub record Move (p : Pointer) (n : ℕ) (d : ℤ) (q : Pointer) : Type 0 where
@@ -145,12 +145,12 @@ landed_if p q n a d true e z h =
       address = ltb-true a (2 ^ 48) (and_left _ (same_frame n a p.address) inside);
       frame = eqb-true _ _ (and_right (ltb a (2 ^ 48)) _ inside);
     })
-landed_if p q n a d false e z h = let z : ◌≡◌ {A = ℕ} 0 1 = cc in absurd (omega arith)
+landed_if p q n a d false e z h = cc
 
 landed-to : (p q : Pointer) (n : ℕ) (d z : ℤ) → z ≡ pos p.address +ℤ d → landed p n z ≡ Some q → Move p n d q
 unfolding landed
 landed-to p q n d (pos a) e h = landed_if p q n a d (ltb a (2 ^ 48) && same_frame n a p.address) refl e h
-landed-to p q n d (negsuc a) e h = let z : ◌≡◌ {A = ℕ} 0 1 = cc in absurd (omega arith)
+landed-to p q n d (negsuc a) e h = cc
 
 pub moved_to : (p q : Pointer) (n : ℕ) (d : ℤ) → moved p n d ≡ Some q → Move p n d q
 unfolding moved

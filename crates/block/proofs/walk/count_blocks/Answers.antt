@@ -1,43 +1,27 @@
 use Rattle.std.proofs.Common.{sym, ap, ◌∙◌, arith}
 use Rattle.block.specs.Walk.{count_of, count_blocks}
-use Rattle.block.specs.laws.Turns.{Seen, seen_at, size-inside, at_unsound}
+use Rattle.block.specs.laws.Turns.{seen, size-inside, at_unsound}
 use Rattle.block.proofs.Counting.{counts_none, counts_all, counts_live, counts-free}
 use Rattle.block.proofs.walk.count_blocks.Goals as goal
 use Rattle.block.proofs.walk.count_blocks.Goals.{then-d-eq-LIVE, else-d-eq-LIVE}
 
-pub overflow_add-objects : goal.overflow_add-objects
-overflow_add-objects c =
-    let seen : Seen c.args.image.now c.loop-d.h c.in-Some.d = seen_at _ _ _ (sym c.examine.ensures ∙ c.in-Some.is) in
-    let s = seen in
-    omega (arith, c.loop-d.invariant.below)
+pub loop-d-init : goal.loop-d-init
+loop-d-init c = counts_none _
 
 pub overflow_add-free : goal.overflow_add-free
 overflow_add-free c =
-    let seen : Seen c.args.image.now c.loop-d.h c.in-Some.d = seen_at _ _ _ (sym c.examine.ensures ∙ c.in-Some.is) in
-    let s = seen in
+    let s = seen c.examine.ensures c.in-Some.is in
     omega (arith, c.loop-d.invariant.below)
 
 pub overflow_add-live : goal.overflow_add-live
 overflow_add-live c =
-    let seen : Seen c.args.image.now c.loop-d.h c.in-Some.d = seen_at _ _ _ (sym c.examine.ensures ∙ c.in-Some.is) in
-    let s = seen in
+    let s = seen c.examine.ensures c.in-Some.is in
     omega (arith, c.loop-d.invariant.below, size-inside s)
-
-pub overflow_add-h : goal.overflow_add-h
-overflow_add-h c =
-    let seen : Seen c.args.image.now c.loop-d.h c.in-Some.d = seen_at _ _ _ (sym c.examine.ensures ∙ c.in-Some.is) in
-    let s = seen in omega arith
-
-pub loop-d-smaller : goal.loop-d-smaller
-loop-d-smaller c =
-    let seen : Seen c.args.image.now c.loop-d.h c.in-Some.d = seen_at _ _ _ (sym c.examine.ensures ∙ c.in-Some.is) in
-    let s = seen in omega arith
 
 pub loop-d-preserved : goal.loop-d-preserved
 loop-d-preserved c =
-    let seen : Seen c.args.image.now c.loop-d.h c.in-Some.d = seen_at _ _ _ (sym c.examine.ensures ∙ c.in-Some.is) in
+    let s = seen c.examine.ensures c.in-Some.is in
     let w = c.loop-d.invariant in
-    let s = seen in
     elim c.if-d-eq-LIVE.branch [
       | then-d-eq-LIVE j ↦ rw (j.objects-is, j.free-is) (counts_live w s j.if-d-eq-LIVE.true)
       | else-d-eq-LIVE j ↦ rw (j.objects-is, j.free-is) (counts-free w s j.if-d-eq-LIVE.false)
@@ -51,15 +35,3 @@ returns-then-h-len c = counts_all c.loop-d.invariant c.if-h-len.true
 pub returns-else-h-len : goal.returns-else-h-len
 unfolding count_blocks count_of
 returns-else-h-len c = ap count_of (at_unsound c.loop-d.invariant.rest c.if-h-len.false (sym c.examine.ensures ∙ c.in_default.is))
-
-pub loop-d-init : goal.loop-d-init
-loop-d-init c = counts_none _
-
-pub overflow_sub-result : goal.overflow_sub-result
-overflow_sub-result c = omega (arith, c.loop-d.invariant.below)
-
-pub overflow_sub-result-then-h-len : goal.overflow_sub-result-then-h-len
-overflow_sub-result-then-h-len c = omega (arith, c.loop-d.invariant.below)
-
-pub overflow_sub-result-then-h-len-2 : goal.overflow_sub-result-then-h-len-2
-overflow_sub-result-then-h-len-2 c = omega (arith, c.loop-d.invariant.below)

@@ -1,28 +1,18 @@
 use Rattle.std.proofs.lemmas.Bool.{lt-leb}
-use Rattle.std.proofs.Common.{◌≡◌, false, sym, ap, ◌∙◌, ⊎_elim, arith, eq-eqb, ne_eqb}
+use Rattle.std.proofs.Common.{◌≡◌, false, sym, ap, ◌∙◌, ⊎_elim, arith, eq-eqb, ne_eqb, le-leb}
 use Rattle.std.proofs.Math.Bool.{and-false}
 use Rattle.block.specs.Walk.{fitting, fit_of, first_fit}
-use Rattle.block.specs.laws.Turns.{Seen, seen_at, begins, at-end, at_unsound, at_stop, goes_on}
+use Rattle.block.specs.laws.Turns.{seen, begins, at-end, at_unsound, at_stop, goes_on}
 use Rattle.block.proofs.walk.first_fit.Goals as goal
 
 pub loop-d-init : goal.loop-d-init
 loop-d-init c = begins _ _ _
 
-pub overflow_add-h : goal.overflow_add-h
-overflow_add-h c =
-    let seen : Seen c.args.image.now c.loop-d.h c.in-Some.d = seen_at _ _ _ (sym c.examine.ensures ∙ c.in-Some.is) in
-    let s = seen in omega arith
-
-pub loop-d-smaller : goal.loop-d-smaller
-loop-d-smaller c =
-    let seen : Seen c.args.image.now c.loop-d.h c.in-Some.d = seen_at _ _ _ (sym c.examine.ensures ∙ c.in-Some.is) in
-    let s = seen in omega arith
-
 pub loop-d-preserved : goal.loop-d-preserved
 loop-d-preserved c =
-    let seen : Seen c.args.image.now c.loop-d.h c.in-Some.d = seen_at _ _ _ (sym c.examine.ensures ∙ c.in-Some.is) in
+    let s = seen c.examine.ensures c.in-Some.is in
     let passed : (fitting c.args.need).stops c.loop-d.h c.in-Some.d ≡ false = ⊎_elim (λ w. simp (and-false, lt-leb c.args.need c.in-Some.d.extent w.1)) (λ w. simp (ne_eqb c.in-Some.d.kind 1 w)) c.else-d-eq-FREE.either in
-    goes_on c.loop-d.invariant seen passed
+    goes_on c.loop-d.invariant s passed
 
 -- the image's end
 pub returns-then-h-len : goal.returns-then-h-len
@@ -38,5 +28,5 @@ returns-else-h-len c = ap fit_of (at_unsound c.loop-d.invariant c.if-h-len.false
 pub returns-then-need-d : goal.returns-then-need-d
 unfolding first_fit fit_of
 returns-then-need-d c =
-    let seen : Seen c.args.image.now c.loop-d.h c.in-Some.d = seen_at _ _ _ (sym c.examine.ensures ∙ c.in-Some.is) in
-    ap fit_of (at_stop c.loop-d.invariant seen (simp (eq-eqb _ _ c.if-d-eq-FREE.true, c.if-need-d.true-raw)))
+    let s = seen c.examine.ensures c.in-Some.is in
+    ap fit_of (at_stop c.loop-d.invariant s (simp (eq-eqb _ _ c.if-d-eq-FREE.true, le-leb _ _ c.if-need-d.true)))

@@ -1,27 +1,17 @@
 use Rattle.std.proofs.lemmas.Bool.{lt-leb}
 use Rattle.std.proofs.Common.{sym, ◌∙◌, arith, eq-eqb, ne_eqb, le-leb}
 use Rattle.block.specs.Walk.{met_of, walk_to}
-use Rattle.block.specs.laws.Turns.{Seen, seen_at, begins, at_stop, goes_on}
+use Rattle.block.specs.laws.Turns.{seen, begins, at_stop, goes_on}
 use Rattle.block.specs.laws.WalkTo.{walk_to_lost}
 use Rattle.block.proofs.walk.walk_to.Goals as goal
 
 pub loop-d-init : goal.loop-d-init
 loop-d-init c = begins _ _ _
 
-pub overflow_add-h : goal.overflow_add-h
-overflow_add-h c =
-    let seen : Seen c.args.image.now c.loop-d.h c.in-Some.d = seen_at _ _ _ (sym c.examine.ensures ∙ c.in-Some.is) in
-    let s = seen in omega arith
-
-pub loop-d-smaller : goal.loop-d-smaller
-loop-d-smaller c =
-    let seen : Seen c.args.image.now c.loop-d.h c.in-Some.d = seen_at _ _ _ (sym c.examine.ensures ∙ c.in-Some.is) in
-    let s = seen in omega arith
-
 pub loop-d-preserved : goal.loop-d-preserved
 loop-d-preserved c =
-    let seen : Seen c.args.image.now c.loop-d.h c.in-Some.d = seen_at _ _ _ (sym c.examine.ensures ∙ c.in-Some.is) in
-    goes_on c.loop-d.invariant seen (lt-leb c.args.target c.loop-d.h (omega arith))
+    let s = seen c.examine.ensures c.in-Some.is in
+    goes_on c.loop-d.invariant s (lt-leb c.args.target c.loop-d.h (omega arith))
 
 -- no sound header
 pub returns-in_default : goal.returns-in_default
@@ -31,12 +21,12 @@ returns-in_default c = walk_to_lost _ c.loop-d.invariant (sym c.examine.ensures 
 pub returns-then-h-target : goal.returns-then-h-target
 unfolding walk_to met_of
 returns-then-h-target c =
-    let seen : Seen c.args.image.now c.loop-d.h c.in-Some.d = seen_at _ _ _ (sym c.examine.ensures ∙ c.in-Some.is) in
-    rw (← at_stop c.loop-d.invariant seen (le-leb c.args.target c.loop-d.h (omega arith)), eq-eqb _ _ c.if-h-target.true)
+    let s = seen c.examine.ensures c.in-Some.is in
+    rw (← at_stop c.loop-d.invariant s (le-leb c.args.target c.loop-d.h (omega arith)), eq-eqb _ _ c.if-h-target.true)
 
 -- the first block above the target
 pub returns-then-target-h : goal.returns-then-target-h
 unfolding walk_to met_of
 returns-then-target-h c =
-    let seen : Seen c.args.image.now c.loop-d.h c.in-Some.d = seen_at _ _ _ (sym c.examine.ensures ∙ c.in-Some.is) in
-    rw (← at_stop c.loop-d.invariant seen (le-leb c.args.target c.loop-d.h (omega arith)), ne_eqb _ _ c.if-h-target.false)
+    let s = seen c.examine.ensures c.in-Some.is in
+    rw (← at_stop c.loop-d.invariant s (le-leb c.args.target c.loop-d.h (omega arith)), ne_eqb _ _ c.if-h-target.false)
