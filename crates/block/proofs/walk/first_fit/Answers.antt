@@ -1,5 +1,5 @@
 use Rattle.std.proofs.lemmas.Bool.{lt-leb}
-use Rattle.std.proofs.Common.{◌≡◌, false, sym, ap, ◌∙◌, ⊎_elim, arith, eq-eqb, ne_eqb, le-leb}
+use Rattle.std.proofs.Common.{◌≡◌, false, sym, ap, ◌∙◌, ⊎_elim, eq-eqb, ne_eqb, le-leb}
 use Rattle.std.proofs.Math.Bool.{and-false}
 use Rattle.block.specs.Walk.{fitting, fit_of, first_fit}
 use Rattle.block.specs.laws.Turns.{seen, begins, at-end, at_unsound, at_stop, goes_on}
