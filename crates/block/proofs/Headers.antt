@@ -1,11 +1,11 @@
 -- How the code's tests and writes of a header add up. Assumes nothing.
 use Rattle.std.proofs.lemmas.Bool.{lt-leb}
-use Rattle.std.proofs.Common.{◌≡◌, ℕ, ◌+◌, ◌-◌, ◌<◌, ◌≤◌, true, false, ◌&&◌, eqb, leb, List, ◌++◌, length, sym, ap, ◌∙◌, append_assoc, arith, length-append, eq-eqb, ne_eqb, le-leb, leb-false, leb-true}
+use Rattle.std.proofs.Common.{◌≡◌, ℕ, ◌+◌, ◌-◌, ◌%◌, ◌^◌, ◌<◌, ◌≤◌, true, false, ◌&&◌, eqb, leb, List, ◌++◌, length, sym, ap, ◌∙◌, append_assoc, arith, length-append, eq-eqb, ne_eqb, le-leb, leb-false, leb-true}
 use Rattle.std.proofs.Math.Bool.{and_assoc, and-false, and-true}
 use Rattle.block.specs.Bytes.{encode, put}
 use Rattle.block.specs.laws.Fields.{length-encode}
 use Rattle.block.specs.laws.Writes.{put-append}
-use Rattle.block.specs.laws.Booleans.{by_bool, and_left, and_right}
+use Rattle.block.specs.laws.Booleans.{by_bool, refuted, and_both, and_left, and_right}
 use Rattle.block.specs.Layout.{within, extent_at, kind_at, type_at, size_at, cue_at, well_formed, sound}
 use Rattle.block.specs.laws.Soundness.{sound_by, unsound_low, unsound_past}
 
@@ -29,6 +29,18 @@ put_fields image h a b c d e room =
     (rw (put-append image h ab (encode 2 c) (h + 6) (omega arith) (omega arith))
     (rw (put-append image h abc (encode 4 d) (h + 8) (omega arith) (omega arith))
     (put-append image h abcd (encode 4 e) (h + 12) (omega arith) (omega arith) ∙ ap (put image h) (simp append_assoc))))
+
+-- `a - b <= c`, wrapping: a is from b to b + c
+pub wrapped_within : (r a b c : ℕ) → r < 2 ^ 64 → (r + b) % 2 ^ 64 ≡ a → b + c < 2 ^ 64 → leb r c ≡ leb b a && leb a (b + c)
+wrapped_within r a b c f e l =
+    by_bool (leb r c)
+    (λ t. let k = leb-true r c t in t ∙ sym (and_both _ _ (le-leb b a (omega arith)) (le-leb a (b + c) (omega arith))))
+    (λ t.
+    let k = leb-false r c t in
+    t
+    ∙ sym
+    (refuted (leb b a && leb a (b + c))
+    (λ u. let m = leb-true b a (and_left _ (leb a (b + c)) u) in let n = leb-true a (b + c) (and_right (leb b a) _ u) in omega arith)))
 
 -- the test h + e ≤ L, without the sum
 ends_by : (L h e : ℕ) → h ≤ L → leb (h + e) L ≡ leb e (L - h)

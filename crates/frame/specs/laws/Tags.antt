@@ -2,6 +2,7 @@
 -- In order: the test of a tag in constant time; the pointer to an object; its pointer with its entry. Not here: wrapper frames and entries (`Wrappers`). Assumes nothing.
 use Rattle.std.specs.Prelude.{ℕ, ◌+◌, ◌-◌, ◌*◌, ◌/◌, ◌^◌, ◌≤◌, ◌<◌, ◌≡◌, refl, Bool, true, false, cond, ◌&&◌, not, leb, eqb, None, Some}
 use Rattle.std.proofs.Common.{sym, ap, ◌∙◌, lt_of_not-le, lt_of_lt_of_le, mod-lt, arith, pow_pos, pow_mono, shr-shr}
+use Rattle.std.proofs.lemmas.Option.{none-some, same_Some}
 use Rattle.std.proofs.Math.Bool.{and-true}
 use Rattle.std.proofs.Math.Nat.{mul-add-div_right}
 use Rattle.std.proofs.Math.Decide.{ℕ_discrete}
@@ -238,3 +239,17 @@ tagged_small s h size l = rw (le-leb (wrapper h size) s l)
 pub tagged-large : (s h size : ℕ) → s < wrapper h size → (tagged s h size).entry ≡ Some (entry_of s h size)
 unfolding tagged
 tagged-large s h size l = rw (lt-leb (wrapper h size) s l)
+
+-- and what a tag says
+
+pub tagged-is_small : (s h size : ℕ) → (tagged s h size).entry ≡ None → wrapper h size ≤ s
+tagged-is_small s h size e =
+    by_frame s h size
+    (λ l. l)
+    (λ l. absurd (none-some _ (sym e ∙ tagged-large s h size l)))
+
+pub tagged_is_large : (s h size i : ℕ) → (tagged s h size).entry ≡ Some i → (s < wrapper h size) × (i ≡ entry_of s h size)
+tagged_is_large s h size i e =
+    by_frame s h size
+    (λ l. absurd (none-some _ (sym (tagged_small s h size l) ∙ e)))
+    (λ l. (l, same_Some _ _ (sym e ∙ tagged-large s h size l)))
