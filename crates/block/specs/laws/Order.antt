@@ -140,7 +140,8 @@ big_add image (suc v) w at =
 big_bound : (image : List ℕ) → Bytes image → (w at : ℕ) → big_field image at w < 256 ^ w
 unfolding big_field
 big_bound image h zero at = omega arith
-big_bound image h (suc w) at = omega (arith, pow-suc 256 w, mul-le-mul_left (256 ^ w) (h at), mul-suc (256 ^ w) (slice_index image at), big_bound image h w (suc at))
+big_bound image h (suc w) at =
+    omega (arith, pow-suc 256 w, mul-le-mul_left (256 ^ w) (h at), mul-suc (256 ^ w) (slice_index image at), big_bound image h w (suc at))
 
 -- a number read in two parts: `low`, its w last bytes, and `high`, the v others
 module _ (image : List ℕ) (v w at low high : ℕ) (l : low ≡ big_field image (at + v) w) (h : high ≡ big_field image at v) where

@@ -57,7 +57,8 @@ next_formed log at c n e =
     let left : ℕ = length log - at in
     let len : ℕ = field log at 2 in
     let kind : ℕ = field log (at + 2) 2 in
-    let (whole, e1) = insisted {A = Call × ℕ} (leb 4 left && (leb 4 len && leb len left)) CutShort (formed_at log at len) (c, n) (cc (not_ended (eqb left 0) _ c n e)) in
+    let tested : insist (leb 4 left && (leb 4 len && leb len left)) CutShort (formed_at log at len) ≡ Ok (c, n) = cc (not_ended (eqb left 0) _ c n e) in
+    let (whole, e1) = insisted {A = Call × ℕ} (leb 4 left && (leb 4 len && leb len left)) CutShort _ (c, n) tested in
     let (known, e2) = insisted (known_kind kind) UnknownKind _ (c, n) e1 in
     let (suits, e3) = insisted (eqb len (record_length kind) && good_value log kind (at + 4)) BadFields _ (c, n) e2 in
     let is : ◌≡◌ {A = Call × ℕ} (call_at log kind (at + 4), at + len) (c, n) = cc e3 in
