@@ -5,5 +5,6 @@ pub mod Fields
 pub mod Lists
 -- which type has which
 pub mod Layouts
--- what the check refuses
+-- the check, test by test, and what it refuses
+pub mod Checks
 pub mod Bad

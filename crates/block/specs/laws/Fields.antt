@@ -1,6 +1,6 @@
 -- Little-endian numbers in bytes: encoding, decoding, reading. Assumes nothing.
 use Rattle.std.specs.Prelude.{◌≡◌, ℕ, zero, suc, ◌+◌, ◌*◌, ◌/◌, ◌%◌, ◌^◌, ◌<◌, ◌≤◌, List, [], ◌∷◌, ◌++◌, length, take, drop, ◌==◌, nat_lt, slice_index, slice_index_or, refl}
-use Rattle.std.proofs.Common.{sym, ap, ◌∙◌, zero-add, suc-add, div-one, le-div_iff_mul-le, one-mul, mul-suc, pow-suc, add-zero, arith, pow_pos, pow-add, shr_lt, take_at, drop-drop, drop-cons, ltb-true, ltb-false, eq-eqb, ne_eqb}
+use Rattle.std.proofs.Common.{sym, ap, ◌∙◌, zero-add, suc-add, div-one, le-div_iff_mul-le, one-mul, mul_assoc, mul-suc, pow-suc, add-suc, add-zero, arith, pow_pos, pow-add, shr_lt, take_at, drop-drop, drop-cons, ltb-true, ltb-false, eq-eqb, ne_eqb}
 use Rattle.std.proofs.Math.Nat.{div-div-eq-div-mul, pow-succ'}
 use Rattle.std.proofs.Math.Seq.{take-nil}
 use Rattle.block.specs.Bytes.{encode, decode, field, Bytes}
@@ -68,6 +68,18 @@ field_step [] (suc at) w = rw (take-nil w)
 field_step (b ∷ bs) zero w = refl
 field_step (b ∷ bs) (suc at) w = field_step bs at w
 
+-- a field of one byte is that byte
+pub field_one : (image : List ℕ) (at : ℕ) → field image at 1 ≡ slice_index image at
+field_one image at = omega (arith, field_step image at 0, field_zero image (suc at))
+
+-- a field in two parts: its low bytes, and the others
+pub field_add : (image : List ℕ) (v w at : ℕ) → field image at (v + w) ≡ field image at v + 256 ^ v * field image (at + v) w
+field_add image zero w at = rw (zero-add w, field_zero image at, add-zero at, one-mul (field image at w)) (omega arith)
+field_add image (suc v) w at =
+    let rest : ℕ = field image (suc (at + v)) w in
+    let ih : field image (suc at) (v + w) ≡ field image (suc at) v + 256 ^ v * rest = rw (suc-add at v) at (field_add image v w (suc at)) in
+    rw (suc-add v w, field_step image at (v + w), field_step image at v, add-suc at v, pow-succ' 256 v, mul_assoc 256 (256 ^ v) rest, ih) (omega arith)
+
 -- a field of bytes is below that power of 256
 pub field_bound : (image : List ℕ) → Bytes image → (w at : ℕ) → field image at w < 256 ^ w
 field_bound image h zero at = rw (field_zero image at) (omega arith)
@@ -87,6 +99,15 @@ field_stands image h (suc w) at l =
     drop-cons image at 0 (omega arith)
     ∙ ap (λ (r : List ℕ). b ∷ r) (field_stands image h w (suc at) (omega arith) ∙ ap (λ (n : ℕ). encode w f ++ drop n image) ends)
     ∙ rw (field_step image at w, low, high) refl
+
+-- a field read in two parts: `low`, its v low bytes, and `high`, the w others
+module _ (image : List ℕ) (v w at low high : ℕ) (l : low ≡ field image at v) (h : high ≡ field image (at + v) w) where
+  pub parts_are : low + 256 ^ v * high ≡ field image at (v + w)
+  parts_are = cc (field_add image v w at)
+
+  -- so the sum fits that many bytes
+  pub parts_fit : Bytes image → low + 256 ^ v * high < 256 ^ (v + w)
+  parts_fit b = rw parts_are (field_bound image b (v + w) at)
 
 -- equal bytes give equal fields
 pub field_ext : (a b : List ℕ) (w at : ℕ) → ((k : ℕ) → at ≤ k → k < at + w → slice_index a k ≡ slice_index b k) → field a at w ≡ field b at w

@@ -1,13 +1,16 @@
 -- Texts: their length, and a search that passes bytes without a zero among them. Assumes nothing.
-use Rattle.std.specs.Prelude.{◌≡◌, ℕ, suc, ◌+◌, ◌-◌, ◌<◌, ◌≤◌, Bool, false, List, [], ◌∷◌, ◌++◌, length, take, drop, ◌==◌, ◌≢◌, refl, None, Option, Some}
-use Rattle.std.proofs.Common.{sym, ◌∙◌, add-zero, drop-drop, take-add, length-drop, length-take-le, eq-eqb, ne_eqb, eqb-true, arith}
+use Rattle.std.specs.Prelude.{◌≡◌, ℕ, zero, suc, ◌+◌, ◌-◌, ◌<◌, ◌≤◌, Bool, false, ◌||◌, List, [], ◌∷◌, ◌++◌, length, take, drop, ◌==◌, ◌≢◌, slice_index, refl, None, Option, Some}
+use Rattle.std.proofs.Common.{sym, ◌∙◌, zero-add, suc-add, add-zero, add-suc, drop-cons, drop-drop, take-add, length-drop, length-take-le, eq-eqb, ne_eqb, eqb-true, arith}
 use Rattle.std.proofs.Math.Path.{ap}
+use Rattle.std.proofs.Math.Bool.{or-false, or_assoc}
 use mathlib.Mathlib.Data.Bool.Basic.{or-eq-false-eq-eq-false-and-eq-false}
 use Rattle.std.proofs.Math.Nat.{sub-zero}
 use Rattle.std.proofs.lemmas.Bool.{eqb-false}
 use Rattle.std.specs.List.{list_any, position_from}
+use Rattle.block.specs.Bytes.{field}
 use Rattle.block.specs.Text.{text_from, text_of}
 use Rattle.block.specs.laws.Booleans.{by_bool}
+use Rattle.block.specs.laws.Fields.{field_one}
 
 -- a text, by its first byte
 
@@ -67,6 +70,26 @@ text_found_from n i (b ∷ bs) =
 pub text_is_found : (n : ℕ) (bs : List ℕ) → text_from n bs ≡ text_found n (position_from is_zero 0 bs)
 text_is_found n bs = ap (λ (k : ℕ). text_from k bs) (sym (add-zero n)) ∙ text_found_from n 0 bs
 
+-- Zero bytes.
+
+-- whether one of the `width` bytes at `at` is zero
+unfoldable pub any_zero : List ℕ → ℕ → ℕ → Bool
+any_zero image at zero = false
+any_zero image at (suc width) = slice_index image at == 0 || any_zero image (suc at) width
+
+-- one byte
+pub zero_one : (image : List ℕ) (at : ℕ) → any_zero image at 1 ≡ (field image at 1 == 0)
+unfolding any_zero
+zero_one image at = rw (field_one image at) (or-false (slice_index image at == 0))
+
+-- one of v bytes, or of the w behind them
+pub zero_parts : (image : List ℕ) (v w at : ℕ) → any_zero image at (v + w) ≡ (any_zero image at v || any_zero image (at + v) w)
+unfolding any_zero
+zero_parts image zero w at = rw (zero-add w, add-zero at)
+zero_parts image (suc v) w at =
+    rw (suc-add v w, add-suc at v, ← suc-add at v, zero_parts image v w (suc at))
+    (sym (or_assoc (slice_index image at == 0) (any_zero image (suc at) v) (any_zero image (suc at + v) w)))
+
 -- the text in the n bytes at `at`, after the first i of them, of which none is zero
 abbrev pub text_after : List ℕ → ℕ → ℕ → ℕ → Option ℕ
 text_after image at n i = text_from i (take (n - i) (drop (at + i) image))
@@ -76,9 +99,15 @@ module _ (image : List ℕ) (at n : ℕ) where
   pub text_start : text_of (take n (drop at image)) ≡ text_after image at n 0
   text_start = simp (sub-zero, add-zero, text_whole)
 
-  -- a turn of a loop over them: none of their next w bytes is zero
-  pub text_turn : at + n ≤ length image → (w i : ℕ) → i + w ≤ n → list_any is_zero (take w (drop (at + i) image)) ≡ false → text_after image at n i ≡ text_after image at n (i + w)
-  text_turn f w i l z =
+  -- after all of them
+  pub text_end : (i : ℕ) → n ≤ i → text_after image at n i ≡ None
+  unfolding text_from
+  text_end i l = let e : n - i ≡ 0 = omega arith in rw e
+
+  -- their next w bytes, none of them zero, are passed
+  pub text_passed : at + n ≤ length image → (w i : ℕ) → i + w ≤ n → list_any is_zero (take w (drop (at + i) image)) ≡ false
+      → text_after image at n i ≡ text_after image at n (i + w)
+  text_passed f w i l z =
       let rest : List ℕ = drop (at + i) image in
       let e : n - i ≡ w + (n - (i + w)) = omega arith in
       let d : at + i + w ≡ at + (i + w) = omega arith in
@@ -87,3 +116,28 @@ module _ (image : List ℕ) (at n : ℕ) where
       ∙ ap (text_from i) (take-add w (n - (i + w)) rest)
       ∙ text_passes i (take w rest) _ z
       ∙ rw (long, drop-drop w (at + i) image, d) refl
+
+  module _ (f : at + n ≤ length image) where
+    -- by the next byte
+    next_byte : (i : ℕ) → i < n → text_after image at n i ≡ text_from i (slice_index image (at + i) ∷ take (n - (i + 1)) (drop (at + (i + 1)) image))
+    next_byte i l =
+        let e : n - i ≡ suc (n - (i + 1)) = omega arith in
+        let d : at + (i + 1) ≡ suc (at + i) = omega arith in
+        rw (e, d, drop-cons image (at + i) 0 (omega arith))
+
+    -- it is zero
+    pub text_stops : (i : ℕ) → i < n → field image (at + i) 1 ≡ 0 → text_after image at n i ≡ Some i
+    text_stops i l e = next_byte i l ∙ text_ends i _ _ (sym (field_one image (at + i)) ∙ e)
+
+    -- the next w bytes, none of them zero
+    pub text_turn : (w i : ℕ) → i + w ≤ n → any_zero image (at + i) w ≡ false → text_after image at n i ≡ text_after image at n (i + w)
+    unfolding any_zero
+    text_turn zero i l z = rw (add-zero i)
+    text_turn (suc w) i l z =
+        let none = (or-eq-false-eq-eq-false-and-eq-false (slice_index image (at + i) == 0) (any_zero image (suc (at + i)) w)).0 z in
+        let d : at + (i + 1) ≡ suc (at + i) = omega arith in
+        let e : i + 1 + w ≡ i + suc w = omega arith in
+        next_byte i (omega arith)
+        ∙ text_goes_on i _ _ (eqb-false _ 0 none.0)
+        ∙ text_turn w (i + 1) (omega arith) (rw d none.1)
+        ∙ ap (text_after image at n) e

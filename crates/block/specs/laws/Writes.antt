@@ -179,6 +179,13 @@ set-put_front image at b bs fits =
     ∙ append_assoc (take at image) (b ∷ []) r
     ∙ rw k refl
 
+-- one byte more at the run's end
+pub set-put-end : (image : List ℕ) (at b n : ℕ) (bs : List ℕ) → at + length bs ≡ n → n < length image
+    → slice_set (put image at bs) n b ≡ put image at (bs ++ (b ∷ []))
+set-put-end image at b n bs e fits =
+    let long : length (put image at bs) ≡ length image = length-put image at bs (omega arith) in
+    sym (put_sets (put image at bs) n (b ∷ []) (omega arith)) ∙ put-append image at bs (b ∷ []) n e (omega arith)
+
 -- nothing replaced
 pub put_nil : (image : List ℕ) (at : ℕ) → put image at [] ≡ image
 unfolding put

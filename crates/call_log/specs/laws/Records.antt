@@ -19,9 +19,9 @@ insisted true f r x e = (refl, e)
 insisted false f r x e = cc
 
 -- and not at the end
-not_ended : (ended : Bool) (r : Result (Call × ℕ) Fault) (x : Call × ℕ) → cond ended None (Some r) ≡ Some (Ok x) → r ≡ Ok x
-not_ended true r x e = cc
-not_ended false r x e = cc
+not_ended : (ended : Bool) (next : Next) (c : Call) (n : ℕ) → cond ended None next ≡ Some (Ok (c, n)) → next ≡ Some (Ok (c, n))
+not_ended true next c n e = cc
+not_ended false next c n e = e
 
 -- no fields are shorter than an allocate's
 pub fields_least : (kind : ℕ) → 6 ≤ field_bytes kind
@@ -57,7 +57,8 @@ next_formed log at c n e =
     let left : ℕ = length log - at in
     let len : ℕ = field log at 2 in
     let kind : ℕ = field log (at + 2) 2 in
-    let (whole, e1) = insisted (leb 4 left && (leb 4 len && leb len left)) CutShort _ (c, n) (not_ended (eqb left 0) _ (c, n) e) in
+    let tested : insist (leb 4 left && (leb 4 len && leb len left)) CutShort (formed_at log at len) ≡ Ok (c, n) = cc (not_ended (eqb left 0) _ c n e) in
+    let (whole, e1) = insisted {A = Call × ℕ} (leb 4 left && (leb 4 len && leb len left)) CutShort _ (c, n) tested in
     let (known, e2) = insisted (known_kind kind) UnknownKind _ (c, n) e1 in
     let (suits, e3) = insisted (eqb len (record_length kind) && good_value log kind (at + 4)) BadFields _ (c, n) e2 in
     let is : ◌≡◌ {A = Call × ℕ} (call_at log kind (at + 4), at + len) (c, n) = cc e3 in
@@ -77,6 +78,11 @@ next-behind log at c n e =
 pub next-end : (log : List ℕ) (at : ℕ) → length log ≤ at → next_at log at ≡ None
 unfolding next_at
 next-end log at l = rw (eq-eqb (length log - at) 0 (omega arith)) refl
+
+-- what is tested is not the end
+never_end : (whole known suits : Bool) (c : Call) (n : ℕ)
+    → ◌≡◌ {A = Next} (Some (insist whole CutShort (insist known UnknownKind (insist suits BadFields (Ok (c, n)))))) None → ⊥
+never_end whole known suits c n e = cc
 
 -- there is none only past the end
 pub end_past : (log : List ℕ) (at : ℕ) → next_at log at ≡ None → length log ≤ at

@@ -7,7 +7,7 @@ use Rattle.descriptors.specs.Descriptors.{descriptor_at, length_at, kind_at, typ
 use Rattle.descriptors.specs.Claims.{Describes, BadFieldAt, no_earlier_type, overlaps, sticks_out, BadDescriptorAt, no_head, cut_short, unknown_kind, no_size, plain-length, record_length_lem, repeated_type, bad_field, SomeBad}
 use Rattle.descriptors.specs.laws.Lookups.{whole-inside, whole_boundary, found_at, found_describes, missed}
 use Rattle.descriptors.specs.laws.Fields.{Fits, end_of, Tried, fits, unnamed, early, late, tried, fields_on, fields_apart}
-use Rattle.descriptors.specs.laws.Lists.{headed-length, headed-over, good_parts, good_here, length_here, field_fits, describes_stands, lookup-at}
+use Rattle.descriptors.specs.laws.Lists.{Shaped, plain, fielded, headed-length, headed-over, good_parts, good_here, length_here, field_fits, describes_stands, lookup-at}
 
 -- A list that is refused has a bad descriptor.
 
@@ -112,9 +112,17 @@ module _ (list : List ℕ) (p : ℕ) (s : Stands list p) where
   no_bad_descriptor : BadDescriptorAt list p → ⊥
   no_bad_descriptor (no_head l) = omega (arith, (good_here list p s).at_head.head)
   no_bad_descriptor (cut_short l) = omega (arith, (good_here list p s).at_head.whole)
-  no_bad_descriptor (unknown_kind a b) = grind (arith, common_steps, (good_here list p s).at_head.shape)
+  no_bad_descriptor (unknown_kind a b) = go (good_here list p s).at_head.shape
+    where
+      go : Shaped (descriptor_at list p) → ⊥
+      go (plain k l) = a k
+      go (fielded k l) = b k
   no_bad_descriptor (no_size e) = omega (arith, (good_here list p s).at_head.some_size)
-  no_bad_descriptor (plain-length a n) = grind (arith, common_steps, (good_here list p s).at_head.shape)
+  no_bad_descriptor (plain-length a n) = go (good_here list p s).at_head.shape
+    where
+      go : Shaped (descriptor_at list p) → ⊥
+      go (plain k l) = n l
+      go (fielded k l) = omega arith
   no_bad_descriptor (record_length_lem a n) = n (field_count list p) (length_here list p s)
   no_bad_descriptor (repeated_type q d) = missed list p (type_at list p) q s.whole (good_here list p s).once d
   no_bad_descriptor (bad_field k m b) = no_bad_field k m b

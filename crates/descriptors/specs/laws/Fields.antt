@@ -5,6 +5,20 @@ use Rattle.block.specs.laws.Booleans.{by_bool}
 use Rattle.descriptors.specs.Descriptors.{size_at, field_at, look_up, end_within, field_end, good_fields_in}
 use Rattle.descriptors.specs.declared.descriptor.Field.{Field}
 
+-- Where bytes end.
+
+module _ (from size offset extent : ℕ) where
+  -- they start too early
+  pub ends_early : offset < from → end_within from size offset extent ≡ None
+  ends_early l = grind (arith, common_steps)
+
+  -- they end too late
+  pub ends_past : size < offset + extent → end_within from size offset extent ≡ None
+  ends_past l = grind (arith, common_steps)
+
+  pub ends-inside : from ≤ offset → offset + extent ≤ size → end_within from size offset extent ≡ Some (offset + extent)
+  ends-inside l m = grind (arith, common_steps)
+
 -- Where a field ends, by its type's descriptor.
 
 module _ (list : List ℕ) (p from : ℕ) (d : Field) where

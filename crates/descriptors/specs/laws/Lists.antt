@@ -1,5 +1,5 @@
 -- Good descriptors and good lists. Assumes nothing.
-use Rattle.std.proofs.Common.{ℕ, zero, suc, ◌+◌, ◌*◌, ◌≤◌, ◌<◌, ◌≡◌, subst, refl, true, List, length, ltb, eqb, None, Option, Some, sym, ap, ◌∙◌, arith, ne_eqb, ltb-true, ltb-false, eqb-true, ◌-◌, false, eq-eqb}
+use Rattle.std.proofs.Common.{ℕ, zero, suc, ◌+◌, ◌*◌, ◌/◌, ◌≤◌, ◌<◌, ◌≡◌, subst, refl, true, List, length, ltb, eqb, None, Option, Some, sym, ap, ◌∙◌, arith, ne_eqb, ltb-true, ltb-false, eqb-true, ◌-◌}
 use Rattle.std.proofs.lemmas.Bool.{eqb-false}
 use Rattle.std.proofs.lemmas.Grind.{common_steps}
 use Rattle.block.specs.laws.Booleans.{by_bool}
@@ -9,12 +9,30 @@ use Rattle.descriptors.specs.laws.Lookups.{whole-inside, whole_boundary, boundar
 use Rattle.descriptors.specs.laws.Fields.{Fits, fields_fit}
 use Rattle.descriptors.specs.declared.descriptor.Descriptor.{Descriptor}
 
+-- A good shape.
+
+-- a plain type of 12 bytes, or a record of 12 and whole fields
+pub data Shaped (d : Descriptor) : Type 0 where
+  plain : d.kind ≡ 4 → d.length ≡ 12 → Shaped d
+  fielded : d.kind ≡ 5 → d.length ≡ 12 + 6 * ((d.length - 12) / 6) → Shaped d
+
+shaped : (d : Descriptor) → good_shape d ≡ true → Shaped d
+shaped d g =
+    by_bool (eqb d.kind 4)
+    (λ t. plain (eqb-true _ _ t) (grind (arith, common_steps)))
+    (λ t. fielded (grind (arith, common_steps)) (grind (arith, common_steps)))
+
+-- its length, whatever the kind
+shaped_length : (d : Descriptor) → Shaped d → d.length ≡ 12 + 6 * ((d.length - 12) / 6)
+shaped_length d (plain k l) = omega arith
+shaped_length d (fielded k l) = l
+
 -- A good head.
 
 pub record Headed (list : List ℕ) (p : ℕ) : Type 0 where
   pub head : p + 12 ≤ length list
   pub whole : p + length_at list p ≤ length list
-  pub shape : good_shape (descriptor_at list p) ≡ true
+  pub shape : Shaped (descriptor_at list p)
   pub some_size : 0 < size_at list p
 
 pub headed : (list : List ℕ) (p : ℕ) → good_head list p ≡ true → Headed list p
@@ -22,13 +40,13 @@ headed list p g =
     record {
       head = grind (arith, common_steps);
       whole = grind (arith, common_steps);
-      shape = grind (arith, common_steps);
+      shape = shaped (descriptor_at list p) (grind (arith, common_steps));
       some_size = grind (arith, common_steps);
     }
 
 -- its length is 12 and whole fields
 pub headed-length : (list : List ℕ) (p : ℕ) → Headed list p → length_at list p ≡ 12 + 6 * field_count list p
-headed-length list p h = grind (arith, common_steps, h.shape)
+headed-length list p h = shaped_length (descriptor_at list p) h.shape
 
 -- the walk goes on behind it
 pub headed-over : (list : List ℕ) (p : ℕ) → WholeTo list p → Headed list p → WholeTo list (p + length_at list p)
@@ -54,45 +72,6 @@ good_parts list p g =
       fields = grind (arith, common_steps);
     }
 
--- The check of the list: what is left of it from p on says what the whole list says.
-
-pub record Checking (list : List ℕ) (p : ℕ) : Type 0 where
-  pub whole : WholeTo list p
-  pub steps : ℕ
-  pub enough : length list ≤ p + steps
-  pub same : good_from_in (suc steps) list p ≡ good_list list
-
-pub check_begins : (list : List ℕ) → Checking list 0
-unfolding good_list
-check_begins list = record { whole = start; steps = length list; enough = omega arith; same = refl }
-
-module _ (list : List ℕ) (p : ℕ) (now : Checking list p) where
-  pub check_ends : length list ≤ p → true ≡ good_list list
-  unfolding good_from_in
-  check_ends l = rw (good_from_in, eq-eqb p (length list) (omega (arith, whole-inside list p now.whole))) at now.same
-
-  -- the descriptor d is read at p, before the end
-  module _ (l : p < length list) where
-    apart : p ≡ length list → ⊥
-    apart e = omega arith
-
-    pub check_fails : good_descriptor list p ≡ false → false ≡ good_list list
-    unfolding good_from_in
-    check_fails g = rw (good_from_in, ne_eqb p (length list) apart, g) at now.same
-
-    pub check_goes_on : good_descriptor list p ≡ true → (d : Descriptor) → d ≡ descriptor_at list p → Checking list (p + d.length)
-    unfolding good_from_in
-    check_goes_on g d is =
-        let h = (good_parts list p g).at_head in
-        let left : suc (now.steps - 1) ≡ now.steps = omega arith in
-        rw is
-        (record {
-          whole = headed-over list p now.whole h;
-          steps = now.steps - 1;
-          enough = omega (arith, headed-length list p h);
-          same = rw left (rw (good_from_in, ne_eqb p (length list) apart, g) at now.same);
-        })
-
 -- A good list.
 
 module _ (list : List ℕ) where
@@ -105,16 +84,30 @@ module _ (list : List ℕ) where
       (λ t. (t, rw (good_from_in, ne_eqb p (length list) (λ e. omega arith), t) at g))
       (λ t. grind (arith, common_steps))
 
-  good_at : good_list list ≡ true → (p : ℕ) → p < length list → Checking list p → good_descriptor list p ≡ true
-  good_at g p l now = (turn now.steps p (now.same ∙ g) l).0
+  -- the walk comes to p, with steps enough for what is left
+  record Comes (p : ℕ) : Type 0 where
+    pub steps : ℕ
+    pub enough : length list < p + steps
+    pub good : good_from_in steps list p ≡ true
 
-  -- the check comes to every position that is reached
-  comes : good_list list ≡ true → (p : ℕ) → WholeTo list p → Checking list p
-  comes g _ start = check_begins list
-  comes g _ (over p w a b c) =
-      let now = comes g p w in
-      let l : p < length list = omega arith in
-      check_goes_on list p now l (good_at g p l now) (descriptor_at list p) refl
+  comes_next : (p : ℕ) → p + 12 ≤ length list → 12 ≤ length_at list p → Comes p → Comes (p + length_at list p)
+  comes_next p h l c = go c.steps c.enough c.good
+    where
+      go : (k : ℕ) → length list < p + k → good_from_in k list p ≡ true → Comes (p + length_at list p)
+      go zero e g = absurd (omega arith)
+      go (suc k) e g = record { steps = k; enough = omega arith; good = (turn k p g (omega arith)).1 }
+
+  comes : good_list list ≡ true → (p : ℕ) → WholeTo list p → Comes p
+  unfolding good_list
+  comes g _ start = record { steps = suc (length list); enough = omega arith; good = g }
+  comes g _ (over p w a b c) = comes_next p a b (comes g p w)
+
+  good_at : (p : ℕ) → p < length list → Comes p → good_descriptor list p ≡ true
+  good_at p l c = go c.steps c.enough c.good
+    where
+      go : (k : ℕ) → length list < p + k → good_from_in k list p ≡ true → good_descriptor list p ≡ true
+      go zero e h = absurd (omega arith)
+      go (suc k) e h = (turn k p h l).0
 
   end_in : (k p : ℕ) → good_from_in k list p ≡ true → WholeTo list p → p ≤ length list → WholeTo list (length list)
   unfolding good_from_in
@@ -131,7 +124,7 @@ module _ (list : List ℕ) where
 
 module _ (list : List ℕ) (p : ℕ) (s : Stands list p) where
   pub good_here : Good list p
-  good_here = good_parts list p (good_at list s.good p s.inside (comes list s.good p s.whole))
+  good_here = good_parts list p (good_at list p s.inside (comes list s.good p s.whole))
 
   -- its first 12 bytes lie in the list
   pub head_here : p + 12 ≤ length list

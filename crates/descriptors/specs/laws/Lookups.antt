@@ -79,6 +79,12 @@ module _ (list : List ℕ) (steps end type p : ℕ) where
 
 -- What it finds.
 
+pub at_injective : (p q : ℕ) → Some p ≡ Some q → p ≡ q
+at_injective p q e = cc
+
+pub at_somewhere : (q : ℕ) → Some q ≡ None → ⊥
+at_somewhere q e = cc
+
 -- a whole descriptor of the type stands at q, before `end`
 pub record FoundAt (list : List ℕ) (end type q : ℕ) : Type 0 where
   pub whole : WholeTo list q

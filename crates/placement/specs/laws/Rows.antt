@@ -1,12 +1,15 @@
--- Row 26 test by test, and the ways out of the search. Assumes nothing.
-use Rattle.std.specs.Prelude.{ℕ, zero, suc, ◌≤◌, ◌<◌, min, ◌≡◌, true, false, ◌&&◌, List, [], ◌∷◌, length, get_or, take, leb, ltb}
+-- Row 26 test by test, the ways out of the search, and its order as bytes. Assumes nothing.
+use Rattle.std.specs.Prelude.{ℕ, zero, suc, ◌-◌, ◌≤◌, ◌<◌, min, ◌≡◌, true, false, ◌&&◌, List, [], ◌∷◌, ◌++◌, length, get_or, take, replicate, leb, ltb}
 use Rattle.std.proofs.Common.{sym, ap, ◌∙◌, subst, arith, length-take, get_or-take, ltb-true, ltb-false, leb-true, lt-ltb, le-ltb, le-leb, leb-false}
+use Rattle.block.specs.Bytes.{Bytes}
 use Rattle.block.specs.Layout.{within, good_exponent}
 use Rattle.block.specs.laws.Booleans.{by_bool, and_left, and_right}
 use Rattle.placement.specs.Orders.{orders, order_at, factorial}
 use Rattle.placement.specs.Placement.{good_sizes, good_plan, large, first_least, best_order, found, refused, placement}
 use Rattle.placement.specs.laws.Picks.{factorial_some, all-orders}
+use Rattle.placement.specs.laws.Arrangements.{only_orders}
 use Rattle.placement.specs.laws.Least.{first_least_lem}
+use Rattle.placement.specs.laws.Packed.{below_bytes}
 
 -- A plan.
 
@@ -122,3 +125,34 @@ pub record BestFound (s : ℕ) (sizes : List ℕ) (tried : ℕ) (best : ℕ × �
   pub was_tried : best.1 < tried
   pub order_is : order_at (length sizes) best.1 ≡ best_order s sizes tried
   pub large_is : best.0 ≡ large s sizes (best_order s sizes tried)
+
+-- Every place of the answer is a byte.
+
+zeros_bytes : (n : ℕ) → Bytes (replicate n 0)
+zeros_bytes zero k = omega arith
+zeros_bytes (suc n) zero = omega arith
+zeros_bytes (suc n) (suc k) = zeros_bytes n k
+
+append_bytes : (xs ys : List ℕ) → Bytes xs → Bytes ys → Bytes (xs ++ ys)
+append_bytes [] ys a b k = b k
+append_bytes (x ∷ xs) ys a b zero = a zero
+append_bytes (x ∷ xs) ys a b (suc k) = append_bytes xs ys (λ m. a (suc m)) b k
+
+found_bytes : (s : ℕ) (sizes : List ℕ) (budget : ℕ) → good_plan s sizes ≡ true → 0 < budget → Bytes (found s sizes budget).order
+unfolding found
+found_bytes s sizes budget g h =
+    let best : List ℕ = best_order s sizes budget in
+    let b = best-at s sizes budget h in
+    let o = only_orders (length sizes) b.index (omega (arith, b.was_tried)) in
+    let bytes : Bytes best =
+    subst Bytes (sym b.is)
+    (below_bytes (order_at (length sizes) b.index) (λ k l. omega (arith, o.below k (omega (arith, o.length_is)), (planned s sizes g).few))) in
+    append_bytes best (replicate (8 - length best) 0) bytes (zeros_bytes (8 - length best))
+
+pub placement_bytes : (s : ℕ) (sizes : List ℕ) (budget : ℕ) → Bytes (placement s sizes budget).order
+placement_bytes s sizes budget = by (verdict s sizes budget)
+  where
+    by : Verdict s sizes budget → Bytes (placement s sizes budget).order
+    by (bad g p) k = rw p (zeros_bytes 8 k)
+    by (unbudgeted g e p) k = rw p (zeros_bytes 8 k)
+    by (finds g h p) k = rw p (found_bytes s sizes budget g h k)

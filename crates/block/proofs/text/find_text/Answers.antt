@@ -3,7 +3,7 @@ use Rattle.std.specs.List.{list_any, position_from}
 use Rattle.std.proofs.lemmas.Iterator.{YieldsList-from_slice}
 use Rattle.std.proofs.lemmas.Iterator.Search.{position_from_yields_List}
 use Rattle.std.proofs.lemmas.Iterator.Adapters.{position_from-zero}
-use Rattle.block.specs.laws.Text.{is_zero, text_start, text_turn, text_found, text_is_found}
+use Rattle.block.specs.laws.Text.{is_zero, text_start, text_passed, text_found, text_is_found}
 use Rattle.block.proofs.text.find_text.Goals as goal
 
 pub loop-i-init : goal.loop-i-init
@@ -15,7 +15,7 @@ loop-i-preserved c =
     let l = c.loop-i in
     let e : s.at + l.i + 8 - (s.at + l.i) ≡ 8 = omega arith in
     let none : list_any is_zero (take 8 (drop (s.at + l.i) s.image.now)) ≡ false = sym (rw e at c.contains.ensures.value) ∙ c.if-not-contains.true in
-    (omega arith, l.invariant.1 ∙ text_turn s.image.now s.at s.n c.requires 8 l.i (omega arith) none)
+    (omega arith, l.invariant.1 ∙ text_passed s.image.now s.at s.n c.requires 8 l.i (omega arith) none)
 
 pub returns : goal.returns
 returns c =
