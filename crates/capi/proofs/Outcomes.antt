@@ -1,8 +1,5 @@
 -- From a call's outcome to what its export gives. Assumes nothing.
-use Prim.Native.Nat.{ℕ}
-use mathlib.Core.Path.{◌≡◌, sym, ap, ◌∙◌}
-use mathlib.Core.List.{List}
-use lib.IntN.{ℤ}
+use Rattle.std.proofs.Common.{ℕ, ◌≡◌, List, ℤ, sym, ap, ◌∙◌}
 use Rattle.store.specs.State.{State, state, Outcome, outcome, returned, value}
 use Rattle.store.specs.Calls.{move, move_answer, load, load_answer}
 use Rattle.store.specs.laws.Move.{move_leaves}

@@ -1,9 +1,5 @@
 -- What a count of the blocks finds on an image with a layout. Assumes nothing.
-use Rattle.std.specs.Prelude.{Some}
-use Prim.Native.Nat.{ℕ, ◌+◌}
-use mathlib.Core.Path.{◌≡◌, refl, sym, ap, ◌∙◌}
-use mathlib.Core.List.{List}
-use native.Mathlib.Omega.{arith}
+use Rattle.std.proofs.Common.{Some, ℕ, ◌+◌, ◌≡◌, refl, List, sym, ap, ◌∙◌, arith}
 use Rattle.block.specs.Layout.{fields}
 use Rattle.block.specs.Walk.{ended, walk_from, no_counts, with_live, with_free, counting, count_blocks}
 use Rattle.block.specs.laws.Walks.{walk_begins, walk_ended}

@@ -1,17 +1,7 @@
 -- A new block in a gap that has room for it, and what first fit finds.
 -- In order: the layout with the new block; its bytes; the carved image; first fit. Assumes nothing.
-use Rattle.std.specs.Prelude.{None, Some}
-use Prim.Native.Nat.{ℕ, ◌+◌, ◌-◌, ◌^◌, ◌≤◌, ◌<◌}
-use mathlib.Core.Path.{◌≡◌, refl, sym, ap, ◌∙◌}
-use mathlib.Core.Bool.{cond}
-use mathlib.Core.List.{List, ◌++◌, append_assoc}
-use mathlib.Core.Logic.{⊎_elim, inl, inr}
-use native.Mathlib.Omega.{arith}
-use native.Mathlib.Nat.{add-zero}
-use lib.ListN.{length, take, length-append, length-replicate, take-append-drop, replicate-append-replicate}
-use lib.Seq.{length-take-le}
-use lib.Dec.{ltb, eqb}
-use borrow.Author.Tests.{ltb-true, ltb-false}
+use Rattle.std.proofs.Common.{None, Some, ℕ, ◌+◌, ◌-◌, ◌^◌, ◌≤◌, ◌<◌, ◌≡◌, refl, cond, List, ◌++◌, length, take, ltb, eqb, sym, ap, ◌∙◌, append_assoc, ⊎_elim, inl, inr, arith, add-zero, length-append, take-append-drop, length-take-le, ltb-true, ltb-false}
+use Rattle.std.proofs.Math.ListN.{length-replicate, replicate-append-replicate}
 use Rattle.block.specs.laws.Booleans.{by_bool, true_false}
 use Rattle.block.specs.Bytes.{put}
 use Rattle.block.specs.laws.Writes.{put-at}

@@ -1,14 +1,7 @@
 -- A block of the layout is freed: its gap, its own bytes and the next gap become one gap. Assumes nothing.
 use Rattle.store.specs.Calls.{merge_of}
-use Rattle.std.specs.Prelude.{Some, None}
-use Prim.Native.Nat.{ℕ, zero, suc, ◌+◌, ◌-◌, ◌≤◌}
-use mathlib.Core.Path.{◌≡◌, refl, sym, ap, ◌∙◌}
-use mathlib.Core.Bool.{Bool, true, false, cond, ◌||◌}
-use mathlib.Core.List.{List, ◌++◌}
-use native.Mathlib.Omega.{arith}
-use lib.ListN.{length, take, drop}
-use lib.Dec.{leb, eqb}
-use borrow.Author.Tests.{le-leb, eqb-true, eqb-false}
+use Rattle.std.proofs.Common.{Some, None, ℕ, zero, suc, ◌+◌, ◌-◌, ◌≤◌, ◌≡◌, refl, Bool, true, false, cond, ◌||◌, List, ◌++◌, length, take, drop, leb, eqb, sym, ap, ◌∙◌, arith, le-leb, eqb-true}
+use Rattle.std.proofs.lemmas.Bool.{eqb-false}
 use Rattle.block.specs.laws.Booleans.{by_bool}
 use Rattle.block.specs.Layout.{free_header, sound, is_free, extent_at}
 use Rattle.block.specs.Walk.{stopped, walk, reaching, walk_to}

@@ -1,17 +1,9 @@
 -- Laws of the abstract heap, by header places.
 -- In order: the object at a place; owners; one object more, changed, less; the objects that pass a test; how many there are. Not here: image and table.
 -- Assumes nothing.
-use Rattle.std.specs.Prelude.{Option, None, Some}
-use Prim.Native.Nat.{ℕ, zero, suc, ◌<◌}
-use mathlib.Core.Path.{◌≡◌, refl, sym, ap, ◌∙◌}
-use mathlib.Core.Bool.{Bool, true, false, cond}
+use Rattle.std.proofs.Common.{Option, None, Some, ℕ, zero, suc, ◌<◌, ◌≡◌, refl, Bool, true, false, cond, [], ◌∷◌, ◌++◌, length, get_or, eqb, sym, ap, ◌∙◌, ⊎_elim, arith, eq-eqb, ne_eqb, eqb-true}
+use Rattle.std.proofs.lemmas.Bool.{eqb-false}
 use mathlib.Core.List.Memᴰ
-use mathlib.Core.List.{[], ◌∷◌, ◌++◌}
-use mathlib.Core.Logic.{⊎_elim}
-use native.Mathlib.Omega.{arith}
-use lib.ListN.{length, get_or}
-use lib.Dec.{eqb}
-use borrow.Author.Tests.{eq-eqb, ne_eqb, eqb-true, eqb-false}
 use Rattle.block.specs.laws.Booleans.{by_bool, true_false, refuted}
 use Rattle.history.specs.Heap.{Object, Heap, holds, owner_of, change, without, passing}
 use Rattle.history.specs.History.{In, Pairwise, header_of, known}

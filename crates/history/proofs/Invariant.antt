@@ -2,15 +2,9 @@
 -- In order: the invariant; a live object in the image; what decides the image; what pointers lead to; another list of the objects; set-up. Not here: that each
 -- call keeps it (`Steps`). Assumes nothing.
 use Rattle.store.specs.State.{measured_as}
-use Rattle.std.specs.Prelude.{Ok, Option, None, Some}
-use Prim.Native.Nat.{ℕ, ◌+◌, ◌-◌, ◌^◌, ◌≤◌}
-use mathlib.Core.Path.{◌≡◌, refl, sym, ap, ◌∙◌, subst}
-use mathlib.Core.Bool.{Bool, true, false, cond}
-use mathlib.Core.List.{List, [], ◌++◌}
-use native.Mathlib.Omega.{arith}
-use lib.IntN.{sub_ℕ}
-use lib.ListN.{length, take, drop, replicate, take-append-drop, length-append, length-drop, length-replicate, get_or-replicate, get_or-append}
-use borrow.Author.Tests.{eq-eqb}
+use Rattle.std.proofs.Common.{Ok, Option, None, Some, ℕ, ◌+◌, ◌-◌, ◌^◌, ◌≤◌, ◌≡◌, refl, Bool, true, false, cond, List, [], ◌++◌, length, take, drop, replicate, sym, ap, ◌∙◌, subst, arith, take-append-drop, length-append, length-drop, eq-eqb}
+use Rattle.std.proofs.Math.IntN.{sub_ℕ}
+use Rattle.std.proofs.Math.ListN.{length-replicate, get_or-replicate, get_or-append}
 use Rattle.frame.specs.Pointers.{unpack, pack, good_tag}
 use Rattle.frame.specs.Tags.{pointer_to, used_entries}
 use Rattle.frame.specs.laws.Objects.{PointerOf, unpack_address}

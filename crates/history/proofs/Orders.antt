@@ -1,14 +1,7 @@
 -- Frees and releases in either order, on an image and table with the invariant.
 -- In order: two live objects; an object and a list of others; two lists; two cues. Assumes nothing.
-use Rattle.std.specs.Prelude.{Ok, Option, None, Some}
-use Prim.Native.Nat.{ℕ}
-use mathlib.Core.Path.{◌≡◌, refl, sym, ap, ◌∙◌}
-use mathlib.Core.Bool.{not, cond}
+use Rattle.std.proofs.Common.{Ok, Option, None, Some, ℕ, ◌≡◌, refl, not, cond, [], ◌∷◌, length, eqb, sym, ap, ◌∙◌, ne_eqb, eqb-true}
 use mathlib.Core.List.Memᴰ
-use mathlib.Core.List.{[], ◌∷◌}
-use lib.ListN.{length}
-use lib.Dec.{eqb}
-use borrow.Author.Tests.{ne_eqb, eqb-true}
 use Rattle.store.specs.State.{State, Outcome, returned}
 use Rattle.store.specs.Calls.{noted, free, free_each, release_cue}
 use Rattle.store.specs.laws.Entries.{noted_either}

@@ -1,12 +1,7 @@
 -- What holds at every place that the walk over a layout's image comes to. Assumes nothing.
-use Rattle.std.specs.Prelude.{None, Option, Some, Err}
-use Prim.Native.Nat.{ℕ, ◌+◌, ◌-◌, ◌≤◌, ◌<◌}
-use mathlib.Core.Path.{◌≡◌, sym, ap, ◌∙◌}
-use mathlib.Core.Bool.{true, false}
-use mathlib.Core.List.{List, ◌++◌}
-use native.Mathlib.Omega.{arith}
-use lib.ListN.{length, drop, get_or, length-replicate, get_or-replicate, get_or-append}
-use lib.Seq.{get_or-drop, drop-length}
+use Rattle.std.proofs.Common.{None, Option, Some, Err, ℕ, ◌+◌, ◌-◌, ◌≤◌, ◌<◌, ◌≡◌, true, false, List, ◌++◌, length, drop, get_or, sym, ap, ◌∙◌, arith, get_or-drop}
+use Rattle.std.proofs.Math.ListN.{length-replicate, get_or-replicate, get_or-append}
+use Rattle.std.proofs.Math.Seq.{drop-length}
 use Rattle.block.specs.laws.Booleans.{true_false}
 use Rattle.block.specs.Layout.{free_header, sound, is_free, is_live, extent_at, size_at}
 use Rattle.block.specs.laws.Headers.{length-header}

@@ -1,17 +1,10 @@
 -- Each call keeps the invariant, and what it answers.
 -- In order: bytes inside an object; allocate; free; a changed object; move; load; store, fill and copy; text copy. Not here: what follows for a list
 -- (`Theorem`). Assumes nothing.
-use Rattle.std.specs.Prelude.{Err, None, Ok, Option, Some}
-use Prim.Native.Nat.{ℕ, ◌+◌, ◌-◌, ◌^◌, ◌≤◌, ◌<◌}
-use mathlib.Core.Path.{◌≡◌, refl, sym, ap, ◌∙◌, subst}
-use mathlib.Core.Bool.{true, false, cond, ◌&&◌, and-true, and-false}
-use mathlib.Core.List.{List, [], ◌∷◌, ◌++◌}
-use native.Mathlib.Omega.{arith}
-use lib.ListN.{length, take, drop, replicate, length-replicate, length-drop}
-use lib.Seq.{length-take-le, take_all}
-use lib.Dec.{leb, ltb, eqb}
-use lib.IntN.{ℤ}
-use borrow.Author.Tests.{eq-eqb, eqb-true, eqb-false, leb-true, le-leb}
+use Rattle.std.proofs.Common.{Err, None, Ok, Option, Some, ℕ, ◌+◌, ◌-◌, ◌^◌, ◌≤◌, ◌<◌, ◌≡◌, refl, true, false, cond, ◌&&◌, List, [], ◌∷◌, ◌++◌, length, take, drop, replicate, leb, ltb, eqb, ℤ, sym, ap, ◌∙◌, subst, arith, length-drop, length-take-le, take_all, eq-eqb, eqb-true, leb-true, le-leb}
+use Rattle.std.proofs.lemmas.Bool.{eqb-false}
+use Rattle.std.proofs.Math.ListN.{length-replicate}
+use Rattle.std.proofs.Math.Bool.{and-true, and-false}
 use Rattle.frame.specs.Pointers.{unpack, pack, good_tag, reach, moved}
 use Rattle.frame.specs.Tags.{pointer_to}
 use Rattle.frame.specs.laws.Objects.{unpack_address, moved_pointer, own_again}

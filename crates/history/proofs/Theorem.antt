@@ -1,22 +1,12 @@
 -- Demand 3, and the further claims about its lists.
 -- In order: the induction over the list; each field of `Holds` from the invariant; the claims. Not here: the steps of single calls (`Steps`). Assumes nothing.
 use Rattle.store.specs.State.{usage_of}
-use Rattle.std.specs.Prelude.{Err, None, Ok, Option, Some}
-use Prim.Native.Nat.{ℕ, ◌+◌, ◌^◌, ◌≤◌, ◌<◌}
-use mathlib.Core.Path.{◌≡◌, refl, sym, ap, ◌∙◌, subst}
-use mathlib.Core.Bool.{Bool, true, false, cond, ◌&&◌}
-use mathlib.Core.List.{List, [], ◌∷◌}
-use mathlib.Core.Logic.{◌↔◌, ◌⊎◌, inl, inr}
-use native.Mathlib.Omega.{arith}
-use lib.ListN.{length, take, drop}
-use lib.Dec.{ltb}
-use borrow.Author.Tests.{lt-ltb, ltb-true, leb-false}
+use Rattle.std.proofs.Common.{Err, None, Ok, Option, Some, ℕ, ◌+◌, ◌^◌, ◌≤◌, ◌<◌, ◌≡◌, refl, Bool, true, false, cond, ◌&&◌, List, [], ◌∷◌, ◌↔◌, ◌⊎◌, length, take, drop, ltb, sym, ap, ◌∙◌, subst, inl, inr, arith, lt-ltb, ltb-true, leb-false, Ordering}
 use Rattle.frame.specs.Pointers.{unpack}
 use Rattle.block.specs.laws.Booleans.{and_left, and_right, and_both, true_false}
 use Rattle.block.specs.Bytes.{decode, field}
 use Rattle.block.specs.laws.Fields.{field_bytes_lem}
 use Rattle.block.specs.Order.{compare_bytes}
-use Rattle.std.specs.declared.cmp.Ordering.{Ordering}
 use Rattle.block.specs.Layout.{stored_total, extent_at}
 use Rattle.store.specs.State.{State, Outcome, IsAccepted, returned, value, comparison_number, usage_number, free_bytes}
 use Rattle.store.specs.Claims.{NoLoad, NoAccess}

@@ -1,10 +1,5 @@
 -- A walk that stops nowhere, on an image with a layout: past a gap, and past the block behind it. Assumes nothing.
-use Prim.Native.Nat.{ℕ, zero, suc, ◌+◌}
-use mathlib.Core.Path.{◌≡◌, refl, ap, ◌∙◌}
-use mathlib.Core.Bool.{false}
-use mathlib.Core.List.{List}
-use native.Mathlib.Omega.{arith}
-use native.Mathlib.Nat.{add-zero}
+use Rattle.std.proofs.Common.{ℕ, zero, suc, ◌+◌, ◌≡◌, refl, false, List, ap, ◌∙◌, arith, add-zero}
 use Rattle.block.specs.Layout.{fields}
 use Rattle.block.specs.Walk.{Search, walk_from}
 use Rattle.block.specs.laws.Walks.{walk-next}

@@ -1,16 +1,7 @@
 -- The search: the fold over the orders' numbers, and the budget. Assumes nothing.
-use Prim.Native.Nat.{ℕ, zero, suc, ◌+◌, ◌≤◌, ◌<◌, min}
-use mathlib.Core.Path.{◌≡◌, refl, sym, ap, ◌∙◌, subst}
-use mathlib.Core.List.{List, [], ◌∷◌, map}
-use native.Mathlib.Numerals.{add-one}
-use native.Mathlib.Omega.{arith}
-use lib.ListN.{length, take, drop, drop_of_length-le}
-use lib.Dec.{ltb, leb}
-use lib.Seq.{drop-cons, take_all}
-use borrow.Author.Tests.{ltb-true, ltb-false, leb-true, leb-false}
-use Rattle.std.specs.List.{fold, reduce, range_with_len}
-use Rattle.std.specs.Option.{MatchOption}
-use Rattle.std.specs.Ordering.{min_by_ordering, ordering_then, nat_cmp}
+use Rattle.std.proofs.Common.{ℕ, zero, suc, ◌+◌, ◌≤◌, ◌<◌, min, ◌≡◌, refl, List, [], ◌∷◌, map, length, take, drop, ltb, leb, fold, MatchOption, sym, ap, ◌∙◌, subst, add-one, arith, drop_of_length-le, drop-cons, take_all, ltb-true, ltb-false, leb-true, leb-false, nat_cmp}
+use Rattle.std.specs.List.{reduce, range_with_len}
+use Rattle.std.specs.Ordering.{min_by_ordering, ordering_then}
 use Rattle.std.proofs.lemmas.Bool.Decides.{nat_tests}
 use Rattle.block.specs.laws.Booleans.{by_bool}
 use Rattle.placement.specs.Orders.{orders, order_at, factorial}

@@ -1,10 +1,6 @@
 -- `capi::cue_compare`: `store::compare`'s answer as a number and a value. Assumes nothing.
-use mathlib.Core.Path.{ap, ap₂, ◌∙◌}
-use mir.Syntax.{w64}
-use mir.Val.{SFits}
-use mir.Facts.{to_z-of_z}
+use Rattle.std.proofs.Common.{ap, ap₂, ◌∙◌, w64, SFits, to_z-of_z, rules}
 use Rattle.capi.specs.Exports.{compared, exported_comparison}
-use borrow.Author.Rules.{rules}
 use Rattle.capi.proofs.cue_compare.Goals as goal
 
 -- what `compare` answered

@@ -1,12 +1,6 @@
 -- `capi::cue_distances`: `store::distances`' two numbers, or the number of its refusal. Assumes nothing.
-use mathlib.Core.Path.{sym, ap, ap₂, ◌∙◌}
-use Prim.Native.Nat.{ℕ}
-use lib.IntN.{pos}
-use mir.Syntax.{w64}
-use mir.Val.{SFits}
-use mir.Facts.{to_z-of_z}
+use Rattle.std.proofs.Common.{ℕ, pos, sym, ap, ap₂, ◌∙◌, w64, SFits, to_z-of_z, rules}
 use Rattle.capi.specs.Exports.{measured, exported_distances}
-use borrow.Author.Rules.{rules}
 use Rattle.capi.proofs.cue_distances.Goals as goal
 
 -- the distances

@@ -1,5 +1,5 @@
 -- `capi::cue_free_total`: `store::free_total`'s answer as a number and a value. Assumes nothing.
-use mathlib.Core.Path.{ap, ap₂, ◌∙◌}
+use Rattle.std.proofs.Common.{ap, ap₂, ◌∙◌}
 use Rattle.store.specs.laws.Refusals.{given_zero}
 use Rattle.capi.specs.Exports.{answered, exported_answer}
 use Rattle.capi.proofs.cue_free_total.Goals as goal

@@ -1,5 +1,5 @@
 -- `capi::cue_has_type`: `store::has_type`'s answer as a number and a value. Assumes nothing.
-use mathlib.Core.Path.{ap, ap₂, ◌∙◌}
+use Rattle.std.proofs.Common.{ap, ap₂, ◌∙◌}
 use Rattle.capi.specs.Exports.{answered, exported_answer}
 use Rattle.capi.proofs.cue_has_type.Goals as goal
 

@@ -1,5 +1,5 @@
 -- `capi::cue_load`: `store::load`'s answer as a number and a value; it leaves all as it was. Assumes nothing.
-use mathlib.Core.Path.{◌∙◌}
+use Rattle.std.proofs.Common.{◌∙◌}
 use Rattle.store.specs.State.{state}
 use Rattle.store.specs.laws.Refusals.{given_zero}
 use Rattle.capi.proofs.Outcomes.{gives, loads}

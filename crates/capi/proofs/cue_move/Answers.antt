@@ -1,7 +1,5 @@
 -- `capi::cue_move`: `store::offset`'s answer as a number and a pointer; it leaves all as it was. Assumes nothing.
-use mathlib.Core.Path.{ap, ◌∙◌}
-use lib.IntN.{ℤ}
-use mir.Facts.{to_z-of_z}
+use Rattle.std.proofs.Common.{ℤ, ap, ◌∙◌, to_z-of_z}
 use Rattle.store.specs.State.{state}
 use Rattle.store.specs.Calls.{move_answer}
 use Rattle.store.specs.laws.Refusals.{given_zero}

@@ -1,5 +1,5 @@
 -- `capi::cue_order`: what `order` found, of which the order's places are bytes; or a refusal's number, and zeros. Assumes nothing.
-use Rattle.std.proofs.Common.{sym, ap, ◌∙◌, ℕ}
+use Rattle.std.proofs.Common.{ℕ, sym, ap, ◌∙◌}
 use Rattle.placement.specs.Placement.{refusal_number}
 use Rattle.placement.specs.laws.Answered.{refused_word}
 use Rattle.capi.specs.Exports.{ordered, exported_placement}

@@ -1,5 +1,5 @@
 -- `capi::cue_overhead`: the sums and overheads that `report` gave; or a refusal's number, and zeros. Assumes nothing.
-use Rattle.std.proofs.Common.{ap, ◌∙◌, ℕ}
+use Rattle.std.proofs.Common.{ℕ, ap, ◌∙◌}
 use Rattle.capi.specs.Exports.{reported, exported_report}
 use Rattle.capi.proofs.cue_overhead.Goals as goal
 

@@ -1,6 +1,5 @@
 -- `capi::cue_tally`: `store::tally`'s counts, or the number of its refusal. Assumes nothing.
-use mathlib.Core.Path.{sym, ap, ◌∙◌}
-use Prim.Native.Nat.{ℕ}
+use Rattle.std.proofs.Common.{ℕ, sym, ap, ◌∙◌}
 use Rattle.capi.specs.Exports.{tallied, exported_usage}
 use Rattle.capi.proofs.cue_tally.Goals as goal
 

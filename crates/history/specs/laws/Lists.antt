@@ -1,6 +1,5 @@
 -- Laws of lists of calls: one call more in front, one more behind, and what an admitted list leads to. Assumes nothing.
-use Rattle.std.specs.Prelude.{◌≡◌, refl, Bool, true, ◌&&◌, List, [], ◌∷◌, ◌++◌}
-use Rattle.std.proofs.Common.{sym, ap, ◌∙◌}
+use Rattle.std.proofs.Common.{◌≡◌, refl, Bool, true, ◌&&◌, List, [], ◌∷◌, ◌++◌, sym, ap, ◌∙◌}
 use Rattle.std.proofs.Math.Bool.{and-true, and_assoc}
 use Rattle.block.specs.laws.Booleans.{and_both}
 use Rattle.store.specs.Step.{Call}

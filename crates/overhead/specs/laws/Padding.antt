@@ -1,6 +1,5 @@
 -- Padded blocks: the power of two that one has, and the multiple where it starts. Assumes nothing.
-use Rattle.std.specs.Prelude.{ℕ, zero, suc, ◌+◌, ◌-◌, ◌*◌, ◌/◌, ◌^◌, ◌≤◌, ◌<◌, ◌≡◌, refl, leb}
-use Rattle.std.proofs.Common.{sym, ap, ◌∙◌, add-zero, pow-suc, mul-le-mul_right, div-lt_iff_lt-mul, suc-mul, suc-add, add-suc, sub-add_cancel, arith, pow_pos, pow_mono, pow-add, leb-true, leb-false}
+use Rattle.std.proofs.Common.{ℕ, zero, suc, ◌+◌, ◌-◌, ◌*◌, ◌/◌, ◌^◌, ◌≤◌, ◌<◌, ◌≡◌, refl, leb, sym, ap, ◌∙◌, add-zero, pow-suc, mul-le-mul_right, div-lt_iff_lt-mul, suc-mul, suc-add, add-suc, sub-add_cancel, arith, pow_pos, pow_mono, pow-add, leb-true, leb-false}
 use Rattle.std.proofs.Math.Nat.{two-pow-succ, lt-div-mul-add}
 use Rattle.std.proofs.Math.Pow.{pow-lt}
 use Rattle.block.specs.laws.Booleans.{by_bool}

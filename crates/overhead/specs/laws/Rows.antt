@@ -1,6 +1,5 @@
 -- The report's ways out, its sizes one by one, and its fractions. Assumes nothing.
-use Rattle.std.specs.Prelude.{ℕ, zero, suc, ◌-◌, ◌≤◌, ◌<◌, ◌≡◌, true, false, List, [], ◌∷◌, length, get_or, leb}
-use Rattle.std.proofs.Common.{arith, leb-true, leb-false, le-leb}
+use Rattle.std.proofs.Common.{ℕ, zero, suc, ◌-◌, ◌≤◌, ◌<◌, ◌≡◌, true, false, List, [], ◌∷◌, length, get_or, leb, arith, leb-true, leb-false, le-leb}
 use Rattle.std.proofs.lemmas.Bool.{lt-leb}
 use Rattle.block.specs.laws.Booleans.{by_bool}
 use Rattle.overhead.specs.declared.answer.Fraction.{Fraction}

@@ -1,6 +1,5 @@
 -- The answer that a result of the search stands for. Assumes nothing.
-use Rattle.std.specs.Prelude.{ℕ, ◌≡◌, refl, Result, Ok, Err}
-use Rattle.std.proofs.Common.{ap, arith}
+use Rattle.std.proofs.Common.{ℕ, ◌≡◌, refl, Result, Ok, Err, ap, arith}
 use Rattle.block.specs.Bytes.{decode, field}
 use Rattle.placement.specs.declared.answer.Placement.{Placement as Placed}
 use Rattle.placement.specs.declared.answer.Refusal.{Refusal}

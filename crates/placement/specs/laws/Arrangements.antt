@@ -1,7 +1,6 @@
 -- The orders of n objects are all of them, each once, lexicographically: an order is a list whose elements are picked one by one. In order: every order arranges
 -- the positions; so each has a number; what a number picks is an order; higher numbers stand behind lower ones; sums over an order. Assumes nothing.
-use Rattle.std.specs.Prelude.{ℕ, zero, suc, ◌+◌, ◌*◌, ◌/◌, ◌%◌, ◌≤◌, ◌<◌, ◌≡◌, refl, List, [], ◌∷◌, length, get_or, ltb}
-use Rattle.std.proofs.Common.{sym, ap, ◌∙◌, subst, mod-lt, div-mul-le_self, le-div_iff_mul-le, div-add-mod', le_trans, arith, ltb-true, ltb-false}
+use Rattle.std.proofs.Common.{ℕ, zero, suc, ◌+◌, ◌*◌, ◌/◌, ◌%◌, ◌≤◌, ◌<◌, ◌≡◌, refl, List, [], ◌∷◌, length, get_or, ltb, sym, ap, ◌∙◌, subst, mod-lt, div-mul-le_self, le-div_iff_mul-le, div-add-mod', le_trans, arith, ltb-true, ltb-false}
 use Rattle.std.proofs.Math.Arith.{digits_div, digits_mod, digits_lt}
 use Rattle.block.specs.laws.Booleans.{by_bool}
 use Rattle.placement.specs.Orders.{positions, without, order_at, factorial, IsOrder, Before, here, later}

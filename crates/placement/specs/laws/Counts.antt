@@ -1,6 +1,5 @@
 -- Large-framed objects, one by one, and the floor under them. Assumes nothing.
-use Rattle.std.specs.Prelude.{ℕ, suc, ◌+◌, ◌*◌, ◌/◌, ◌^◌, ◌≤◌, ◌<◌, ◌≡◌, refl, Bool, true, false, List, [], ◌∷◌, length, get_or, leb, ltb}
-use Rattle.std.proofs.Common.{sym, ap, ◌∙◌, add-zero, div-mul-le_self, arith, pow_pos, leb-true, ltb-true, eqb-true, le-leb}
+use Rattle.std.proofs.Common.{ℕ, suc, ◌+◌, ◌*◌, ◌/◌, ◌^◌, ◌≤◌, ◌<◌, ◌≡◌, refl, Bool, true, false, List, [], ◌∷◌, length, get_or, leb, ltb, sym, ap, ◌∙◌, add-zero, div-mul-le_self, arith, pow_pos, leb-true, ltb-true, eqb-true, le-leb}
 use Rattle.std.proofs.Math.Nat.{lt-div-mul-add}
 use Rattle.std.proofs.lemmas.Bool.{eqb-false}
 use Rattle.frame.specs.Frame.{same_frame}

@@ -1,6 +1,5 @@
 -- Orders picked from the positions in one number. Assumes nothing.
-use Rattle.std.specs.Prelude.{ℕ, zero, suc, ◌-◌, ◌/◌, ◌%◌, ◌≤◌, ◌<◌, ◌≡◌, refl, List, [], ◌∷◌, get_or}
-use Rattle.std.proofs.Common.{sym, ap, ◌∙◌, subst, mod-lt, arith}
+use Rattle.std.proofs.Common.{ℕ, zero, suc, ◌-◌, ◌/◌, ◌%◌, ◌≤◌, ◌<◌, ◌≡◌, refl, List, [], ◌∷◌, get_or, sym, ap, ◌∙◌, subst, mod-lt, arith}
 use Rattle.block.specs.Bytes.{decode, Bytes}
 use Rattle.placement.specs.Orders.{positions, without, order_at, factorial}
 use Rattle.placement.specs.laws.Positions.{positions_agree}

@@ -1,9 +1,8 @@
 -- Positions in one number, the one at place k in byte k: reading one, and taking one out. Assumes nothing.
-use Rattle.std.specs.Prelude.{ℕ, zero, suc, ◌+◌, ◌*◌, ◌/◌, ◌%◌, ◌^◌, ◌<◌, ◌≡◌, refl, List, [], ◌∷◌, ltb, length, get_or}
-use Rattle.std.proofs.Common.{sym, ap, ◌∙◌, subst, zero-add, div-one, mul-suc, mul_comm, mul_left_comm, zero-mul, mul-one, arith, pow_pos, pow-add, ltb-true, ltb-false}
-use Rattle.std.proofs.Math.Nat.{zero-div, zero-mod, mod-one, div-div-eq-div-mul}
-use Rattle.std.proofs.Math.ListN.{get_or-eq_default}
+use Rattle.std.proofs.Common.{ℕ, zero, suc, ◌+◌, ◌*◌, ◌/◌, ◌%◌, ◌^◌, ◌<◌, ◌≡◌, refl, List, [], ◌∷◌, ltb, length, get_or, sym, ap, ◌∙◌, subst, zero-add, div-one, mul-suc, mul_comm, mul_left_comm, zero-mul, mul-one, arith, pow_pos, pow-add, ltb-true, ltb-false}
 use Rattle.std.proofs.Math.Arith.{mod-mul}
+use Rattle.std.proofs.Math.ListN.{get_or-eq_default}
+use Rattle.std.proofs.Math.Nat.{zero-div, zero-mod, mod-one, div-div-eq-div-mul}
 use Rattle.block.specs.Bytes.{decode, Bytes}
 use Rattle.block.specs.laws.Booleans.{by_bool}
 use Rattle.placement.specs.Orders.{positions_from, positions, without}

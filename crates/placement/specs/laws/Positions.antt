@@ -1,6 +1,5 @@
 -- Lists of positions: ascending ones, lists without an element, and lists that begin alike. Assumes nothing.
-use Rattle.std.specs.Prelude.{ℕ, zero, suc, ◌+◌, ◌≤◌, ◌<◌, ◌≡◌, refl, cond, List, [], ◌∷◌, length, get_or, ltb}
-use Rattle.std.proofs.Common.{sym, ap, ◌∙◌, arith, ltb-true, ltb-false}
+use Rattle.std.proofs.Common.{ℕ, zero, suc, ◌+◌, ◌≤◌, ◌<◌, ◌≡◌, refl, cond, List, [], ◌∷◌, length, get_or, ltb, sym, ap, ◌∙◌, arith, ltb-true, ltb-false}
 use Rattle.block.specs.laws.Booleans.{by_bool}
 use Rattle.placement.specs.Orders.{positions_from, positions, without}
 

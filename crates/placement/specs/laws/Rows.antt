@@ -1,6 +1,5 @@
 -- Row 26 test by test, and the ways out of the search. Assumes nothing.
-use Rattle.std.specs.Prelude.{ℕ, zero, suc, ◌≤◌, ◌<◌, min, ◌≡◌, true, false, ◌&&◌, List, [], ◌∷◌, length, get_or, take, leb, ltb}
-use Rattle.std.proofs.Common.{sym, ap, ◌∙◌, subst, arith, length-take, get_or-take, ltb-true, ltb-false, leb-true, lt-ltb, le-ltb, le-leb, leb-false}
+use Rattle.std.proofs.Common.{ℕ, zero, suc, ◌≤◌, ◌<◌, min, ◌≡◌, true, false, ◌&&◌, List, [], ◌∷◌, length, get_or, take, leb, ltb, sym, ap, ◌∙◌, subst, arith, length-take, get_or-take, ltb-true, ltb-false, leb-true, lt-ltb, le-ltb, le-leb, leb-false}
 use Rattle.block.specs.Layout.{within, good_exponent}
 use Rattle.block.specs.laws.Booleans.{by_bool, and_left, and_right}
 use Rattle.placement.specs.Orders.{orders, order_at, factorial}
