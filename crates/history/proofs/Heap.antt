@@ -22,7 +22,7 @@ Distinct (o ∷ os) = (find os (header_of o) ≡ None) × Distinct os
 
 -- nothing is found and not found
 pub none_some : {r : Option Object} {o : Object} → r ≡ None → r ≡ Some o → ⊥
-none_some e f = let z : ◌≡◌ {A = ℕ} 0 1 = cc in omega arith
+none_some e f = cc
 
 pub some_same : {r : Option Object} {o o' : Object} → r ≡ Some o → r ≡ Some o' → o ≡ o'
 some_same e f = cc
@@ -45,7 +45,7 @@ find_rest o os k d =
 -- what is found has its header there
 pub find-place : (heap : Heap) (k : ℕ) (o : Object) → find heap k ≡ Some o → header_of o ≡ k
 unfolding find
-find-place [] k o e = absurd (let z : ◌≡◌ {A = ℕ} 0 1 = cc in omega arith)
+find-place [] k o e = cc
 find-place (x ∷ xs) k o e =
     by_bool (eqb k (header_of x))
     (λ t. let w : x ≡ o = cc in sym (eqb-true k (header_of x) t ∙ ap (λ (z : Object). header_of z) w))
@@ -54,7 +54,7 @@ find-place (x ∷ xs) k o e =
 -- and lives
 pub find_in : (heap : Heap) (k : ℕ) (o : Object) → find heap k ≡ Some o → In o heap
 unfolding find
-find_in [] k o e = absurd (let z : ◌≡◌ {A = ℕ} 0 1 = cc in omega arith)
+find_in [] k o e = cc
 find_in (x ∷ xs) k o e =
     by_bool (eqb k (header_of x))
     (λ t. let w : o ≡ x = cc in Memᴰ.head w)
@@ -124,7 +124,7 @@ pub record Owned (heap : Heap) (p : ℕ) (o : Object) : Type 0 where
 
 pub owned : (heap : Heap) (p : ℕ) (o : Object) → Distinct heap → owner_of heap p ≡ Some o → Owned heap p o
 unfolding owner_of
-owned [] p o d e = absurd (let z : ◌≡◌ {A = ℕ} 0 1 = cc in omega arith)
+owned [] p o d e = cc
 owned (x ∷ xs) p o d e =
     by_bool (holds x p)
     (λ t. let w : x ≡ o = cc in rw (← w) (record { found = find_here x xs (header_of x) refl; mine = t }))
@@ -134,7 +134,7 @@ owned (x ∷ xs) p o d e =
 -- a known pointer has an owner
 pub known_owner : (heap : Heap) (p : ℕ) → known heap p ≡ true → (o : Object) × (owner_of heap p ≡ Some o)
 unfolding known owner_of
-known_owner [] p e = absurd (let z : ◌≡◌ {A = ℕ} 0 1 = cc in omega arith)
+known_owner [] p e = cc
 known_owner (x ∷ xs) p e =
     by_bool (holds x p)
     (λ t. rw t (x, refl))
@@ -190,7 +190,7 @@ module _ (f : Object → Object) (same : (o : Object) → header_of (f o) ≡ he
   pub find-change : (heap : Heap) (p : ℕ) (o : Object) (k : ℕ) → Distinct heap → owner_of heap p ≡ Some o
       → find (change f heap p) k ≡ cond (eqb k (header_of o)) (Some (f o)) (find heap k)
   unfolding find change owner_of
-  find-change [] p o k d e = absurd (let z : ◌≡◌ {A = ℕ} 0 1 = cc in omega arith)
+  find-change [] p o k d e = cc
   find-change (x ∷ xs) p o k d e =
       by_bool (holds x p)
       (λ u. let w : x ≡ o = cc in rw (u, same x, ← w) (again (eqb k (header_of x)) (Some (f x)) (Some x) (find xs k)))
@@ -213,7 +213,7 @@ change_nobody f (x ∷ xs) p e =
 pub find-without : (heap : Heap) (o : Object) (k : ℕ) → Distinct heap → find heap (header_of o) ≡ Some o
     → find (without heap o.answer) k ≡ cond (eqb k (header_of o)) None (find heap k)
 unfolding find without
-find-without [] o k d e = absurd (let z : ◌≡◌ {A = ℕ} 0 1 = cc in omega arith)
+find-without [] o k d e = cc
 find-without (x ∷ xs) o k d e =
     by_bool (eqb x.answer o.answer)
     (λ t. let w : header_of x ≡ header_of o = answer_place x o (eqb-true x.answer o.answer t) in

@@ -52,7 +52,7 @@ gap_le (item g b l) = omega arith
 
 -- no lookup both fails and succeeds
 pub clash : {A : Type 0} (x : A) → ◌≡◌ {A = Option A} None (Some x) → ⊥
-clash x e = let z : ◌≡◌ {A = ℕ} 0 1 = cc in omega arith
+clash x e = cc
 
 -- behind the first gap stands the first block
 pub look_first : (h g : ℕ) (b : Block) (l : Layout) → lookup h (item g b l) (h + g) ≡ Some b

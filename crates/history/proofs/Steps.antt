@@ -128,7 +128,7 @@ module _ {s L : ℕ} {x : State} {heap : Heap} (i : Invariant s L x heap) where
               λ p m.
               by_bool (eqb p (pack (pointer_to s h size)))
               (λ t. rw (eqb-true p (pack (pointer_to s h size)) t) (own_pointer s h size i.laid.shape.exponent_high new_fits))
-              (λ t. let z : ◌≡◌ {A = ℕ} 0 1 = cc in absurd (omega arith));
+              (λ t. cc);
         }
 
     -- the total has its extent
@@ -273,7 +273,7 @@ module _ {s L : ℕ} {x : State} {heap : Heap} (i : Invariant s L x heap) where
       read : (r : Answer) → located s (unpack p) x ≡ r → Freeing s L x heap p
       read (Err r) e =
           declined r (free_unread s x (opens i) p r e) (λ z. omega (arith, (located_refusal s (unpack p) x r e).1))
-          (λ o m a. let f : located s (unpack p) x ≡ Ok (header_of o) = (answer_found p o m a).0 in let z : ◌≡◌ {A = ℕ} 0 1 = cc in omega arith)
+          (λ o m a. let f : located s (unpack p) x ≡ Ok (header_of o) = (answer_found p o m a).0 in cc)
       read (Ok h) e =
           by_bool (eqb (unpack p).address (h + 16))
           (λ t. base h e t (block_at i.laid.layout h) refl)

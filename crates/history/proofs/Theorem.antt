@@ -184,7 +184,7 @@ module _ {s L : ℕ} (x : Configuration) (i : Invariant s L x.state x.heap) wher
       go None g =
           let (r, q) = copies_no_text i t p o o' e f g in (
             (λ (a : IsAccepted (copy_text t p x.state)). absurd (not-accepted r (sym q) a)),
-            λ (b : (m : ℕ) × (text_in o' p ≡ Some m) × BothInside o o' t p (m + 1)). let z : ◌≡◌ {A = ℕ} 0 1 = cc (b.1, g) in absurd (omega arith),
+            λ (b : (m : ℕ) × (text_in o' p ≡ Some m) × BothInside o o' t p (m + 1)). cc (b.1, g),
           )
 
   text_value : TextsCounted x
@@ -411,13 +411,13 @@ either_order s x e calls a = orders_agree (after calls (begun s x)) (keeps calls
 -- the abstract heap hears of an answer only after allocate and move
 pub hears_no_other : HearsNoOther
 unfolding HearsNoOther hear
-hears_no_other heap (allocates size type) a a' e = let z : ◌≡◌ {A = ℕ} 0 1 = cc in absurd (omega arith)
+hears_no_other heap (allocates size type) a a' e = cc
 hears_no_other heap (frees p) a a' e = refl
-hears_no_other heap (moves p d) a a' e = let z : ◌≡◌ {A = ℕ} 0 1 = cc in absurd (omega arith)
+hears_no_other heap (moves p d) a a' e = cc
 hears_no_other heap (loads p width) a a' e = refl
 hears_no_other heap (stores p width v) a a' e = refl
 hears_no_other heap (fills p n byte) a a' e = refl
 hears_no_other heap (copies t p n) a a' e = refl
 hears_no_other heap (copies_text t p) a a' e = refl
-hears_no_other heap (allocates_for size type cue) a a' e = let z : ◌≡◌ {A = ℕ} 0 1 = cc in absurd (omega arith)
+hears_no_other heap (allocates_for size type cue) a a' e = cc
 hears_no_other heap (releases cue) a a' e = refl

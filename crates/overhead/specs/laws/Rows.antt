@@ -23,7 +23,7 @@ bad_behind size sizes (too_large k h l) = too_large (suc k) (omega arith) l
 -- where not all are good, one is out of range
 pub size_bad : (sizes : List ℕ) → good_sizes sizes ≡ false → BadSize sizes
 unfolding good_sizes
-size_bad [] g = let z : ◌≡◌ {A = ℕ} 0 1 = cc in absurd (omega arith)
+size_bad [] g = cc
 size_bad (size ∷ sizes) g =
     by_bool (leb 1 size)
     (λ s.

@@ -46,7 +46,7 @@ size_most (size ∷ sizes) g (suc k) = size_most sizes (and_right (leb size 6553
 -- or one is not
 pub size_above : (sizes : List ℕ) → good_sizes sizes ≡ false → (k : ℕ) × (k < length sizes) × (65535 < get_or sizes k 0)
 unfolding good_sizes
-size_above [] g = let z : ◌≡◌ {A = ℕ} 0 1 = cc in absurd (omega arith)
+size_above [] g = cc
 size_above (size ∷ sizes) g =
     by_bool (leb size 65535)
     (λ t. let (k, h, l) = size_above sizes (rw t at g) in (suc k, omega arith, l))
