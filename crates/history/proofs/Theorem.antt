@@ -81,6 +81,11 @@ keeps (c ∷ cs) x i a = keeps cs (next c x) (steps c i (and_left _ (all_admitte
 pub begins : (s : ℕ) (x : State) → IsAccepted (set_up s x) → Invariant s (length x.image) (set_up s x).after []
 begins s x e = let (t, q) = set_up-accepted s x e in rw q (begins_with s x t)
 
+-- so it holds after every admitted list
+reaches : (s : ℕ) (x : State) → IsAccepted (set_up s x) → (calls : List Call) → all_admitted calls (begun s x) ≡ true
+    → Invariant s (length x.image) (after calls (begun s x)).state (after calls (begun s x)).heap
+reaches s x e calls = keeps calls (begun s x) (begins s x e)
+
 -- What the invariant says.
 
 module _ {s L : ℕ} (x : Configuration) (i : Invariant s L x.state x.heap) where
@@ -369,7 +374,7 @@ module _ {s L : ℕ} (x : Configuration) (i : Invariant s L x.state x.heap) wher
 
 pub demand3 : Demand3
 unfolding Demand3
-demand3 s x e calls a = holds-all (after calls (begun s x)) (keeps calls (begun s x) (begins s x e) a)
+demand3 s x e calls a = holds-all _ (reaches s x e calls a)
 
 -- the same, for what an admitted list leads to
 pub reached_holds : (s : ℕ) (x : State) → IsAccepted (set_up s x) → (y : Configuration) → Reached (begun s x) y → Holds s y
@@ -378,35 +383,35 @@ reached_holds s x e y r = subst (Holds s) r.leave (demand3 s x e r.calls r.are_a
 
 pub never_unsound : NeverUnsound
 unfolding NeverUnsound
-never_unsound s x e calls a = meets_no_unsound (after calls (begun s x)) (keeps calls (begun s x) (begins s x e) a)
+never_unsound s x e calls a = meets_no_unsound _ (reaches s x e calls a)
 
 pub stays_balanced : StaysBalanced
 unfolding StaysBalanced
-stays_balanced s x e calls a = balanced (after calls (begun s x)) (keeps calls (begun s x) (begins s x e) a)
+stays_balanced s x e calls a = balanced _ (reaches s x e calls a)
 
 pub stays_totalled : StaysTotalled
 unfolding StaysTotalled
-stays_totalled s x e calls a = right_total (after calls (begun s x)) (keeps calls (begun s x) (begins s x e) a)
+stays_totalled s x e calls a = right_total _ (reaches s x e calls a)
 
 pub stays_tidy : StaysTidy
 unfolding StaysTidy
-stays_tidy s x e calls a = tidy (after calls (begun s x)) (keeps calls (begun s x) (begins s x e) a)
+stays_tidy s x e calls a = tidy _ (reaches s x e calls a)
 
 pub no_empty_loads : NoEmptyLoads
 unfolding NoEmptyLoads
-no_empty_loads s x e calls a = no_load (after calls (begun s x)) (keeps calls (begun s x) (begins s x e) a)
+no_empty_loads s x e calls a = no_load _ (reaches s x e calls a)
 
 pub no_empty_access : NoEmptyAccess
 unfolding NoEmptyAccess
-no_empty_access s x e calls a = no_access (after calls (begun s x)) (keeps calls (begun s x) (begins s x e) a)
+no_empty_access s x e calls a = no_access _ (reaches s x e calls a)
 
 pub releases_singly : ReleasesSingly
 unfolding ReleasesSingly
-releases_singly s x e calls a cue fits = freed_singly (after calls (begun s x)) (keeps calls (begun s x) (begins s x e) a) cue
+releases_singly s x e calls a cue fits = freed_singly _ (reaches s x e calls a) cue
 
 pub either_order : EitherOrder
 unfolding EitherOrder
-either_order s x e calls a = orders_agree (after calls (begun s x)) (keeps calls (begun s x) (begins s x e) a)
+either_order s x e calls a = orders_agree _ (reaches s x e calls a)
 
 -- the abstract heap hears of an answer only after allocate and move
 pub hears_no_other : HearsNoOther
