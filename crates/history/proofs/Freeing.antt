@@ -1,5 +1,6 @@
 -- A block of the layout is freed: its gap, its own bytes and the next gap become one gap. Assumes nothing.
 use Rattle.store.specs.Calls.{merge_of}
+use Rattle.std.proofs.lemmas.Grind.{common_steps}
 use Rattle.std.proofs.Common.{Some, None, ℕ, zero, suc, ◌+◌, ◌-◌, ◌≤◌, ◌≡◌, refl, Bool, true, false, cond, ◌||◌, List, ◌++◌, length, take, drop, leb, eqb, sym, ap, ◌∙◌, arith, le-leb, eqb-true}
 use Rattle.std.proofs.lemmas.Bool.{eqb-false}
 use Rattle.block.specs.laws.Booleans.{by_bool}
@@ -45,10 +46,7 @@ module _ (image : List ℕ) (l : Layout) (k g : ℕ) (b : Block) (m : Layout) (f
 
   -- it stops at the block
   walked : walk (reaching (k + g)) image 0 ≡ stopped crossed.latest (k + g)
-  walked =
-      sym (f.reach (k + g) (omega arith))
-      ∙ crossed.onward
-      ∙ walk_stopped (reaching (k + g)) image crossed.latest (k + g) (block_sound image k g b m f.part) (le-leb (k + g) (k + g) (omega arith))
+  walked = grind (arith, common_steps, crossed, walk_stopped, block_sound, le-leb)
 
   -- and so meets it
   meets : walk_to image (k + g) ≡ Some crossed.latest
@@ -98,12 +96,8 @@ module _ (image : List ℕ) (l : Layout) (k g : ℕ) (b : Block) (m : Layout) (f
 
   -- the block's extent is given back to the gaps
   pub free-given : gaps (f.fill (regap joined m)) ≡ gaps l + extent_at image (k + g)
-  free-given = omega (arith, f.free_bytes_lem (regap joined m), regap-gaps joined m, block_extent image k g b m f.part)
+  free-given = grind (arith, common_steps, free_bytes_lem, regap-gaps, block_extent)
 
   pub free_looks : (j : ℕ) → lookup k (regap joined m) j ≡ cond (eqb j (k + g)) None (lookup k (item g b m) j)
   unfolding lookup
-  free_looks j =
-      rw (look_regap (k + g + extent b) k joined m j (omega arith))
-      (by_bool (eqb j (k + g))
-      (λ p. rw p (look_before (k + g + extent b) m j (omega (arith, eqb-true j (k + g) p))))
-      (λ p. rw p))
+  free_looks j = grind (arith, common_steps, look_regap, look_before, eqb-true)

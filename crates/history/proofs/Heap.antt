@@ -2,6 +2,7 @@
 -- In order: the object at a place; owners; one object more, changed, less; the objects that pass a test; how many there are. Not here: image and table.
 -- Assumes nothing.
 use Rattle.std.proofs.Common.{Option, None, Some, ℕ, zero, suc, ◌<◌, ◌≡◌, refl, Bool, true, false, cond, [], ◌∷◌, ◌++◌, length, get_or, eqb, sym, ap, ◌∙◌, ⊎_elim, arith, eq-eqb, ne_eqb, eqb-true}
+use Rattle.std.proofs.lemmas.Grind.{common_steps}
 use Rattle.std.proofs.lemmas.Bool.{eqb-false}
 use mathlib.Core.List.Memᴰ
 use Rattle.block.specs.laws.Booleans.{by_bool, true_false, refuted}
@@ -37,10 +38,7 @@ find_there o os k n = rw (ne_eqb k (header_of o) n)
 
 -- what stands behind a first object is what stands elsewhere in the whole list
 pub find_rest : (o : Object) (os : Heap) (k : ℕ) → Distinct (o ∷ os) → find os k ≡ cond (eqb k (header_of o)) None (find (o ∷ os) k)
-find_rest o os k d =
-    by_bool (eqb k (header_of o))
-    (λ t. rw t (ap (find os) (eqb-true k (header_of o) t) ∙ d.0))
-    (λ t. rw t (sym (find_there o os k (eqb-false k (header_of o) t))))
+find_rest o os k d = grind (arith, common_steps, eqb-true, find_there, eqb-false)
 
 -- what is found has its header there
 pub find-place : (heap : Heap) (k : ℕ) (o : Object) → find heap k ≡ Some o → header_of o ≡ k
@@ -269,7 +267,7 @@ find-passing test (x ∷ xs) k d =
 -- the same, for what was found
 pub found-passing : (test : Object → Bool) (heap : Heap) (k : ℕ) (r : Option Object) → Distinct heap → find heap k ≡ r
     → find (passing test heap) k ≡ cond (passes test r) r None
-found-passing test heap k r d e = find-passing test heap k d ∙ ap (λ (q : Option Object). cond (passes test q) q None) e
+found-passing test heap k r d e = grind (arith, common_steps, find-passing)
 
 pub distinct_passing : (test : Object → Bool) (heap : Heap) → Distinct heap → Distinct (passing test heap)
 unfolding passing
@@ -307,7 +305,7 @@ length_without (x ∷ xs) o e =
 pub same_count : (heap new : Heap) → Distinct heap → Distinct new → ((k : ℕ) → find heap k ≡ find new k) → length heap ≡ length new
 unfolding find
 same_count [] [] d d' e = refl
-same_count [] (x ∷ xs) d d' e = absurd (none_some {o = x} refl (e (header_of x) ∙ find_here x xs (header_of x) refl))
+same_count [] (x ∷ xs) d d' e = grind (arith, common_steps, none_some, find_here)
 same_count (o ∷ os) new d d' e =
     let there : find new (header_of o) ≡ Some o = sym (e (header_of o)) ∙ find_here o os (header_of o) refl in
     let rest : (k : ℕ) → find os k ≡ find (without new o.answer) k =
