@@ -1,5 +1,5 @@
 -- What holds at every place that the walk over a layout's image comes to. Assumes nothing.
-use Rattle.std.proofs.Common.{None, Option, Some, Err, ℕ, ◌+◌, ◌-◌, ◌≤◌, ◌<◌, ◌≡◌, true, false, List, ◌++◌, length, drop, get_or, sym, ap, ◌∙◌, arith, get_or-drop}
+use Rattle.std.proofs.Common.{None, Option, Some, Err, ℕ, ◌+◌, ◌-◌, ◌≤◌, ◌<◌, ◌≡◌, true, false, List, ◌++◌, length, drop, get_or, ap, ◌∙◌, arith, get_or-drop}
 use Rattle.std.proofs.lemmas.Grind.{common_steps}
 use Rattle.std.proofs.Math.ListN.{length-replicate, get_or-replicate, get_or-append}
 use Rattle.std.proofs.Math.Seq.{drop-length}
@@ -20,7 +20,7 @@ use Rattle.history.proofs.Bodies.{drop_body}
 
 -- a byte of a run of zeros that stands at h
 zero_at : (image : List ℕ) (h n : ℕ) (q : List ℕ) → drop h image ≡ zeros n ++ q → (j : ℕ) → j < n → get_or image (h + j) 0 ≡ 0
-zero_at image h n q e j lt = grind (arith, common_steps, get_or-drop, get_or-append, length-replicate, get_or-replicate)
+zero_at image h n q e j lt = grind (arith, get_or-drop, get_or-append, length-replicate, get_or-replicate)
 
 -- in the free block of a gap
 pub gap_zero : (image : List ℕ) (h : ℕ) (l : Layout) → Part image h l → 1 ≤ gap l → (i : ℕ) → 16 ≤ i → i < gap l → get_or image (h + i) 0 ≡ 0
@@ -48,7 +48,7 @@ module _ (image : List ℕ) (l : Layout) where
   standing_neighbours _ (a_gap k (last g) f wide) lt r in-it = absurd (omega (arith, gap-extent image k (last g) f.part wide, f.part.whole))
   standing_neighbours _ (a_gap k (item g b m) f wide) lt r in-it =
       ap (λ (n : ℕ). is_free image (k + n)) (gap-extent image k (item g b m) f.part wide) ∙ block_not_free image k g b m f.part
-  standing_neighbours _ (a_block k g b m f) lt r in-it = absurd (true_false r (block_not_free image k g b m f.part))
+  standing_neighbours _ (a_block k g b m f) lt r in-it = grind (arith, block_not_free)
   standing_neighbours _ the_end lt r in-it = absurd (omega arith)
 
   -- a free block's bytes are zero behind its header, a live one's behind its body
@@ -56,13 +56,13 @@ module _ (image : List ℕ) (l : Layout) where
   pub standing_free_zero : (h : ℕ) → Standing image l h → h < length image → is_free image h ≡ true
       → (i : ℕ) → 16 ≤ i → i < extent_at image h → get_or image (h + i) 0 ≡ 0
   standing_free_zero _ (a_gap k m f wide) lt r i low high = grind (arith, common_steps, gap_zero, gap-extent)
-  standing_free_zero _ (a_block k g b m f) lt r i low high = absurd (true_false r (block_not_free image k g b m f.part))
+  standing_free_zero _ (a_block k g b m f) lt r i low high = grind (arith, block_not_free)
   standing_free_zero _ the_end lt r i low high = absurd (omega arith)
 
   pub standing_tail_zero : (h : ℕ) → Standing image l h → h < length image → is_live image h ≡ true
       → (i : ℕ) → 16 + size_at image h ≤ i → i < extent_at image h → get_or image (h + i) 0 ≡ 0
   standing_tail_zero _ (a_gap k m f wide) lt r i low high = absurd (true_false r (gap-not_live image k m f.part wide))
-  standing_tail_zero _ (a_block k g b m f) lt r i low high = grind (arith, common_steps, spare_zero, block_size, block_extent)
+  standing_tail_zero _ (a_block k g b m f) lt r i low high = grind (arith, spare_zero, block_size, block_extent)
   standing_tail_zero _ the_end lt r i low high = absurd (omega arith)
 
   -- a live header on the walk is a block of the layout

@@ -24,7 +24,7 @@ gap_some (suc g) h = refl
 pub length-gap : (g : ℕ) → GapOk g → length (gap_bytes g) ≡ g
 unfolding gap_bytes
 length-gap zero k = refl
-length-gap (suc g) k = simp (length-append, length-header, length-replicate) (omega arith)
+length-gap (suc g) k = grind (arith, length-append, length-header, length-replicate)
 
 pub length_block : (b : Block) → length (block_bytes b) ≡ extent b
 unfolding block_bytes

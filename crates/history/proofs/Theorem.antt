@@ -1,7 +1,7 @@
 -- Demand 3, and the further claims about its lists.
 -- In order: the induction over the list; each field of `Holds` from the invariant; the claims. Not here: the steps of single calls (`Steps`). Assumes nothing.
 use Rattle.store.specs.State.{usage_of}
-use Rattle.std.proofs.Common.{Err, None, Ok, Option, Some, ℕ, ◌+◌, ◌^◌, ◌≤◌, ◌<◌, ◌≡◌, refl, Bool, true, false, cond, ◌&&◌, List, [], ◌∷◌, ◌↔◌, ◌⊎◌, length, take, drop, ltb, sym, ap, ◌∙◌, subst, inl, inr, arith, lt-ltb, ltb-true, leb-false, Ordering}
+use Rattle.std.proofs.Common.{Err, None, Ok, Option, Some, ℕ, ◌+◌, ◌^◌, ◌≤◌, ◌<◌, ◌≡◌, refl, Bool, true, false, cond, ◌&&◌, List, [], ◌∷◌, ◌↔◌, ◌⊎◌, length, take, drop, ltb, sym, ap, ◌∙◌, subst, arith, lt-ltb, ltb-true, leb-false, Ordering}
 use Rattle.frame.specs.Pointers.{unpack}
 use Rattle.block.specs.laws.Booleans.{and_left, and_right, and_both, true_false}
 use Rattle.block.specs.Bytes.{decode, field}
@@ -250,19 +250,11 @@ module _ {s L : ℕ} (x : Configuration) (i : Invariant s L x.state x.heap) wher
       go (given h c f j) = nought (number _ f) h (clear_run h (16 + size) c)
 
   two_answers : EachAllocate x.state (λ size r. (r ≡ 0) ⊎ (r ≡ 8))
-  two_answers size type cue u fits cue_fits = go (allocate_returns size type cue fits cue_fits)
-    where
-      go : Returns size type cue → (returned (allocate_for size type cue x.state).answer ≡ 0) ⊎ (returned (allocate_for size type cue x.state).answer ≡ 8)
-      go (eight f r) = inr f
-      go (nought f a r) = inl f
+  two_answers size type cue u fits cue_fits = grind (arith, allocate_returns)
 
   -- no other number
   never : (n : ℕ) → (n ≡ 0 → ⊥) → (n ≡ 8 → ⊥) → EachAllocate x.state (λ size r. r ≡ n → ⊥)
-  never n a b size type cue l fits cue_fits e = go (allocate_returns size type cue fits cue_fits)
-    where
-      go : Returns size type cue → ⊥
-      go (eight f r) = b (sym e ∙ f)
-      go (nought f k r) = a (sym e ∙ f)
+  never n a b size type cue l fits cue_fits e = grind (arith, allocate_returns)
 
   has_room : EachAllocate x.state (λ size r. (r ≡ 0) ↔ ((a : ℕ) × FreeRun x a (16 + size)))
   has_room size type cue u fits cue_fits = go (allocate_returns size type cue fits cue_fits)
