@@ -68,4 +68,4 @@ counting_goes_on s sizes i left left' count h place size count' h' now e size_is
 
 pub counting_ends : (s : ℕ) (sizes : List ℕ) (i : ℕ) (left : List ℕ) (count h : ℕ) → Counted s sizes i left count h → left ≡ []
     → count ≡ large s sizes (order_at (length sizes) i)
-counting_ends s sizes i left count h now e = let is = rw e at now.is in omega (arith, is, large_none s sizes h)
+counting_ends s sizes i left count h now e = grind (arith, large_none)

@@ -1,5 +1,5 @@
 -- Row 26 test by test, and the ways out of the search. Assumes nothing.
-use Rattle.std.proofs.Common.{ℕ, zero, suc, ◌≤◌, ◌<◌, min, ◌≡◌, true, false, ◌&&◌, List, [], ◌∷◌, length, get_or, take, leb, ltb, sym, ap, ◌∙◌, subst, arith, length-take, get_or-take, ltb-true, ltb-false, leb-true, lt-ltb, le-ltb, le-leb, leb-false}
+use Rattle.std.proofs.Common.{ℕ, zero, suc, ◌≤◌, ◌<◌, min, ◌≡◌, true, false, ◌&&◌, List, [], ◌∷◌, length, get_or, take, leb, ltb, sym, ◌∙◌, subst, arith, length-take, get_or-take, ltb-true, ltb-false, leb-true, lt-ltb, le-ltb, leb-false}
 use Rattle.block.specs.Layout.{within, good_exponent}
 use Rattle.block.specs.laws.Booleans.{by_bool, and_left, and_right}
 use Rattle.placement.specs.Orders.{orders, order_at, factorial}
@@ -34,14 +34,14 @@ planned s sizes g =
 -- the tests of the count and of the sizes passed, that of the exponent tells
 pub plan_rest : (s : ℕ) (sizes : List ℕ) → 1 ≤ length sizes → length sizes ≤ 8 → good_sizes sizes ≡ true → good_plan s sizes ≡ good_exponent s
 unfolding good_plan
-plan_rest s sizes l m g = rw (le-leb 1 (length sizes) l, le-leb (length sizes) 8 m, g)
+plan_rest s sizes l m g = grind arith
 
 -- each size is in range
 pub size_most : (sizes : List ℕ) → good_sizes sizes ≡ true → (k : ℕ) → get_or sizes k 0 ≤ 65535
 unfolding good_sizes
 size_most [] g k = omega arith
-size_most (size ∷ sizes) g zero = leb-true size 65535 (and_left (leb size 65535) (good_sizes sizes) g)
-size_most (size ∷ sizes) g (suc k) = size_most sizes (and_right (leb size 65535) (good_sizes sizes) g) k
+size_most (size ∷ sizes) g zero = grind arith
+size_most (size ∷ sizes) g (suc k) = grind (arith, size_most sizes)
 
 -- or one is not
 pub size_above : (sizes : List ℕ) → good_sizes sizes ≡ false → (k : ℕ) × (k < length sizes) × (65535 < get_or sizes k 0)
@@ -84,7 +84,7 @@ verdict s sizes budget =
 -- The orders that the budget allows.
 
 pub tried_length : (n budget : ℕ) → length (take budget (orders n)) ≡ min budget (factorial n)
-tried_length n budget = length-take budget (orders n) ∙ ap (λ (k : ℕ). min budget k) (all-orders n)
+tried_length n budget = grind (arith, length-take, all-orders)
 
 pub tried_at : (n budget i : ℕ) → i < min budget (factorial n) → get_or (take budget (orders n)) i [] ≡ order_at n i
 tried_at n budget i h = get_or-take budget (orders n) i [] (omega arith)
