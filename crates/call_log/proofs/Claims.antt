@@ -1,5 +1,5 @@
 -- The claims of logs. A record is read back field by field, each behind the one before it; a log, record by record. Assumes nothing.
-use Rattle.std.proofs.Common.{ℕ, ◌+◌, ◌-◌, ◌^◌, ◌<◌, ◌≡◌, refl, sym, ap, ◌∙◌, true, List, [], ◌∷◌, ◌++◌, append_assoc, append-nil, add-zero, arith, length, take, drop, length-append, length-drop, take_at, drop_at, drop-drop, ltb, pos, negsuc, ltb-true, le-leb, Option, Some, None, Ok, Err}
+use Rattle.std.proofs.Common.{ℕ, ◌+◌, ◌-◌, ◌^◌, ◌<◌, ◌≡◌, refl, true, List, [], ◌∷◌, ◌++◌, length, take, drop, ltb, pos, negsuc, Option, Some, None, Ok, Err, sym, ap, ◌∙◌, append_assoc, append-nil, add-zero, arith, length-append, length-drop, take_at, drop_at, drop-drop, ltb-true, le-leb}
 use Rattle.block.specs.Bytes.{encode, decode, field}
 use Rattle.block.specs.laws.Booleans.{and_left, and_right}
 use Rattle.block.specs.laws.Fields.{length-encode, decode-encode, field_bytes_lem}

@@ -1,6 +1,6 @@
 -- Every log of bytes is the log of its calls, with nothing behind it or a malformed record: a record that is read is that of its call, byte for byte.
 -- Assumes nothing.
-use Rattle.std.proofs.Common.{ℕ, zero, suc, ◌+◌, ◌-◌, ◌^◌, ◌≤◌, ◌<◌, ◌≡◌, refl, sym, ap, ◌∙◌, subst, List, [], ◌∷◌, ◌++◌, append_assoc, add-zero, arith, length, drop, length-append, length-drop, drop_of_length-le, ltb, ltb-true, ltb-false, Some, None, Ok, Err}
+use Rattle.std.proofs.Common.{ℕ, zero, suc, ◌+◌, ◌-◌, ◌^◌, ◌≤◌, ◌<◌, ◌≡◌, refl, List, [], ◌∷◌, ◌++◌, length, drop, ltb, Some, None, Ok, Err, sym, ap, ◌∙◌, subst, append_assoc, add-zero, arith, length-append, length-drop, drop_of_length-le, ltb-true, ltb-false}
 use Rattle.block.specs.Bytes.{encode, field, Bytes}
 use Rattle.block.specs.laws.Booleans.{by_bool}
 use Rattle.block.specs.laws.Fields.{field_bound, field_stands}

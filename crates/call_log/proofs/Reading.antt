@@ -1,5 +1,5 @@
 -- A signed number, and a record that is read, over plain values. Assumes nothing.
-use Rattle.std.proofs.Common.{Fits, w8, w16, w32, get_or, ℕ, ◌+◌, ◌-◌, ◌^◌, ◌≤◌, ◌<◌, ◌≡◌, refl, sym, ap, true, List, arith, ltb, length, pos, negsuc, w64, to_z, eq-eqb, ne_eqb, le-leb, lt-ltb, le-ltb, Some, Ok}
+use Rattle.std.proofs.Common.{get_or, ℕ, ◌+◌, ◌-◌, ◌^◌, ◌≤◌, ◌<◌, ◌≡◌, refl, true, List, ltb, length, pos, negsuc, Some, Ok, Fits, w8, w16, w32, sym, ap, arith, w64, to_z, eq-eqb, ne_eqb, le-leb, lt-ltb, le-ltb}
 use Rattle.block.specs.Bytes.{field}
 use Rattle.block.specs.laws.Booleans.{by_bool}
 use Rattle.block.specs.laws.Fields.{field_bound}

@@ -1,9 +1,9 @@
 -- Text put into a buffer, piece by piece. In order: pieces; hexadecimal digits; decimal digits; the numbers of kinds, refusals and malformed records.
 -- Assumes nothing.
-use Rattle.std.proofs.Common.{ℕ, zero, suc, ◌+◌, ◌*◌, ◌/◌, ◌%◌, ◌^◌, ◌≤◌, ◌<◌, ◌≡◌, refl, sym, ap, ◌∙◌, subst, List, [], ◌∷◌, ◌++◌, append_assoc, append-nil, mod-eq_of_lt, pow-suc, arith, length, length-append, lt-ltb, le-ltb, Err, Ok}
+use Rattle.std.proofs.Common.{ℕ, zero, suc, ◌+◌, ◌*◌, ◌/◌, ◌%◌, ◌^◌, ◌≤◌, ◌<◌, ◌≡◌, refl, List, [], ◌∷◌, ◌++◌, length, Err, Ok, sym, ap, ◌∙◌, subst, append_assoc, append-nil, mod-eq_of_lt, pow-suc, arith, length-append, lt-ltb, le-ltb}
+use Rattle.std.specs.Result.{result_unwrap_or}
 use denote.Enum.Declared.{tag_of}
 use Rattle.std.proofs.lemmas.Nat.{pow-add}
-use Rattle.std.specs.Result.{result_unwrap_or}
 use Rattle.block.specs.Bytes.{put}
 use Rattle.block.specs.laws.Writes.{put_nil, put-append}
 use Rattle.store.specs.State.{returned, value}

@@ -1,5 +1,5 @@
 -- The turns of the loop that runs a log: what the rest of the run prints and leaves, by what the reader gives next. Assumes nothing.
-use Rattle.std.proofs.Common.{ℕ, ◌+◌, ◌*◌, ◌≤◌, ◌<◌, ◌≡◌, refl, sym, ap, ◌∙◌, List, [], ◌++◌, append_assoc, append-nil, arith, length, take, Bor, ⊎_elim, Some, None, Result, Ok, Err}
+use Rattle.std.proofs.Common.{ℕ, ◌+◌, ◌*◌, ◌≤◌, ◌<◌, ◌≡◌, refl, List, [], ◌++◌, length, take, Some, None, Result, Ok, Err, sym, ap, ◌∙◌, append_assoc, append-nil, arith, Bor, ⊎_elim}
 use Rattle.std.proofs.str.Laws.{order}
 use Rattle.block.specs.Bytes.{put}
 use Rattle.block.specs.laws.Writes.{take-put-end}

@@ -68,6 +68,7 @@ pub extern "C" fn cue_move(
 }
 
 // The number in `width` bytes goes to `value`.
+#[tactic(auto, using(store::specs::laws::Load::load_leaves))]
 #[unsafe(no_mangle)]
 pub extern "C" fn cue_load(
     image: &[u8],

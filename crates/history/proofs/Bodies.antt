@@ -1,10 +1,6 @@
 -- Reading and writing the body of a block in its image. Assumes nothing.
-use Prim.Native.Nat.{ℕ, ◌+◌, ◌≤◌}
-use mathlib.Core.Path.{◌≡◌, refl, sym, ap, ◌∙◌}
-use mathlib.Core.List.{List, ◌++◌, append_assoc}
-use native.Mathlib.Omega.{arith}
-use lib.ListN.{length, take, drop, length-append, length-take, length-drop, take-append-drop}
-use lib.Seq.{drop-drop, take-append-le, drop-append-le, length-take-le}
+use Rattle.std.proofs.Common.{ℕ, ◌+◌, ◌≤◌, ◌≡◌, List, ◌++◌, length, take, drop, sym, ap, ◌∙◌, append_assoc, arith, length-append, length-take, length-drop, take-append-drop, drop-drop, length-take-le}
+use Rattle.std.proofs.Math.Seq.{take-append-le, drop-append-le}
 use Rattle.block.specs.Bytes.{put}
 use Rattle.block.specs.laws.Writes.{put-at, length-put}
 use Rattle.block.specs.Layout.{live_header}
@@ -25,8 +21,7 @@ module _ (image : List ℕ) (k g : ℕ) (b : Block) (m : Layout) (p : Part image
 
   -- bytes of the body, read in the image
   pub read_at : (i n : ℕ) → i + n ≤ length b.body → take n (drop (k + g + 16 + i) image) ≡ take n (drop i b.body)
-  read_at i n le =
-      ap (take n) (drop_body i (omega arith)) ∙ take-append-le n (drop i b.body) (zeros b.spare ++ render m) (simp length-drop (omega arith))
+  read_at i n le = grind (arith, drop_body, take-append-le, length-drop)
 
 -- a list in three parts
 split_three : (l : List ℕ) (i n : ℕ) → l ≡ take i l ++ (take n (drop i l) ++ drop (i + n) l)
@@ -36,7 +31,7 @@ split_three l i n = sym (rw (← drop-drop n i l, take-append-drop n (drop i l))
 regroup : (P R : List ℕ) (b : Block) (i : ℕ) (v : List ℕ) → i + length v ≤ length b.body
     → (P ++ (live_header (extent b) b.type (length b.body) b.cue ++ take i b.body)) ++ (v ++ (drop (i + length v) b.body ++ (zeros b.spare ++ R)))
     ≡ P ++ ((live_header (extent b) b.type (length b.body) b.cue ++ (put b.body i v ++ zeros b.spare)) ++ R)
-regroup P R b i v le = rw (put_parts b.body i v (drop (i + length v) b.body) (length v) refl le refl) (simp append_assoc)
+regroup P R b i v le = grind (arith, put_parts, append_assoc)
 
 -- bytes put into a block's body, where the image is in parts
 put_block : (P R : List ℕ) (t : ℕ) (b : Block) (i : ℕ) (v : List ℕ) → length P ≡ t → i + length v ≤ length b.body

@@ -1,6 +1,5 @@
 -- The claim on two orders of frees or releases, used on the worked example (`specs/Examples`). Assumes nothing.
-use Rattle.std.specs.Prelude.{◌≡◌}
-use Rattle.std.proofs.Common.{arith}
+use Rattle.std.proofs.Common.{◌≡◌, arith}
 use Rattle.store.specs.State.{State}
 use Rattle.store.specs.Calls.{free, release_cue}
 use Rattle.history.specs.Heap.{new_object}

@@ -1,9 +1,5 @@
 -- What a count of the blocks finds on an image with a layout. Assumes nothing.
-use Rattle.std.specs.Prelude.{Some}
-use Prim.Native.Nat.{ℕ, ◌+◌}
-use mathlib.Core.Path.{◌≡◌, refl, sym, ap, ◌∙◌}
-use mathlib.Core.List.{List}
-use native.Mathlib.Omega.{arith}
+use Rattle.std.proofs.Common.{Some, ℕ, ◌+◌, ◌≡◌, refl, List, sym, ap, ◌∙◌, arith}
 use Rattle.block.specs.Layout.{fields}
 use Rattle.block.specs.Walk.{ended, walk_from, no_counts, with_live, with_free, counting, count_blocks}
 use Rattle.block.specs.laws.Walks.{walk_begins, walk_ended}
@@ -22,8 +18,7 @@ plus a b = record { objects = a.objects + b.objects; live = a.live + b.live; fre
 -- past a gap, its free block is counted, if there is one
 count_gap : (image : List ℕ) (h : ℕ) (l : Layout) (a : Counts) → Part image h l
     → walk_from counting image a h ≡ walk_from counting image (with_free a (fields (gap l) 1 0 0 0)) (h + gap l)
-count_gap image h l a p =
-    pass_gap counting (λ k d. refl) image h l a (with_free a (fields (gap l) 1 0 0 0)) p (λ e. same-counts refl refl (omega arith) refl) refl
+count_gap image h l a p = grind (arith, pass_gap)
 
 -- from h on, all of the layout
 count_from : (image : List ℕ) (h : ℕ) (l : Layout) (a : Counts) → Part image h l → walk_from counting image a h ≡ ended (plus a (counts l))

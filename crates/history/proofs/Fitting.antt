@@ -1,17 +1,8 @@
 -- A new block in a gap that has room for it, and what first fit finds.
 -- In order: the layout with the new block; its bytes; the carved image; first fit. Assumes nothing.
-use Rattle.std.specs.Prelude.{None, Some}
-use Prim.Native.Nat.{ℕ, ◌+◌, ◌-◌, ◌^◌, ◌≤◌, ◌<◌}
-use mathlib.Core.Path.{◌≡◌, refl, sym, ap, ◌∙◌}
-use mathlib.Core.Bool.{cond}
-use mathlib.Core.List.{List, ◌++◌, append_assoc}
-use mathlib.Core.Logic.{⊎_elim, inl, inr}
-use native.Mathlib.Omega.{arith}
-use native.Mathlib.Nat.{add-zero}
-use lib.ListN.{length, take, length-append, length-replicate, take-append-drop, replicate-append-replicate}
-use lib.Seq.{length-take-le}
-use lib.Dec.{ltb, eqb}
-use borrow.Author.Tests.{ltb-true, ltb-false}
+use Rattle.std.proofs.Common.{None, Some, ℕ, ◌+◌, ◌-◌, ◌^◌, ◌≤◌, ◌<◌, ◌≡◌, refl, cond, List, ◌++◌, length, take, ltb, eqb, sym, ap, ◌∙◌, append_assoc, ⊎_elim, inl, inr, arith, add-zero, length-append, take-append-drop, length-take-le, ltb-true, ltb-false}
+use Rattle.std.proofs.lemmas.Grind.{common_steps}
+use Rattle.std.proofs.Math.ListN.{length-replicate, replicate-append-replicate}
 use Rattle.block.specs.laws.Booleans.{by_bool, true_false}
 use Rattle.block.specs.Bytes.{put}
 use Rattle.block.specs.laws.Writes.{put-at}
@@ -25,7 +16,7 @@ use Rattle.block.specs.declared.walk.Fit.TheVariants as fit
 use Rattle.store.specs.Calls.{taken_extent, carved}
 use Rattle.store.specs.laws.Allocate.{taken_whole, taken_rest, carved-whole, carved_rest}
 use Rattle.history.proofs.Gaps.{Block, extent, Layout, last, item, zeros, gap_bytes, block_bytes, render, gaps, GapOk, BlockOk, lookup, block_at, Placed, Remade, Clear}
-use Rattle.history.proofs.Looks.{gap, regap, gap_ok, gap_le, regap_ok, regap-size, regap-gaps, look_first, look_regap, look_inside, look_before}
+use Rattle.history.proofs.Looks.{gap, regap, gap_ok, gap_le, regap_ok, regap-size, look_first, look_inside, look_before}
 use Rattle.history.proofs.Rendered.{after, gap_none, gap_some, gap-free, gap-extent, block_not_free, render-regap, gap_cut, Part}
 use Rattle.history.proofs.Focus.{Focus, focus_whole, focus_next, focus_remade, Standing, a_gap, a_block, the_end, standing, no_unsound}
 
@@ -41,11 +32,11 @@ over n g = cond (ltb (g - (16 + n)) 16) (g - (16 + n)) 0
 
 over-left : (n g : ℕ) → 16 + n ≤ g → 16 + n + over n g + left n g ≡ g
 unfolding over left
-over-left n g le = by_bool (ltb (g - (16 + n)) 16) (λ p. rw p (omega arith)) (λ p. rw p (omega arith))
+over-left n g le = grind arith
 
 over_tight : (n g : ℕ) → over n g ≤ 15
 unfolding over
-over_tight n g = by_bool (ltb (g - (16 + n)) 16) (λ p. rw p (omega (arith, ltb-true (g - (16 + n)) 16 p))) (λ p. rw p (omega arith))
+over_tight n g = grind arith
 
 left_ok : (n g : ℕ) → GapOk (left n g)
 unfolding left
@@ -72,7 +63,7 @@ new_bytes n type cue g = simp length-replicate
 render-placed : (n type cue : ℕ) (l : Layout)
     → render (placed_in n type cue l)
     ≡ live_header (16 + (n + over n (gap l))) type n cue ++ (zeros n ++ (zeros (over n (gap l)) ++ (gap_bytes (left n (gap l)) ++ after l)))
-render-placed n type cue l = rw (gap_none, new_bytes n type cue (gap l), render-regap (left n (gap l)) l) (simp append_assoc)
+render-placed n type cue l = grind (arith, gap_none, new_bytes, render-regap, append_assoc)
 
 -- bytes
 
@@ -151,24 +142,15 @@ module _ (image : List ℕ) (l : Layout) (k : ℕ) (m : Layout) (f : Focus image
   -- the extent that is taken is the new block's
   taken_is : taken_extent image k n ≡ 16 + (n + over n (gap m))
   unfolding over
-  taken_is =
-      let x : gap m ≡ extent_at image k = sym (gap-extent image k m f.part (omega arith)) in
-      by_bool (ltb (gap m - (16 + n)) 16)
-      (λ t. taken_whole image k n (gap m) x (ltb-true _ _ t) ∙ rw t (omega arith))
-      (λ t. taken_rest image k n (gap m) x (ltb-false _ _ t) ∙ rw t (omega arith))
+  taken_is = grind (arith, gap-extent, taken_whole, taken_rest)
 
   -- it is taken from the gaps
   pub carve_taken : gaps (f.fill (placed_in n type cue m)) + taken_extent image k n ≡ gaps l
-  carve_taken =
-      omega (arith, f.free_bytes_lem (placed_in n type cue m), regap-gaps (left n (gap m)) m, over-left n (gap m) le, taken_is)
+  carve_taken = grind (arith, over-left, taken_is)
 
   pub carve_looks : (j : ℕ) → lookup k (placed_in n type cue m) j ≡ cond (eqb j k) (Some (new n type cue (gap m))) (lookup k m j)
   unfolding lookup
-  carve_looks j =
-      rw (
-        add-zero k,
-        look_regap k (k + extent (new n type cue (gap m))) (left n (gap m)) m j (omega (arith, new-extent n type cue (gap m), over-left n (gap m) le)),
-      )
+  carve_looks j = grind (arith, common_steps, over-left)
 
   -- no block stood at that place
   pub carve_vacant : block_at l k ≡ None

@@ -1,16 +1,8 @@
 -- A place of a layout in its image: a gap's start, seen with the layout from there on.
 -- In order: the walk past a gap and a block; the view itself, the whole, the next one, another rest; what stands at a place. Assumes nothing.
-use Rattle.std.specs.Prelude.{Option, Some}
-use Prim.Native.Nat.{ℕ, zero, suc, ◌+◌, ◌≤◌, ◌<◌}
-use mathlib.Core.Path.{◌≡◌, refl, sym, ap, ◌∙◌, subst}
-use mathlib.Core.Bool.{true, false, cond, ◌&&◌, and-false}
-use mathlib.Core.List.{List, ◌++◌}
-use native.Mathlib.Omega.{arith}
-use native.Mathlib.Nat.{add-zero}
-use lib.ListN.{length, take, drop, length-append}
-use lib.Seq.{take_at, drop_at, length-take-le}
-use lib.Dec.{ltb, eqb}
-use borrow.Author.Tests.{lt-leb, eqb-true, ltb-true, ltb-false}
+use Rattle.std.proofs.Common.{Option, Some, ℕ, zero, suc, ◌+◌, ◌≤◌, ◌<◌, ◌≡◌, refl, true, false, cond, ◌&&◌, List, ◌++◌, length, take, drop, ltb, eqb, sym, ap, ◌∙◌, subst, arith, add-zero, length-append, take_at, drop_at, length-take-le, eqb-true, ltb-true, ltb-false}
+use Rattle.std.proofs.lemmas.Bool.{lt-leb}
+use Rattle.std.proofs.Math.Bool.{and-false}
 use Rattle.block.specs.laws.Booleans.{by_bool, true_false}
 use Rattle.block.specs.Layout.{extent_at, is_free, sound}
 use Rattle.block.specs.laws.Soundness.{sound_in}

@@ -1,14 +1,7 @@
 -- A block of the layout is freed: its gap, its own bytes and the next gap become one gap. Assumes nothing.
 use Rattle.store.specs.Calls.{merge_of}
-use Rattle.std.specs.Prelude.{Some, None}
-use Prim.Native.Nat.{ℕ, zero, suc, ◌+◌, ◌-◌, ◌≤◌}
-use mathlib.Core.Path.{◌≡◌, refl, sym, ap, ◌∙◌}
-use mathlib.Core.Bool.{Bool, true, false, cond, ◌||◌}
-use mathlib.Core.List.{List, ◌++◌}
-use native.Mathlib.Omega.{arith}
-use lib.ListN.{length, take, drop}
-use lib.Dec.{leb, eqb}
-use borrow.Author.Tests.{le-leb, eqb-true, eqb-false}
+use Rattle.std.proofs.Common.{Some, None, ℕ, zero, suc, ◌+◌, ◌-◌, ◌≤◌, ◌≡◌, refl, Bool, true, false, cond, ◌||◌, List, ◌++◌, length, take, drop, leb, eqb, sym, ap, ◌∙◌, arith, le-leb, eqb-true}
+use Rattle.std.proofs.lemmas.Bool.{eqb-false}
 use Rattle.block.specs.laws.Booleans.{by_bool}
 use Rattle.block.specs.Layout.{free_header, sound, is_free, extent_at}
 use Rattle.block.specs.Walk.{stopped, walk, reaching, walk_to}
@@ -17,13 +10,13 @@ use Rattle.block.specs.laws.WalkTo.{walk_to_stopped}
 use Rattle.store.specs.Calls.{released, merge_start, merge_end, merged}
 use Rattle.store.specs.laws.Free.{merge_start_here, merge_start-free, merge_end_last, merge_end-free, merge_end_live, released_merges, merged_parts}
 use Rattle.history.proofs.Gaps.{Block, extent, Layout, last, item, zeros, render, gaps, lookup, Remade}
-use Rattle.history.proofs.Looks.{gap, regap, gap_ok, gap_le, regap_ok, regap-size, regap-gaps, look_regap, look_before}
+use Rattle.history.proofs.Looks.{gap, regap, gap_ok, gap_le, regap_ok, regap-size, look_regap, look_before}
 use Rattle.history.proofs.Rendered.{Part, part_after, part_next, gap_some, gap-free, gap-extent, render-regap, block_sound, block_not_free, block_extent}
 use Rattle.history.proofs.Focus.{Crossed, cross_gap, Focus, focus_next, focus_remade, standing_first, standing_sound}
 
 -- the merging ends with the next gap
 merge_end_lem : (image : List ℕ) (h : ℕ) (l : Layout) → Part image h l → merge_end image h ≡ h + gap l
-merge_end_lem image h (last zero) p = merge_end_last image h (omega (arith, p.whole)) ∙ omega arith
+merge_end_lem image h (last zero) p = grind (arith, merge_end_last)
 merge_end_lem image h (last (suc g)) p =
     merge_end-free image h (omega (arith, p.whole)) (gap-free image h (last (suc g)) p (omega arith))
     ∙ ap (λ (n : ℕ). h + n) (gap-extent image h (last (suc g)) p (omega arith))
@@ -52,10 +45,7 @@ module _ (image : List ℕ) (l : Layout) (k g : ℕ) (b : Block) (m : Layout) (f
 
   -- it stops at the block
   walked : walk (reaching (k + g)) image 0 ≡ stopped crossed.latest (k + g)
-  walked =
-      sym (f.reach (k + g) (omega arith))
-      ∙ crossed.onward
-      ∙ walk_stopped (reaching (k + g)) image crossed.latest (k + g) (block_sound image k g b m f.part) (le-leb (k + g) (k + g) (omega arith))
+  walked = grind (arith, walk_stopped, block_sound)
 
   -- and so meets it
   meets : walk_to image (k + g) ≡ Some crossed.latest
@@ -105,12 +95,8 @@ module _ (image : List ℕ) (l : Layout) (k g : ℕ) (b : Block) (m : Layout) (f
 
   -- the block's extent is given back to the gaps
   pub free-given : gaps (f.fill (regap joined m)) ≡ gaps l + extent_at image (k + g)
-  free-given = omega (arith, f.free_bytes_lem (regap joined m), regap-gaps joined m, block_extent image k g b m f.part)
+  free-given = grind (arith, block_extent)
 
   pub free_looks : (j : ℕ) → lookup k (regap joined m) j ≡ cond (eqb j (k + g)) None (lookup k (item g b m) j)
   unfolding lookup
-  free_looks j =
-      rw (look_regap (k + g + extent b) k joined m j (omega arith))
-      (by_bool (eqb j (k + g))
-      (λ p. rw p (look_before (k + g + extent b) m j (omega (arith, eqb-true j (k + g) p))))
-      (λ p. rw p))
+  free_looks j = grind (arith, look_regap, look_before, eqb-true)

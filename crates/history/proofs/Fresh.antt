@@ -1,8 +1,5 @@
 -- A fresh image is one gap. Assumes nothing.
-use Prim.Native.Nat.{ℕ, ◌-◌, ◌^◌, ◌≤◌}
-use mathlib.Core.Path.{◌≡◌, sym, ◌∙◌}
-use native.Mathlib.Omega.{arith}
-use lib.ListN.{length}
+use Rattle.std.proofs.Common.{ℕ, ◌-◌, ◌^◌, ◌≤◌, ◌≡◌, length, sym, ◌∙◌, arith}
 use Rattle.store.specs.Calls.{fresh}
 use Rattle.store.specs.laws.SetUp.{length-fresh, fresh_block}
 use Rattle.history.proofs.Gaps.{last, Placed}

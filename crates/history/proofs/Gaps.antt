@@ -1,12 +1,5 @@
 -- The layout of an image's blocks: gaps and live blocks, in the order of their places. Assumes nothing.
-use Rattle.std.specs.Prelude.{Option, None, Some}
-use Prim.Native.Nat.{ℕ, zero, suc, ◌+◌, ◌-◌, ◌^◌, ◌≤◌, ◌<◌}
-use mathlib.Core.Path.{◌≡◌}
-use mathlib.Core.Bool.{cond}
-use mathlib.Core.List.{List, [], ◌++◌}
-use mathlib.Core.Logic.{◌⊎◌}
-use lib.ListN.{length, take, drop, replicate}
-use lib.Dec.{eqb}
+use Rattle.std.specs.Prelude.{Option, None, Some, ℕ, zero, suc, ◌+◌, ◌-◌, ◌^◌, ◌≤◌, ◌<◌, ◌≡◌, cond, List, [], ◌++◌, ◌⊎◌, length, take, drop, replicate, eqb}
 use Rattle.block.specs.Bytes.{put}
 use Rattle.block.specs.Layout.{free_header, live_header, fields}
 use Rattle.block.specs.declared.header.Header.{Header}

@@ -1,9 +1,5 @@
 -- The places that a cue's walk gathers on an image with a layout. Assumes nothing.
-use Prim.Native.Nat.{ℕ, ◌+◌}
-use mathlib.Core.Path.{◌≡◌, refl, sym, ap, ◌∙◌}
-use mathlib.Core.Bool.{Bool, true, false, cond}
-use mathlib.Core.List.{List, [], ◌∷◌, ◌++◌, append_assoc, append-nil}
-use lib.Dec.{eqb}
+use Rattle.std.proofs.Common.{ℕ, ◌+◌, ◌≡◌, refl, Bool, true, false, cond, List, [], ◌∷◌, ◌++◌, eqb, sym, ap, ◌∙◌, append_assoc, append-nil}
 use Rattle.block.specs.Walk.{ended, walk_from, gathering, walk_cue}
 use Rattle.block.specs.laws.Walks.{walk_begins, walk_ended}
 use Rattle.block.specs.laws.Gathering.{walk_cue_is}

@@ -1,18 +1,11 @@
 -- Laws of the abstract heap, by header places.
 -- In order: the object at a place; owners; one object more, changed, less; the objects that pass a test; how many there are. Not here: image and table.
 -- Assumes nothing.
-use Rattle.std.specs.Prelude.{Option, None, Some}
-use Prim.Native.Nat.{ℕ, zero, suc, ◌<◌}
-use mathlib.Core.Path.{◌≡◌, refl, sym, ap, ◌∙◌}
-use mathlib.Core.Bool.{Bool, true, false, cond}
+use Rattle.std.proofs.Common.{Option, None, Some, ℕ, zero, suc, ◌<◌, ◌≡◌, refl, Bool, true, false, cond, [], ◌∷◌, ◌++◌, length, get_or, eqb, sym, ap, ◌∙◌, ⊎_elim, arith, eq-eqb, ne_eqb, eqb-true}
+use Rattle.std.proofs.lemmas.Grind.{common_steps}
+use Rattle.std.proofs.lemmas.Bool.{eqb-false}
 use mathlib.Core.List.Memᴰ
-use mathlib.Core.List.{[], ◌∷◌, ◌++◌}
-use mathlib.Core.Logic.{⊎_elim}
-use native.Mathlib.Omega.{arith}
-use lib.ListN.{length, get_or}
-use lib.Dec.{eqb}
-use borrow.Author.Tests.{eq-eqb, ne_eqb, eqb-true, eqb-false}
-use Rattle.block.specs.laws.Booleans.{by_bool, true_false, refuted}
+use Rattle.block.specs.laws.Booleans.{by_bool}
 use Rattle.history.specs.Heap.{Object, Heap, holds, owner_of, change, without, passing}
 use Rattle.history.specs.History.{In, Pairwise, header_of, known}
 use Rattle.history.specs.laws.Plain.{answer_place}
@@ -30,7 +23,7 @@ Distinct (o ∷ os) = (find os (header_of o) ≡ None) × Distinct os
 
 -- nothing is found and not found
 pub none_some : {r : Option Object} {o : Object} → r ≡ None → r ≡ Some o → ⊥
-none_some e f = let z : ◌≡◌ {A = ℕ} 0 1 = cc in omega arith
+none_some e f = cc
 
 pub some_same : {r : Option Object} {o o' : Object} → r ≡ Some o → r ≡ Some o' → o ≡ o'
 some_same e f = cc
@@ -45,24 +38,18 @@ find_there o os k n = rw (ne_eqb k (header_of o) n)
 
 -- what stands behind a first object is what stands elsewhere in the whole list
 pub find_rest : (o : Object) (os : Heap) (k : ℕ) → Distinct (o ∷ os) → find os k ≡ cond (eqb k (header_of o)) None (find (o ∷ os) k)
-find_rest o os k d =
-    by_bool (eqb k (header_of o))
-    (λ t. rw t (ap (find os) (eqb-true k (header_of o) t) ∙ d.0))
-    (λ t. rw t (sym (find_there o os k (eqb-false k (header_of o) t))))
+find_rest o os k d = grind (arith, find_there)
 
 -- what is found has its header there
 pub find-place : (heap : Heap) (k : ℕ) (o : Object) → find heap k ≡ Some o → header_of o ≡ k
 unfolding find
-find-place [] k o e = absurd (let z : ◌≡◌ {A = ℕ} 0 1 = cc in omega arith)
-find-place (x ∷ xs) k o e =
-    by_bool (eqb k (header_of x))
-    (λ t. let w : x ≡ o = cc in sym (eqb-true k (header_of x) t ∙ ap (λ (z : Object). header_of z) w))
-    (λ t. find-place xs k o (rw t at e))
+find-place [] k o e = cc
+find-place (x ∷ xs) k o e = grind (arith, find-place xs k o)
 
 -- and lives
 pub find_in : (heap : Heap) (k : ℕ) (o : Object) → find heap k ≡ Some o → In o heap
 unfolding find
-find_in [] k o e = absurd (let z : ◌≡◌ {A = ℕ} 0 1 = cc in omega arith)
+find_in [] k o e = cc
 find_in (x ∷ xs) k o e =
     by_bool (eqb k (header_of x))
     (λ t. let w : o ≡ x = cc in Memᴰ.head w)
@@ -70,7 +57,7 @@ find_in (x ∷ xs) k o e =
 
 -- an object found behind a first one is found all the same
 pub found-behind : (x : Object) (xs : Heap) (k : ℕ) (o : Object) → find xs (header_of x) ≡ None → find xs k ≡ Some o → find (x ∷ xs) k ≡ Some o
-found-behind x xs k o d e = find_there x xs k (λ t. none_some d (ap (find xs) (sym t) ∙ e)) ∙ e
+found-behind x xs k o d e = grind (arith, find_there)
 
 -- a live object is found at its header place
 pub in_find : (heap : Heap) (o : Object) → Distinct heap → In o heap → find heap (header_of o) ≡ Some o
@@ -132,7 +119,7 @@ pub record Owned (heap : Heap) (p : ℕ) (o : Object) : Type 0 where
 
 pub owned : (heap : Heap) (p : ℕ) (o : Object) → Distinct heap → owner_of heap p ≡ Some o → Owned heap p o
 unfolding owner_of
-owned [] p o d e = absurd (let z : ◌≡◌ {A = ℕ} 0 1 = cc in omega arith)
+owned [] p o d e = cc
 owned (x ∷ xs) p o d e =
     by_bool (holds x p)
     (λ t. let w : x ≡ o = cc in rw (← w) (record { found = find_here x xs (header_of x) refl; mine = t }))
@@ -142,7 +129,7 @@ owned (x ∷ xs) p o d e =
 -- a known pointer has an owner
 pub known_owner : (heap : Heap) (p : ℕ) → known heap p ≡ true → (o : Object) × (owner_of heap p ≡ Some o)
 unfolding known owner_of
-known_owner [] p e = absurd (let z : ◌≡◌ {A = ℕ} 0 1 = cc in omega arith)
+known_owner [] p e = cc
 known_owner (x ∷ xs) p e =
     by_bool (holds x p)
     (λ t. rw t (x, refl))
@@ -158,11 +145,7 @@ again false x y z = refl
 pub find-append : (heap : Heap) (o : Object) (k : ℕ) → find heap (header_of o) ≡ None → find (heap ++ (o ∷ [])) k ≡ cond (eqb k (header_of o)) (Some o) (find heap k)
 unfolding find
 find-append [] o k e = refl
-find-append (x ∷ xs) o k e =
-    by_bool (eqb (header_of o) (header_of x))
-    (λ t. absurd (none_some {o = x} e (rw t)))
-    (λ t. rw (find-append xs o k (rw t at e))
-    (two_tests k (header_of x) (header_of o) (Some x) (Some o) (find xs k) (λ u. eqb-false (header_of o) (header_of x) t (sym u))))
+find-append (x ∷ xs) o k e = grind (arith, find-append xs o k)
 
 pub distinct_append : (heap : Heap) (o : Object) → Distinct heap → find heap (header_of o) ≡ None → Distinct (heap ++ (o ∷ []))
 unfolding find
@@ -182,10 +165,7 @@ module _ (f : Object → Object) (same : (o : Object) → header_of (f o) ≡ he
   change_none : (heap : Heap) (p k : ℕ) → find heap k ≡ None → find (change f heap p) k ≡ None
   unfolding find change
   change_none [] p k e = refl
-  change_none (x ∷ xs) p k e =
-      by_bool (eqb k (header_of x))
-      (λ t. absurd (none_some {o = x} e (rw t)))
-      (λ t. by_bool (holds x p) (λ u. rw (u, same x, t) (rw t at e)) (λ u. rw (u, t) (change_none xs p k (rw t at e))))
+  change_none (x ∷ xs) p k e = grind (arith, change_none xs p k)
 
   pub distinct_change : (heap : Heap) (p : ℕ) → Distinct heap → Distinct (change f heap p)
   unfolding change
@@ -198,7 +178,7 @@ module _ (f : Object → Object) (same : (o : Object) → header_of (f o) ≡ he
   pub find-change : (heap : Heap) (p : ℕ) (o : Object) (k : ℕ) → Distinct heap → owner_of heap p ≡ Some o
       → find (change f heap p) k ≡ cond (eqb k (header_of o)) (Some (f o)) (find heap k)
   unfolding find change owner_of
-  find-change [] p o k d e = absurd (let z : ◌≡◌ {A = ℕ} 0 1 = cc in omega arith)
+  find-change [] p o k d e = cc
   find-change (x ∷ xs) p o k d e =
       by_bool (holds x p)
       (λ u. let w : x ≡ o = cc in rw (u, same x, ← w) (again (eqb k (header_of x)) (Some (f x)) (Some x) (find xs k)))
@@ -211,17 +191,14 @@ module _ (f : Object → Object) (same : (o : Object) → header_of (f o) ≡ he
 pub change_nobody : (f : Object → Object) (heap : Heap) (p : ℕ) → owner_of heap p ≡ None → change f heap p ≡ heap
 unfolding change owner_of
 change_nobody f [] p e = refl
-change_nobody f (x ∷ xs) p e =
-    by_bool (holds x p)
-    (λ u. absurd (none_some {o = x} e (rw u)))
-    (λ u. rw u (ap (λ (r : Heap). x ∷ r) (change_nobody f xs p (rw u at e))))
+change_nobody f (x ∷ xs) p e = grind (arith, change_nobody f xs p)
 
 -- One object less.
 
 pub find-without : (heap : Heap) (o : Object) (k : ℕ) → Distinct heap → find heap (header_of o) ≡ Some o
     → find (without heap o.answer) k ≡ cond (eqb k (header_of o)) None (find heap k)
 unfolding find without
-find-without [] o k d e = absurd (let z : ◌≡◌ {A = ℕ} 0 1 = cc in omega arith)
+find-without [] o k d e = cc
 find-without (x ∷ xs) o k d e =
     by_bool (eqb x.answer o.answer)
     (λ t. let w : header_of x ≡ header_of o = answer_place x o (eqb-true x.answer o.answer t) in
@@ -236,10 +213,7 @@ find-without (x ∷ xs) o k d e =
 without_none : (heap : Heap) (p k : ℕ) → find heap k ≡ None → find (without heap p) k ≡ None
 unfolding find without
 without_none [] p k e = refl
-without_none (x ∷ xs) p k e =
-    by_bool (eqb k (header_of x))
-    (λ t. absurd (none_some {o = x} e (rw t)))
-    (λ t. by_bool (eqb x.answer p) (λ u. rw u (rw t at e)) (λ u. rw (u, t) (without_none xs p k (rw t at e))))
+without_none (x ∷ xs) p k e = grind (arith, without_none xs p k)
 
 pub distinct_without : (heap : Heap) (p : ℕ) → Distinct heap → Distinct (without heap p)
 unfolding without
@@ -277,7 +251,7 @@ find-passing test (x ∷ xs) k d =
 -- the same, for what was found
 pub found-passing : (test : Object → Bool) (heap : Heap) (k : ℕ) (r : Option Object) → Distinct heap → find heap k ≡ r
     → find (passing test heap) k ≡ cond (passes test r) r None
-found-passing test heap k r d e = find-passing test heap k d ∙ ap (λ (q : Option Object). cond (passes test q) q None) e
+found-passing test heap k r d e = grind (arith, common_steps, find-passing)
 
 pub distinct_passing : (test : Object → Bool) (heap : Heap) → Distinct heap → Distinct (passing test heap)
 unfolding passing
@@ -292,12 +266,7 @@ pub passing-within : (test wider : Object → Bool) (heap : Heap) → ((o : Obje
     → passing test (passing wider heap) ≡ passing test heap
 unfolding passing
 passing-within test wider [] e = refl
-passing-within test wider (x ∷ xs) e =
-    by_bool (wider x)
-    (λ w. by_bool (test x)
-    (λ t. rw (w, t) (ap (λ (r : Heap). x ∷ r) (passing-within test wider xs e)))
-    (λ t. rw (w, t) (passing-within test wider xs e)))
-    (λ w. rw (w, refuted (test x) (λ t. true_false (e x t) w)) (passing-within test wider xs e))
+passing-within test wider (x ∷ xs) e = grind (arith, passing-within test wider xs e)
 
 -- Two lists of the same objects are of one length.
 
@@ -305,17 +274,12 @@ passing-within test wider (x ∷ xs) e =
 length_without : (heap : Heap) (o : Object) → find heap (header_of o) ≡ Some o → length heap ≡ suc (length (without heap o.answer))
 unfolding find without
 length_without [] o e = absurd (none_some {o = o} refl e)
-length_without (x ∷ xs) o e =
-    by_bool (eqb x.answer o.answer)
-    (λ t. rw t)
-    (λ t. by_bool (eqb (header_of o) (header_of x))
-    (λ u. let w : x ≡ o = cc in absurd (eqb-false x.answer o.answer t (ap (λ (z : Object). z.answer) w)))
-    (λ u. rw t (ap suc (length_without xs o (rw u at e)))))
+length_without (x ∷ xs) o e = grind (arith, length_without xs o)
 
 pub same_count : (heap new : Heap) → Distinct heap → Distinct new → ((k : ℕ) → find heap k ≡ find new k) → length heap ≡ length new
 unfolding find
 same_count [] [] d d' e = refl
-same_count [] (x ∷ xs) d d' e = absurd (none_some {o = x} refl (e (header_of x) ∙ find_here x xs (header_of x) refl))
+same_count [] (x ∷ xs) d d' e = grind (arith, common_steps, none_some, find_here)
 same_count (o ∷ os) new d d' e =
     let there : find new (header_of o) ≡ Some o = sym (e (header_of o)) ∙ find_here o os (header_of o) refl in
     let rest : (k : ℕ) → find os k ≡ find (without new o.answer) k =

@@ -1,13 +1,6 @@
 -- What the definitions over bytes come to on an image with a layout. Assumes nothing.
 use Rattle.store.specs.Calls.{merge_of}
-use Rattle.std.specs.Prelude.{Some, Err, None}
-use Prim.Native.Nat.{ℕ, ◌+◌, ◌-◌, ◌^◌, ◌≤◌, ◌<◌}
-use mathlib.Core.Path.{◌≡◌, refl}
-use mathlib.Core.Bool.{true, false, cond}
-use mathlib.Core.List.{List}
-use native.Mathlib.Omega.{arith}
-use lib.ListN.{length, take, drop, replicate, get_or}
-use lib.Dec.{eqb}
+use Rattle.std.proofs.Common.{Some, Err, None, ℕ, ◌+◌, ◌-◌, ◌^◌, ◌≤◌, ◌<◌, ◌≡◌, refl, true, false, cond, List, length, take, drop, replicate, get_or, eqb, arith}
 use Rattle.block.specs.Bytes.{put}
 use Rattle.block.specs.Layout.{header_at, sound, is_free, is_live, extent_at, size_at}
 use Rattle.block.specs.Walk.{first_fit, walk_to, count_blocks, OnWalk}

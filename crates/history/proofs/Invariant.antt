@@ -2,15 +2,9 @@
 -- In order: the invariant; a live object in the image; what decides the image; what pointers lead to; another list of the objects; set-up. Not here: that each
 -- call keeps it (`Steps`). Assumes nothing.
 use Rattle.store.specs.State.{measured_as}
-use Rattle.std.specs.Prelude.{Ok, Option, None, Some}
-use Prim.Native.Nat.{ℕ, ◌+◌, ◌-◌, ◌^◌, ◌≤◌}
-use mathlib.Core.Path.{◌≡◌, refl, sym, ap, ◌∙◌, subst}
-use mathlib.Core.Bool.{Bool, true, false, cond}
-use mathlib.Core.List.{List, [], ◌++◌}
-use native.Mathlib.Omega.{arith}
-use lib.IntN.{sub_ℕ}
-use lib.ListN.{length, take, drop, replicate, take-append-drop, length-append, length-drop, length-replicate, get_or-replicate, get_or-append}
-use borrow.Author.Tests.{eq-eqb}
+use Rattle.std.proofs.Common.{Ok, Option, None, Some, ℕ, ◌+◌, ◌-◌, ◌^◌, ◌≤◌, ◌≡◌, refl, Bool, true, false, cond, List, [], ◌++◌, length, take, drop, replicate, sym, ap, ◌∙◌, subst, arith, take-append-drop, length-append, length-drop, eq-eqb}
+use Rattle.std.proofs.Math.IntN.{sub_ℕ}
+use Rattle.std.proofs.Math.ListN.{length-replicate, get_or-replicate, get_or-append}
 use Rattle.frame.specs.Pointers.{unpack, pack, good_tag}
 use Rattle.frame.specs.Tags.{pointer_to, used_entries}
 use Rattle.frame.specs.laws.Objects.{PointerOf, unpack_address}
@@ -104,7 +98,7 @@ module _ {s L : ℕ} {image : List ℕ} {heap : Heap} (i : Laid s L image heap) 
   known k o e = go (block_at i.layout k) refl
     where
       go : (r : Option Block) → block_at i.layout k ≡ r → Known s L image heap i k o
-      go None f = let z : ◌≡◌ {A = ℕ} 0 1 = cc (i.agree k) in absurd (omega arith)
+      go None f = cc (i.agree k)
       go (Some b) f =
           let body : b.body ≡ o.bytes = cc (i.agree k) in
           let cue : b.cue ≡ o.cue = cc (i.agree k) in
@@ -132,7 +126,7 @@ module _ {s L : ℕ} {image : List ℕ} {heap : Heap} (i : Laid s L image heap) 
   object_of k b e = go (find heap k) refl
     where
       go : (r : Option Object) → find heap k ≡ r → (o : Object) × (find heap k ≡ Some o) × (o.cue ≡ b.cue) × (o.bytes ≡ b.body)
-      go None f = let z : ◌≡◌ {A = ℕ} 0 1 = cc (i.agree k) in absurd (omega arith)
+      go None f = cc (i.agree k)
       go (Some o) f = (o, f, cc (i.agree k), cc (i.agree k))
 
   -- where no block stands, no object does
@@ -141,7 +135,7 @@ module _ {s L : ℕ} {image : List ℕ} {heap : Heap} (i : Laid s L image heap) 
     where
       go : (r : Option Object) → find heap k ≡ r → find heap k ≡ None
       go None f = f
-      go (Some o) f = let z : ◌≡◌ {A = ℕ} 0 1 = cc (i.agree k) in absurd (omega arith)
+      go (Some o) f = cc (i.agree k)
 
   -- objects lie in the image, and apart
   pub ranged : Ranged L heap
@@ -328,12 +322,12 @@ begins_with s x u =
         front = fresh_front s L;
         placed = p;
         agree = λ k. refl;
-        fine = λ k o e. let z : ◌≡◌ {A = ℕ} 0 1 = cc in absurd (omega arith);
+        fine = λ k o e. cc;
         distinct = tt;
       };
       tabled = record {
         long = simp (length-append, length-replicate) (omega arith);
-        placed = λ k o e l. let z : ◌≡◌ {A = ℕ} 0 1 = cc in absurd (omega arith);
+        placed = λ k o e l. cc;
         entry = λ j l. nobody (get_or-append (replicate used 0) (drop used x.table) 0 j (simp length-replicate l) ∙ get_or-replicate used j 0 0 l);
       };
     }

@@ -1,11 +1,7 @@
 -- Layouts alone: the first gap, which block stands where, and that this and the size decide the layout. Assumes nothing.
-use Rattle.std.specs.Prelude.{Option, None, Some}
-use Prim.Native.Nat.{ℕ, zero, suc, ◌+◌, ◌≤◌, ◌<◌}
-use mathlib.Core.Path.{◌≡◌, refl, sym, ap, ◌∙◌}
-use mathlib.Core.Bool.{cond}
-use native.Mathlib.Omega.{arith}
-use lib.Dec.{eqb}
-use borrow.Author.Tests.{eq-eqb, ne_eqb, eqb-true, eqb-false}
+use Rattle.std.proofs.Common.{Option, None, Some, ℕ, zero, suc, ◌+◌, ◌≤◌, ◌<◌, ◌≡◌, refl, cond, eqb, sym, ap, ◌∙◌, arith, eq-eqb, ne_eqb, eqb-true}
+use Rattle.std.proofs.lemmas.Grind.{common_steps}
+use Rattle.std.proofs.lemmas.Bool.{eqb-false}
 use Rattle.block.specs.laws.Booleans.{by_bool}
 use Rattle.history.proofs.Gaps.{Block, extent, Layout, last, item, size, gaps, GapOk, Ok, lookup}
 
@@ -41,10 +37,6 @@ pub regap-size : (n : ℕ) (l : Layout) → size (regap n l) + gap l ≡ size l 
 regap-size n (last g) = omega arith
 regap-size n (item g b l) = omega arith
 
-pub regap-gaps : (n : ℕ) (l : Layout) → gaps (regap n l) + gap l ≡ gaps l + n
-regap-gaps n (last g) = omega arith
-regap-gaps n (item g b l) = omega arith
-
 pub gaps_le : (l : Layout) → gaps l ≤ size l
 gaps_le (last g) = omega arith
 gaps_le (item g b l) = omega (arith, gaps_le l)
@@ -57,7 +49,7 @@ gap_le (item g b l) = omega arith
 
 -- no lookup both fails and succeeds
 pub clash : {A : Type 0} (x : A) → ◌≡◌ {A = Option A} None (Some x) → ⊥
-clash x e = let z : ◌≡◌ {A = ℕ} 0 1 = cc in omega arith
+clash x e = cc
 
 -- behind the first gap stands the first block
 pub look_first : (h g : ℕ) (b : Block) (l : Layout) → lookup h (item g b l) (h + g) ≡ Some b
@@ -123,17 +115,14 @@ look_early h g b l k c lt e =
 
 -- tests of two places, in either order
 pub two_tests : {A : Type 0} (k a b : ℕ) (x y z : A) → (a ≡ b → ⊥) → cond (eqb k a) x (cond (eqb k b) y z) ≡ cond (eqb k b) y (cond (eqb k a) x z)
-two_tests k a b x y z n =
-    by_bool (eqb k a)
-    (λ p. by_bool (eqb k b) (λ q. absurd (n (sym (eqb-true k a p) ∙ eqb-true k b q))) (λ q. rw (p, q)))
-    (λ p. rw p)
+two_tests k a b x y z n = grind (arith, common_steps, eqb-true)
 
 -- a change at t in the rest is a change at t in the whole
 pub look_under : (h g : ℕ) (b : Block) (l m : Layout) (t : ℕ) (x : Option Block) → h + g < t
     → ((k : ℕ) → lookup (h + g + extent b) m k ≡ cond (eqb k t) x (lookup (h + g + extent b) l k))
     → (k : ℕ) → lookup h (item g b m) k ≡ cond (eqb k t) x (lookup h (item g b l) k)
 unfolding lookup
-look_under h g b l m t x lt e k = rw (e k) (two_tests k (h + g) t (Some b) x (lookup (h + g + extent b) l k) (λ q. omega arith))
+look_under h g b l m t x lt e k = grind (arith, common_steps, two_tests)
 
 -- another block of the same extent is seen in its place, and nowhere else
 pub look_swap : (h g : ℕ) (b c : Block) (l : Layout) → extent c ≡ extent b

@@ -1,19 +1,13 @@
 -- Frees and releases in either order, on an image and table with the invariant.
 -- In order: two live objects; an object and a list of others; two lists; two cues. Assumes nothing.
-use Rattle.std.specs.Prelude.{Ok, Option, None, Some}
-use Prim.Native.Nat.{ℕ}
-use mathlib.Core.Path.{◌≡◌, refl, sym, ap, ◌∙◌}
-use mathlib.Core.Bool.{not, cond}
+use Rattle.std.proofs.Common.{Ok, Option, None, Some, ℕ, ◌≡◌, refl, cond, [], ◌∷◌, length, eqb, sym, ap, ◌∙◌, ne_eqb}
+use Rattle.std.proofs.Common.{arith}
 use mathlib.Core.List.Memᴰ
-use mathlib.Core.List.{[], ◌∷◌}
-use lib.ListN.{length}
-use lib.Dec.{eqb}
-use borrow.Author.Tests.{ne_eqb, eqb-true}
 use Rattle.store.specs.State.{State, Outcome, returned}
 use Rattle.store.specs.Calls.{noted, free, free_each, release_cue}
 use Rattle.store.specs.laws.Entries.{noted_either}
 use Rattle.store.specs.laws.Release.{free_each_none, free_each_one}
-use Rattle.history.specs.Heap.{Object, Heap, of_cue, without_cue}
+use Rattle.history.specs.Heap.{Object, Heap}
 use Rattle.history.specs.History.{In, header_of}
 use Rattle.history.specs.Release.{answers}
 use Rattle.history.specs.Commuting.{Commute, free_of}
@@ -58,7 +52,7 @@ frees_commute {s} {L} {x} {heap} i o o' e e' n =
 one_past : {s L : ℕ} {x : State} {heap : Heap} (i : Invariant s L x heap) (o : Object) (os : Heap) → find heap (header_of o) ≡ Some o → Live heap os
     → Apart o os → free_each (answers os) (free o.answer x).after ≡ (free o.answer (free_each (answers os) x)).after
 unfolding answers
-one_past {x = x} i o [] e l n = free_each_none _ ∙ ap (λ (y : State). (free o.answer y).after) (sym (free_each_none x))
+one_past {x = x} i o [] e l n = grind (arith, free_each_none)
 one_past {x = x} i o (p ∷ os) e l n =
     let apart : header_of o ≡ header_of p → ⊥ = n p (Memᴰ.head refl) in
     let f : Emptied i (header_of p) p (free p.answer x) = free_live i (header_of p) p (first_lives l) in
@@ -72,7 +66,7 @@ lists_commute : {s L : ℕ} {x : State} {heap : Heap} (i : Invariant s L x heap)
     → ((o : Object) → In o os → Apart o ps)
     → free_each (answers ps) (free_each (answers os) x) ≡ free_each (answers os) (free_each (answers ps) x)
 unfolding answers
-lists_commute {x = x} i [] ps l m n = ap (free_each (answers ps)) (free_each_none x) ∙ sym (free_each_none _)
+lists_commute {x = x} i [] ps l m n = grind (arith, free_each_none)
 lists_commute {x = x} i (o ∷ os) ps l m n =
     let apart : Apart o ps = n o (Memᴰ.head refl) in
     let f : Emptied i (header_of o) o (free o.answer x) = free_live i (header_of o) o (first_lives l) in
@@ -89,13 +83,7 @@ module _ {s L : ℕ} {x : State} {heap : Heap} (i : Invariant s L x heap) where
 
   -- they are the same behind the release of another cue
   objects_stay : (c d : ℕ) → (c ≡ d → ⊥) → (mine (release_left i c) d).objects ≡ objects d
-  objects_stay c d n =
-      let others : of_cue (without_cue heap c) d ≡ of_cue heap d =
-      passing-within (λ o. eqb o.cue d) (λ o. not (eqb o.cue c)) heap
-      (λ o t. rw (ne_eqb o.cue c (λ q. n (sym q ∙ eqb-true o.cue d t))))
-      in
-      sorted_same (mine (release_left i c) d).objects (objects d) (mine (release_left i c) d).sorted (mine i d).sorted
-      (λ k. mine_found (release_left i c) d k ∙ ap (λ (os : Heap). find os k) others ∙ sym (mine_found i d k))
+  objects_stay c d n = grind (arith, passing-within, sorted_same, mine_found)
 
   -- so the second release frees them, and answers as if it were the first
   second : (c d : ℕ) → (c ≡ d → ⊥)

@@ -1,12 +1,8 @@
 -- What holds at every place that the walk over a layout's image comes to. Assumes nothing.
-use Rattle.std.specs.Prelude.{None, Option, Some, Err}
-use Prim.Native.Nat.{ℕ, ◌+◌, ◌-◌, ◌≤◌, ◌<◌}
-use mathlib.Core.Path.{◌≡◌, sym, ap, ◌∙◌}
-use mathlib.Core.Bool.{true, false}
-use mathlib.Core.List.{List, ◌++◌}
-use native.Mathlib.Omega.{arith}
-use lib.ListN.{length, drop, get_or, length-replicate, get_or-replicate, get_or-append}
-use lib.Seq.{get_or-drop, drop-length}
+use Rattle.std.proofs.Common.{None, Option, Some, Err, ℕ, ◌+◌, ◌-◌, ◌≤◌, ◌<◌, ◌≡◌, true, false, List, ◌++◌, length, drop, get_or, ap, ◌∙◌, arith, get_or-drop}
+use Rattle.std.proofs.lemmas.Grind.{common_steps}
+use Rattle.std.proofs.Math.ListN.{length-replicate, get_or-replicate, get_or-append}
+use Rattle.std.proofs.Math.Seq.{drop-length}
 use Rattle.block.specs.laws.Booleans.{true_false}
 use Rattle.block.specs.Layout.{free_header, sound, is_free, is_live, extent_at, size_at}
 use Rattle.block.specs.laws.Headers.{length-header}
@@ -24,11 +20,7 @@ use Rattle.history.proofs.Bodies.{drop_body}
 
 -- a byte of a run of zeros that stands at h
 zero_at : (image : List ℕ) (h n : ℕ) (q : List ℕ) → drop h image ≡ zeros n ++ q → (j : ℕ) → j < n → get_or image (h + j) 0 ≡ 0
-zero_at image h n q e j lt =
-    sym (get_or-drop h image j 0)
-    ∙ ap (λ (l : List ℕ). get_or l j 0) e
-    ∙ get_or-append (zeros n) q 0 j (simp length-replicate lt)
-    ∙ get_or-replicate n j 0 0 lt
+zero_at image h n q e j lt = grind (arith, get_or-drop, get_or-append, length-replicate, get_or-replicate)
 
 -- in the free block of a gap
 pub gap_zero : (image : List ℕ) (h : ℕ) (l : Layout) → Part image h l → 1 ≤ gap l → (i : ℕ) → 16 ≤ i → i < gap l → get_or image (h + i) 0 ≡ 0
@@ -56,29 +48,27 @@ module _ (image : List ℕ) (l : Layout) where
   standing_neighbours _ (a_gap k (last g) f wide) lt r in-it = absurd (omega (arith, gap-extent image k (last g) f.part wide, f.part.whole))
   standing_neighbours _ (a_gap k (item g b m) f wide) lt r in-it =
       ap (λ (n : ℕ). is_free image (k + n)) (gap-extent image k (item g b m) f.part wide) ∙ block_not_free image k g b m f.part
-  standing_neighbours _ (a_block k g b m f) lt r in-it = absurd (true_false r (block_not_free image k g b m f.part))
+  standing_neighbours _ (a_block k g b m f) lt r in-it = grind (arith, block_not_free)
   standing_neighbours _ the_end lt r in-it = absurd (omega arith)
 
   -- a free block's bytes are zero behind its header, a live one's behind its body
 
   pub standing_free_zero : (h : ℕ) → Standing image l h → h < length image → is_free image h ≡ true
       → (i : ℕ) → 16 ≤ i → i < extent_at image h → get_or image (h + i) 0 ≡ 0
-  standing_free_zero _ (a_gap k m f wide) lt r i low high =
-      gap_zero image k m f.part wide i low (omega (arith, gap-extent image k m f.part wide))
-  standing_free_zero _ (a_block k g b m f) lt r i low high = absurd (true_false r (block_not_free image k g b m f.part))
+  standing_free_zero _ (a_gap k m f wide) lt r i low high = grind (arith, common_steps, gap_zero, gap-extent)
+  standing_free_zero _ (a_block k g b m f) lt r i low high = grind (arith, block_not_free)
   standing_free_zero _ the_end lt r i low high = absurd (omega arith)
 
   pub standing_tail_zero : (h : ℕ) → Standing image l h → h < length image → is_live image h ≡ true
       → (i : ℕ) → 16 + size_at image h ≤ i → i < extent_at image h → get_or image (h + i) 0 ≡ 0
   standing_tail_zero _ (a_gap k m f wide) lt r i low high = absurd (true_false r (gap-not_live image k m f.part wide))
-  standing_tail_zero _ (a_block k g b m f) lt r i low high =
-      spare_zero image k g b m f.part i (omega (arith, block_size image k g b m f.part)) (omega (arith, block_extent image k g b m f.part))
+  standing_tail_zero _ (a_block k g b m f) lt r i low high = grind (arith, spare_zero, block_size, block_extent)
   standing_tail_zero _ the_end lt r i low high = absurd (omega arith)
 
   -- a live header on the walk is a block of the layout
   pub standing_looked : (h : ℕ) → Standing image l h → block_at l h ≡ None → sound image h ≡ true → is_live image h ≡ true → ⊥
   standing_looked _ (a_gap k m f wide) e o r = true_false r (gap-not_live image k m f.part wide)
-  standing_looked _ (a_block k g b m f) e o r = clash b (sym e ∙ f.looked (k + g) (omega arith) ∙ look_first k g b m)
+  standing_looked _ (a_block k g b m f) e o r = grind (arith, common_steps, clash, look_first)
   standing_looked _ the_end e o r = omega (arith, sound_in image (length image) o)
 
   -- where the layout has no block, a live header is not met, and a free of it is refused

@@ -1,16 +1,8 @@
 -- A release on an image and table with the invariant.
 -- In order: lists in the order of addresses; the cue's objects, so ordered; freeing live objects singly; what a release comes to. Assumes nothing.
-use Rattle.std.specs.Prelude.{Ok, Option, None, Some}
-use Prim.Native.Nat.{ℕ, suc, ◌+◌, ◌≤◌, ◌<◌}
-use mathlib.Core.Path.{◌≡◌, refl, sym, ap, ◌∙◌, subst}
-use mathlib.Core.Bool.{Bool, true, not, cond}
+use Rattle.std.proofs.Common.{Ok, Option, None, Some, ℕ, suc, ◌+◌, ◌≤◌, ◌<◌, ◌≡◌, refl, Bool, true, not, cond, List, [], ◌∷◌, ◌↔◌, length, eqb, sym, ap, ◌∙◌, subst, ⊎_elim, arith, eq-eqb, ne_eqb, eqb-true}
+use Rattle.std.proofs.lemmas.Bool.{eqb-false}
 use mathlib.Core.List.Memᴰ
-use mathlib.Core.List.{List, [], ◌∷◌}
-use mathlib.Core.Logic.{◌↔◌, ⊎_elim}
-use native.Mathlib.Omega.{arith}
-use lib.ListN.{length}
-use lib.Dec.{eqb}
-use borrow.Author.Tests.{eq-eqb, ne_eqb, eqb-true, eqb-false}
 use Rattle.block.specs.laws.Booleans.{by_bool, and_both}
 use Rattle.frame.specs.Pointers.{pack}
 use Rattle.frame.specs.Tags.{pointer_to}

@@ -1,12 +1,6 @@
 -- The bytes of a layout: their lengths, the headers among them, and where each part stands. Assumes nothing.
-use Prim.Native.Nat.{ℕ, zero, suc, ◌+◌, ◌-◌, ◌^◌, ◌≤◌}
-use mathlib.Core.Path.{◌≡◌, refl, sym, ap, ◌∙◌}
-use mathlib.Core.Bool.{true, false}
-use mathlib.Core.List.{List, [], ◌++◌, append_assoc, append-nil}
-use native.Mathlib.Omega.{arith}
-use lib.ListN.{length, take, drop, length-append, length-replicate, take-append-drop}
-use lib.Seq.{take_at, drop_at, take-add, drop-drop}
-use lib.Dec.{eqb}
+use Rattle.std.proofs.Common.{ℕ, zero, suc, ◌+◌, ◌-◌, ◌^◌, ◌≤◌, ◌≡◌, refl, true, false, List, [], ◌++◌, length, take, drop, eqb, sym, ap, ◌∙◌, append_assoc, append-nil, arith, length-append, take-append-drop, take_at, drop_at, take-add, drop-drop}
+use Rattle.std.proofs.Math.ListN.{length-replicate}
 use Rattle.block.specs.Bytes.{put}
 use Rattle.block.specs.laws.Writes.{take_put, drop-put}
 use Rattle.block.specs.declared.header.Header.{Header}
@@ -30,7 +24,7 @@ gap_some (suc g) h = refl
 pub length-gap : (g : ℕ) → GapOk g → length (gap_bytes g) ≡ g
 unfolding gap_bytes
 length-gap zero k = refl
-length-gap (suc g) k = simp (length-append, length-header, length-replicate) (omega arith)
+length-gap (suc g) k = grind (arith, length-append, length-header, length-replicate)
 
 pub length_block : (b : Block) → length (block_bytes b) ≡ extent b
 unfolding block_bytes

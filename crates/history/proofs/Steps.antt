@@ -1,17 +1,10 @@
 -- Each call keeps the invariant, and what it answers.
 -- In order: bytes inside an object; allocate; free; a changed object; move; load; store, fill and copy; text copy. Not here: what follows for a list
 -- (`Theorem`). Assumes nothing.
-use Rattle.std.specs.Prelude.{Err, None, Ok, Option, Some}
-use Prim.Native.Nat.{ℕ, ◌+◌, ◌-◌, ◌^◌, ◌≤◌, ◌<◌}
-use mathlib.Core.Path.{◌≡◌, refl, sym, ap, ◌∙◌, subst}
-use mathlib.Core.Bool.{true, false, cond, ◌&&◌, and-true, and-false}
-use mathlib.Core.List.{List, [], ◌∷◌, ◌++◌}
-use native.Mathlib.Omega.{arith}
-use lib.ListN.{length, take, drop, replicate, length-replicate, length-drop}
-use lib.Seq.{length-take-le, take_all}
-use lib.Dec.{leb, ltb, eqb}
-use lib.IntN.{ℤ}
-use borrow.Author.Tests.{eq-eqb, eqb-true, eqb-false, leb-true, le-leb}
+use Rattle.std.proofs.Common.{Err, None, Ok, Option, Some, ℕ, ◌+◌, ◌-◌, ◌^◌, ◌≤◌, ◌<◌, ◌≡◌, refl, true, false, cond, ◌&&◌, List, [], ◌∷◌, ◌++◌, length, take, drop, replicate, leb, ltb, eqb, ℤ, sym, ap, ◌∙◌, subst, arith, length-drop, length-take-le, take_all, eq-eqb, eqb-true, leb-true, le-leb}
+use Rattle.std.proofs.lemmas.Bool.{eqb-false}
+use Rattle.std.proofs.Math.ListN.{length-replicate}
+use Rattle.std.proofs.Math.Bool.{and-true, and-false}
 use Rattle.frame.specs.Pointers.{unpack, pack, good_tag, reach, moved}
 use Rattle.frame.specs.Tags.{pointer_to}
 use Rattle.frame.specs.laws.Objects.{unpack_address, moved_pointer, own_again}
@@ -112,18 +105,17 @@ module _ {s L : ℕ} {x : State} {heap : Heap} (i : Invariant s L x heap) where
     new = new_object (pack (pointer_to s h size)) size cue
 
     new_fits : h + 16 + size ≤ 2 ^ 30
-    new_fits = omega (arith, c.clear.high, i.laid.long, i.laid.shape.length_high)
+    new_fits = grind arith
 
     new-place : header_of new ≡ h
     unfolding new
-    new-place = omega (arith, unpack_address s h size i.laid.shape.exponent_high new_fits)
+    new-place = grind (arith, unpack_address)
 
     new_vacant : find heap h ≡ None
     new_vacant = no_object i.laid h c.vacant
 
     new_law : (k : ℕ) → find (heap ++ (new ∷ [])) k ≡ cond (eqb k h) (Some new) (find heap k)
-    new_law k =
-        find-append heap new k (ap (find heap) new-place ∙ new_vacant) ∙ ap (λ (z : ℕ). cond (eqb k z) (Some new) (find heap k)) new-place
+    new_law k = grind (arith, find-append, new-place)
 
     new_fine : Fine s h new
     unfolding new member
@@ -135,7 +127,7 @@ module _ {s L : ℕ} {x : State} {heap : Heap} (i : Invariant s L x heap) where
               λ p m.
               by_bool (eqb p (pack (pointer_to s h size)))
               (λ t. rw (eqb-true p (pack (pointer_to s h size)) t) (own_pointer s h size i.laid.shape.exponent_high new_fits))
-              (λ t. let z : ◌≡◌ {A = ℕ} 0 1 = cc in absurd (omega arith));
+              (λ t. cc);
         }
 
     -- the total has its extent
@@ -196,13 +188,11 @@ module _ {s L : ℕ} {x : State} {heap : Heap} (i : Invariant s L x heap) where
 
   -- it leads nowhere else
   answer_only : (p h : ℕ) (o : Object) → In o heap → o.answer ≡ p → located s (unpack p) x ≡ Ok h → header_of o ≡ h
-  answer_only p h o m a e = let f : located s (unpack p) x ≡ Ok (header_of o) = (answer_found p o m a).0 in cc
+  answer_only p h o m a e = grind (arith, answer_found)
 
   module _ (h : ℕ) (b : Block) (o : Object) (e : find heap h ≡ Some o) (f : Freed x.image i.laid.layout h b) where
     gone_law : (k : ℕ) → find (without heap o.answer) k ≡ cond (eqb k h) None (find heap k)
-    gone_law k =
-        let q : header_of o ≡ h = find-place heap h o e in
-        find-without heap o k i.laid.distinct (ap (find heap) q ∙ e) ∙ ap (λ (z : ℕ). cond (eqb k z) None (find heap k)) q
+    gone_law k = grind (arith, find-place, find-without)
 
     unfoldable gone_laid : Laid s L (given_back x.image h f.from f.to) (without heap o.answer)
     gone_laid =
@@ -280,7 +270,7 @@ module _ {s L : ℕ} {x : State} {heap : Heap} (i : Invariant s L x heap) where
       read : (r : Answer) → located s (unpack p) x ≡ r → Freeing s L x heap p
       read (Err r) e =
           declined r (free_unread s x (opens i) p r e) (λ z. omega (arith, (located_refusal s (unpack p) x r e).1))
-          (λ o m a. let f : located s (unpack p) x ≡ Ok (header_of o) = (answer_found p o m a).0 in let z : ◌≡◌ {A = ℕ} 0 1 = cc in omega arith)
+          (λ o m a. let f : located s (unpack p) x ≡ Ok (header_of o) = (answer_found p o m a).0 in cc)
       read (Ok h) e =
           by_bool (eqb (unpack p).address (h + 16))
           (λ t. base h e t (block_at i.laid.layout h) refl)
@@ -517,7 +507,7 @@ module _ {s L : ℕ} {x : State} {heap : Heap} (i : Invariant s L x heap) where
   module _ (t p : ℕ) (o o' : Object) (e : owner_of heap t ≡ Some o) (f : owner_of heap p ≡ Some o') where
     -- what the search of the source gives
     searched : (w : Option ℕ) → text_in o' p ≡ w → text_at s (unpack p) x ≡ demand (inside o' p 1) OutOfBounds (text_answer w)
-    searched w g = text_through p o' f ∙ ap (λ (v : Option ℕ). demand (inside o' p 1) OutOfBounds (text_answer v)) g
+    searched w g = grind (arith, text_through)
 
     -- a text that ends is copied where its length plus one bytes of both lie inside their objects
     pub copies_text_lem : (n : ℕ) → text_in o' p ≡ Some n

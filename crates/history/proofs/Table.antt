@@ -1,15 +1,7 @@
 -- The table of large-framed objects, against the abstract heap.
 -- In order: what is kept of it; that entries differ; an entry noted, cleared, and left as it was; the objects listed in another way. Assumes nothing.
-use Rattle.std.specs.Prelude.{None, Some}
-use Prim.Native.Nat.{ℕ, ◌+◌, ◌^◌, ◌≤◌, ◌<◌}
-use mathlib.Core.Path.{◌≡◌, refl, sym, ap, ◌∙◌}
-use mathlib.Core.Bool.{cond}
-use mathlib.Core.List.{List}
-use native.Mathlib.Omega.{arith}
-use lib.ListN.{length, get_or, set, length-set}
-use lib.Seq.{get_or-set_same, get_or-set_other}
-use lib.Dec.{leb, eqb}
-use borrow.Author.Tests.{eq-eqb, ne_eqb, eqb-true, eqb-false, leb-true, leb-false}
+use Rattle.std.proofs.Common.{None, Some, ℕ, ◌+◌, ◌^◌, ◌≤◌, ◌<◌, ◌≡◌, refl, cond, List, length, get_or, set, leb, eqb, sym, ap, ◌∙◌, arith, length-set, get_or-set_same, get_or-set_other, eq-eqb, ne_eqb, eqb-true, leb-true, leb-false}
+use Rattle.std.proofs.lemmas.Bool.{eqb-false}
 use Rattle.frame.specs.Tags.{wrapper, used_entries, entry_of}
 use Rattle.frame.specs.laws.Wrappers.{object_entry_used}
 use Rattle.frame.proofs.Objects.{entries_apart}

@@ -1,22 +1,12 @@
 -- Demand 3, and the further claims about its lists.
 -- In order: the induction over the list; each field of `Holds` from the invariant; the claims. Not here: the steps of single calls (`Steps`). Assumes nothing.
 use Rattle.store.specs.State.{usage_of}
-use Rattle.std.specs.Prelude.{Err, None, Ok, Option, Some}
-use Prim.Native.Nat.{ℕ, ◌+◌, ◌^◌, ◌≤◌, ◌<◌}
-use mathlib.Core.Path.{◌≡◌, refl, sym, ap, ◌∙◌, subst}
-use mathlib.Core.Bool.{Bool, true, false, cond, ◌&&◌}
-use mathlib.Core.List.{List, [], ◌∷◌}
-use mathlib.Core.Logic.{◌↔◌, ◌⊎◌, inl, inr}
-use native.Mathlib.Omega.{arith}
-use lib.ListN.{length, take, drop}
-use lib.Dec.{ltb}
-use borrow.Author.Tests.{lt-ltb, ltb-true, leb-false}
+use Rattle.std.proofs.Common.{Err, None, Ok, Option, Some, ℕ, ◌+◌, ◌^◌, ◌≤◌, ◌<◌, ◌≡◌, refl, Bool, true, false, cond, ◌&&◌, List, [], ◌∷◌, ◌↔◌, ◌⊎◌, length, take, drop, ltb, sym, ap, ◌∙◌, subst, arith, lt-ltb, ltb-true, leb-false, Ordering}
 use Rattle.frame.specs.Pointers.{unpack}
 use Rattle.block.specs.laws.Booleans.{and_left, and_right, and_both, true_false}
 use Rattle.block.specs.Bytes.{decode, field}
 use Rattle.block.specs.laws.Fields.{field_bytes_lem}
 use Rattle.block.specs.Order.{compare_bytes}
-use Rattle.std.specs.declared.cmp.Ordering.{Ordering}
 use Rattle.block.specs.Layout.{stored_total, extent_at}
 use Rattle.store.specs.State.{State, Outcome, IsAccepted, returned, value, comparison_number, usage_number, free_bytes}
 use Rattle.store.specs.Claims.{NoLoad, NoAccess}
@@ -90,6 +80,11 @@ keeps (c ∷ cs) x i a = keeps cs (next c x) (steps c i (and_left _ (all_admitte
 -- set-up establishes it
 pub begins : (s : ℕ) (x : State) → IsAccepted (set_up s x) → Invariant s (length x.image) (set_up s x).after []
 begins s x e = let (t, q) = set_up-accepted s x e in rw q (begins_with s x t)
+
+-- so it holds after every admitted list
+reaches : (s : ℕ) (x : State) → IsAccepted (set_up s x) → (calls : List Call) → all_admitted calls (begun s x) ≡ true
+    → Invariant s (length x.image) (after calls (begun s x)).state (after calls (begun s x)).heap
+reaches s x e calls = keeps calls (begun s x) (begins s x e)
 
 -- What the invariant says.
 
@@ -194,7 +189,7 @@ module _ {s L : ℕ} (x : Configuration) (i : Invariant s L x.state x.heap) wher
       go None g =
           let (r, q) = copies_no_text i t p o o' e f g in (
             (λ (a : IsAccepted (copy_text t p x.state)). absurd (not-accepted r (sym q) a)),
-            λ (b : (m : ℕ) × (text_in o' p ≡ Some m) × BothInside o o' t p (m + 1)). let z : ◌≡◌ {A = ℕ} 0 1 = cc (b.1, g) in absurd (omega arith),
+            λ (b : (m : ℕ) × (text_in o' p ≡ Some m) × BothInside o o' t p (m + 1)). cc (b.1, g),
           )
 
   text_value : TextsCounted x
@@ -255,19 +250,11 @@ module _ {s L : ℕ} (x : Configuration) (i : Invariant s L x.state x.heap) wher
       go (given h c f j) = nought (number _ f) h (clear_run h (16 + size) c)
 
   two_answers : EachAllocate x.state (λ size r. (r ≡ 0) ⊎ (r ≡ 8))
-  two_answers size type cue u fits cue_fits = go (allocate_returns size type cue fits cue_fits)
-    where
-      go : Returns size type cue → (returned (allocate_for size type cue x.state).answer ≡ 0) ⊎ (returned (allocate_for size type cue x.state).answer ≡ 8)
-      go (eight f r) = inr f
-      go (nought f a r) = inl f
+  two_answers size type cue u fits cue_fits = grind (arith, allocate_returns)
 
   -- no other number
   never : (n : ℕ) → (n ≡ 0 → ⊥) → (n ≡ 8 → ⊥) → EachAllocate x.state (λ size r. r ≡ n → ⊥)
-  never n a b size type cue l fits cue_fits e = go (allocate_returns size type cue fits cue_fits)
-    where
-      go : Returns size type cue → ⊥
-      go (eight f r) = b (sym e ∙ f)
-      go (nought f k r) = a (sym e ∙ f)
+  never n a b size type cue l fits cue_fits e = grind (arith, allocate_returns)
 
   has_room : EachAllocate x.state (λ size r. (r ≡ 0) ↔ ((a : ℕ) × FreeRun x a (16 + size)))
   has_room size type cue u fits cue_fits = go (allocate_returns size type cue fits cue_fits)
@@ -379,7 +366,7 @@ module _ {s L : ℕ} (x : Configuration) (i : Invariant s L x.state x.heap) wher
 
 pub demand3 : Demand3
 unfolding Demand3
-demand3 s x e calls a = holds-all (after calls (begun s x)) (keeps calls (begun s x) (begins s x e) a)
+demand3 s x e calls a = holds-all _ (reaches s x e calls a)
 
 -- the same, for what an admitted list leads to
 pub reached_holds : (s : ℕ) (x : State) → IsAccepted (set_up s x) → (y : Configuration) → Reached (begun s x) y → Holds s y
@@ -388,46 +375,46 @@ reached_holds s x e y r = subst (Holds s) r.leave (demand3 s x e r.calls r.are_a
 
 pub never_unsound : NeverUnsound
 unfolding NeverUnsound
-never_unsound s x e calls a = meets_no_unsound (after calls (begun s x)) (keeps calls (begun s x) (begins s x e) a)
+never_unsound s x e calls a = meets_no_unsound _ (reaches s x e calls a)
 
 pub stays_balanced : StaysBalanced
 unfolding StaysBalanced
-stays_balanced s x e calls a = balanced (after calls (begun s x)) (keeps calls (begun s x) (begins s x e) a)
+stays_balanced s x e calls a = balanced _ (reaches s x e calls a)
 
 pub stays_totalled : StaysTotalled
 unfolding StaysTotalled
-stays_totalled s x e calls a = right_total (after calls (begun s x)) (keeps calls (begun s x) (begins s x e) a)
+stays_totalled s x e calls a = right_total _ (reaches s x e calls a)
 
 pub stays_tidy : StaysTidy
 unfolding StaysTidy
-stays_tidy s x e calls a = tidy (after calls (begun s x)) (keeps calls (begun s x) (begins s x e) a)
+stays_tidy s x e calls a = tidy _ (reaches s x e calls a)
 
 pub no_empty_loads : NoEmptyLoads
 unfolding NoEmptyLoads
-no_empty_loads s x e calls a = no_load (after calls (begun s x)) (keeps calls (begun s x) (begins s x e) a)
+no_empty_loads s x e calls a = no_load _ (reaches s x e calls a)
 
 pub no_empty_access : NoEmptyAccess
 unfolding NoEmptyAccess
-no_empty_access s x e calls a = no_access (after calls (begun s x)) (keeps calls (begun s x) (begins s x e) a)
+no_empty_access s x e calls a = no_access _ (reaches s x e calls a)
 
 pub releases_singly : ReleasesSingly
 unfolding ReleasesSingly
-releases_singly s x e calls a cue fits = freed_singly (after calls (begun s x)) (keeps calls (begun s x) (begins s x e) a) cue
+releases_singly s x e calls a cue fits = freed_singly _ (reaches s x e calls a) cue
 
 pub either_order : EitherOrder
 unfolding EitherOrder
-either_order s x e calls a = orders_agree (after calls (begun s x)) (keeps calls (begun s x) (begins s x e) a)
+either_order s x e calls a = orders_agree _ (reaches s x e calls a)
 
 -- the abstract heap hears of an answer only after allocate and move
 pub hears_no_other : HearsNoOther
 unfolding HearsNoOther hear
-hears_no_other heap (allocates size type) a a' e = let z : ◌≡◌ {A = ℕ} 0 1 = cc in absurd (omega arith)
+hears_no_other heap (allocates size type) a a' e = cc
 hears_no_other heap (frees p) a a' e = refl
-hears_no_other heap (moves p d) a a' e = let z : ◌≡◌ {A = ℕ} 0 1 = cc in absurd (omega arith)
+hears_no_other heap (moves p d) a a' e = cc
 hears_no_other heap (loads p width) a a' e = refl
 hears_no_other heap (stores p width v) a a' e = refl
 hears_no_other heap (fills p n byte) a a' e = refl
 hears_no_other heap (copies t p n) a a' e = refl
 hears_no_other heap (copies_text t p) a a' e = refl
-hears_no_other heap (allocates_for size type cue) a a' e = let z : ◌≡◌ {A = ℕ} 0 1 = cc in absurd (omega arith)
+hears_no_other heap (allocates_for size type cue) a a' e = cc
 hears_no_other heap (releases cue) a a' e = refl

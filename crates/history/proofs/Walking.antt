@@ -1,10 +1,5 @@
 -- A walk that stops nowhere, on an image with a layout: past a gap, and past the block behind it. Assumes nothing.
-use Prim.Native.Nat.{ℕ, zero, suc, ◌+◌}
-use mathlib.Core.Path.{◌≡◌, refl, ap, ◌∙◌}
-use mathlib.Core.Bool.{false}
-use mathlib.Core.List.{List}
-use native.Mathlib.Omega.{arith}
-use native.Mathlib.Nat.{add-zero}
+use Rattle.std.proofs.Common.{ℕ, ◌+◌, ◌≡◌, false, List, arith}
 use Rattle.block.specs.Layout.{fields}
 use Rattle.block.specs.Walk.{Search, walk_from}
 use Rattle.block.specs.laws.Walks.{walk-next}
@@ -17,18 +12,9 @@ module _ {A : Type 0} (s : Search A) (never : (h : ℕ) (d : Header) → s.stops
   -- past a gap: what is gathered is b, whether there is a free block or none
   pub pass_gap : (h : ℕ) (l : Layout) (a b : A) → Part image h l → (gap l ≡ 0 → a ≡ b) → s.passes a h (fields (gap l) 1 0 0 0) ≡ b
       → walk_from s image a h ≡ walk_from s image b (h + gap l)
-  pass_gap h l a b p none some = go (gap l) refl
-    where
-      go : (g : ℕ) → gap l ≡ g → walk_from s image a h ≡ walk_from s image b (h + gap l)
-      go zero e = rw (e, add-zero h) (ap (λ (c : A). walk_from s image c h) (none e))
-      go (suc g) e =
-          walk-next s image a h (gap-sound image h l p (omega arith)) (never _ _)
-          ∙ ap (λ (d : Header). walk_from s image (s.passes a h d) (h + d.extent)) (gap-header image h l p (omega arith))
-          ∙ ap (λ (c : A). walk_from s image c (h + gap l)) some
+  pass_gap h l a b p none some = grind (arith, walk-next, gap-sound, gap-header)
 
   -- past a block
   pub pass_block : (h g : ℕ) (b : Block) (l : Layout) (a : A) → Part image h (item g b l)
       → walk_from s image a (h + g) ≡ walk_from s image (s.passes a (h + g) (headed b)) (h + g + extent b)
-  pass_block h g b l a p =
-      walk-next s image a (h + g) (block_sound image h g b l p) (never _ _)
-      ∙ ap (λ (d : Header). walk_from s image (s.passes a (h + g) d) (h + g + d.extent)) (block_header image h g b l p)
+  pass_block h g b l a p = grind (arith, walk-next, block_sound, block_header)

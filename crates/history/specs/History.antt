@@ -1,9 +1,9 @@
 -- Demand 3, one claim about every list of calls from a freshly set up image and table, and demand 2's part on such lists: document 01,
 -- "Demand 3's list and book" and "Why a call was declined", and document 02. Assumes nothing.
 use Rattle.store.specs.State.{measured_as}
-use Rattle.std.specs.Prelude.{ℕ, ◌+◌, ◌-◌, ◌^◌, ◌≤◌, ◌<◌, ◌≡◌, ◌⊎◌, ◌↔◌, Bool, true, false, ◌&&◌, ◌||◌, length, get_or, ltb, ℤ, pos, negsuc, Some}
-use mathlib.Core.List.{List, [], ◌∷◌, Memᴰ}
+use Rattle.std.specs.Prelude.{ℕ, ◌+◌, ◌-◌, ◌^◌, ◌≤◌, ◌<◌, ◌≡◌, ◌⊎◌, ◌↔◌, Bool, true, false, ◌&&◌, ◌||◌, length, get_or, ltb, ℤ, pos, negsuc, Some, List, [], ◌∷◌}
 use Rattle.std.proofs.Math.IntN.{sub_ℕ}
+use mathlib.Core.List.{Memᴰ}
 use Rattle.frame.specs.Pointers.{unpack, good_tag}
 use Rattle.frame.specs.Tags.{is_small, entry_of}
 use Rattle.block.specs.Bytes.{decode}

@@ -1,10 +1,5 @@
 -- The claims on the report. Assumes nothing.
-use Prim.Native.Nat.{ℕ, ◌+◌, ◌≤◌, ◌<◌}
-use mathlib.Core.Path.{◌≡◌, refl, sym, ap, subst}
-use mathlib.Core.Bool.{true}
-use mathlib.Core.List.{List, [], ◌∷◌}
-use native.Mathlib.Omega.{arith}
-use lib.ListN.{length}
+use Rattle.std.proofs.Common.{ℕ, ◌+◌, ◌≤◌, ◌<◌, ◌≡◌, refl, true, List, [], ◌∷◌, length, sym, ap, subst, arith}
 use Rattle.overhead.specs.declared.answer.Fraction.{Fraction}
 use Rattle.overhead.specs.Overhead.{good_sizes, padded, headed, total, sums, fraction, report_of, refused, report, Report}
 use Rattle.overhead.specs.Claims.{BadSize, no_bytes, too_large, Zeros, Refuses, RefusesInOrder, Summed, SumsExactly, Fits, NoneOverflows, Overheads, ExtraOverRaw}

@@ -1,9 +1,8 @@
 -- The definitions over the sizes in the words of `std`, and their bounds. Assumes nothing.
-use Rattle.std.proofs.Common.{◌≡◌, ℕ, zero, suc, ◌+◌, ◌-◌, ◌*◌, ◌/◌, ◌^◌, ◌≤◌, ◌<◌, max, true, ◌&&◌, List, [], ◌∷◌, refl, sym, ap, ◌∙◌, length, pow-suc, add-one, get_or, drop, drop-cons, div-mul-le_self, arith}
+use Rattle.std.proofs.Common.{◌≡◌, ℕ, zero, suc, ◌+◌, ◌-◌, ◌*◌, ◌/◌, ◌^◌, ◌≤◌, ◌<◌, max, true, ◌&&◌, List, [], ◌∷◌, refl, length, get_or, drop, sum_by, sym, ap, ◌∙◌, pow-suc, add-one, drop-cons, div-mul-le_self, arith, drop_of_length-le}
 use Rattle.std.specs.Int.{IsPowerOfTwo}
-use Rattle.std.specs.List.{list_all, sum_by}
+use Rattle.std.specs.List.{list_all}
 use Rattle.std.proofs.lemmas.List.Recursion.{is_sum_by}
-use Rattle.std.proofs.Math.ListN.{drop_of_length-le}
 use Rattle.overhead.specs.Overhead.{good_size, good_sizes, padded, block_start, block_end, end_from, headed, total, Sums, sums}
 use Rattle.overhead.specs.laws.Padding.{half_at_most, lowest_power, one_power, padded_most, padded_some}
 use Rattle.overhead.specs.laws.Totals.{total_most, headed-total}

@@ -1,6 +1,5 @@
 -- Worked examples, computed: reports at the ends of each rule, and what the claims say. Assumes nothing.
-use Rattle.std.specs.Prelude.{ℕ, ◌+◌, ◌*◌, ◌^◌, ◌≤◌, ◌<◌, ◌≡◌, refl, Bool, true, ◌&&◌, List, [], ◌∷◌, T, eqb, leb, length}
-use Rattle.std.proofs.Common.{arith, pow_mono, leb-true, leb-false}
+use Rattle.std.proofs.Common.{ℕ, ◌+◌, ◌*◌, ◌^◌, ◌≤◌, ◌<◌, ◌≡◌, refl, Bool, true, ◌&&◌, List, [], ◌∷◌, T, eqb, leb, length, arith, pow_mono, leb-true, leb-false}
 use Rattle.block.specs.laws.Booleans.{by_bool}
 use Rattle.overhead.specs.Overhead.{good_sizes, doubled_in, padded, end_from, total, sums, fraction, report_of, report, Report}
 use Rattle.overhead.specs.Claims.{BadSize, RefusesInOrder, LowestPower, LowestMultiple, Placed, none, next, SumsExactly, NoneOverflows, ExtraOverRaw}

@@ -1,12 +1,5 @@
 -- The claims on orders. Assumes nothing.
-use Prim.Native.Nat.{ℕ, ◌≤◌, ◌<◌}
-use mathlib.Core.Path.{◌≡◌, refl, sym, ap, ◌∙◌, subst}
-use mathlib.Core.Bool.{true, false}
-use mathlib.Core.List.{List}
-use native.Mathlib.Omega.{arith}
-use lib.ListN.{length}
-use lib.Dec.{leb}
-use borrow.Author.Tests.{leb-true, leb-false}
+use Rattle.std.proofs.Common.{ℕ, ◌≤◌, ◌<◌, ◌≡◌, refl, true, false, List, length, leb, sym, ap, ◌∙◌, subst, arith, leb-true, leb-false}
 use Rattle.block.specs.laws.Booleans.{by_bool, and_both, true_false}
 use Rattle.placement.specs.Orders.{order_at, Before}
 use Rattle.placement.specs.Placement.{good_sizes, good_plan, large, best_order, eight_places, found, refused, Placement, placement}

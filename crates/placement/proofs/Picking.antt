@@ -1,6 +1,6 @@
 -- Turns of the loops over the positions of an order: one writes them, one counts large-framed objects. Assumes nothing.
-use Rattle.std.proofs.Common.{◌≡◌, ℕ, zero, suc, ◌+◌, ◌-◌, ◌*◌, ◌^◌, ◌≤◌, ◌<◌, ap, ◌∙◌, not, List, [], ◌∷◌, ◌++◌, length, get_or, drop, replicate, zero-add, suc-add, arith}
-use lib.Seq.{sets, sets-eq}
+use Rattle.std.proofs.Common.{◌≡◌, ℕ, zero, suc, ◌+◌, ◌-◌, ◌*◌, ◌^◌, ◌≤◌, ◌<◌, not, List, [], ◌∷◌, ◌++◌, length, get_or, drop, replicate, ap, ◌∙◌, zero-add, suc-add, arith}
+use Rattle.std.proofs.Math.Seq.{sets, sets-eq}
 use Rattle.frame.specs.Tags.{is_small, last_held}
 use Rattle.placement.specs.Orders.{order_at, factorial}
 use Rattle.placement.specs.Placement.{eight_places, large_at, large_from, large}
@@ -68,4 +68,4 @@ counting_goes_on s sizes i left left' count h place size count' h' now e size_is
 
 pub counting_ends : (s : ℕ) (sizes : List ℕ) (i : ℕ) (left : List ℕ) (count h : ℕ) → Counted s sizes i left count h → left ≡ []
     → count ≡ large s sizes (order_at (length sizes) i)
-counting_ends s sizes i left count h now e = let is = rw e at now.is in omega (arith, is, large_none s sizes h)
+counting_ends s sizes i left count h now e = grind (arith, large_none)

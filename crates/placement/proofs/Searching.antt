@@ -1,23 +1,15 @@
 -- The search: the fold over the orders' numbers, and the budget. Assumes nothing.
-use Prim.Native.Nat.{ℕ, zero, suc, ◌+◌, ◌≤◌, ◌<◌, min}
-use mathlib.Core.Path.{◌≡◌, refl, sym, ap, ◌∙◌, subst}
-use mathlib.Core.List.{List, [], ◌∷◌, map}
-use native.Mathlib.Numerals.{add-one}
-use native.Mathlib.Omega.{arith}
-use lib.ListN.{length, take, drop, drop_of_length-le}
-use lib.Dec.{ltb, leb}
-use lib.Seq.{drop-cons, take_all}
-use borrow.Author.Tests.{ltb-true, ltb-false, leb-true, leb-false}
-use Rattle.std.specs.List.{fold, reduce, range_with_len}
-use Rattle.std.specs.Option.{MatchOption}
-use Rattle.std.specs.Ordering.{min_by_ordering, ordering_then, nat_cmp}
+use Rattle.std.proofs.Common.{ℕ, zero, suc, ◌+◌, ◌≤◌, ◌<◌, min, ◌≡◌, refl, List, [], ◌∷◌, map, length, take, drop, ltb, fold, MatchOption, sym, ap, ◌∙◌, subst, arith, drop_of_length-le, take_all, ltb-true, ltb-false, leb-false, nat_cmp}
+use Rattle.std.proofs.lemmas.Grind.{common_steps}
+use Rattle.std.specs.List.{reduce, range_with_len}
+use Rattle.std.specs.Ordering.{min_by_ordering, ordering_then}
 use Rattle.std.proofs.lemmas.Bool.Decides.{nat_tests}
 use Rattle.block.specs.laws.Booleans.{by_bool}
 use Rattle.placement.specs.Orders.{orders, order_at, factorial}
 use Rattle.placement.specs.Placement.{large, least_from, first_least, best_order}
 use Rattle.placement.specs.laws.Picks.{all-orders}
 use Rattle.placement.specs.laws.Least.{takes, keeps}
-use Rattle.placement.specs.laws.Rows.{BestFound, tried_length, tried_at}
+use Rattle.placement.specs.laws.Rows.{BestFound, tried_length}
 
 -- The lesser of two pairs, as `min` picks it.
 
@@ -45,11 +37,7 @@ module _ (s : ℕ) (sizes : List ℕ) (tried : ℕ) (most : tried ≤ factorial 
 
   -- the next order, and those behind it
   next_order : (i : ℕ) → i < tried → drop i (take tried (orders (length sizes))) ≡ order_at (length sizes) i ∷ drop (i + 1) (take tried (orders (length sizes)))
-  next_order i h =
-      let n : ℕ = length sizes in
-      drop-cons (take tried (orders n)) i [] (omega (arith, tried_length n tried))
-      ∙ ap (λ (o : List ℕ). o ∷ drop (suc i) (take tried (orders n))) (tried_at n tried i (omega arith))
-      ∙ ap (λ (k : ℕ). order_at n i ∷ drop k (take tried (orders n))) (sym (add-one i))
+  next_order i h = grind (arith, common_steps, tried_length)
 
   -- it begins with the first order
   begins : 0 < tried → Searching (pair s sizes 0) 1
@@ -97,18 +85,8 @@ least_is_best s sizes (suc k) most = folds s sizes (suc k) most k 1 (pair s size
 
 -- more than all orders are no more than all
 take_lesser : (n budget : ℕ) → take (min budget (factorial n)) (orders n) ≡ take budget (orders n)
-take_lesser n budget =
-    let all = all-orders n in
-    by_bool (leb budget (factorial n))
-    (λ t.
-    let e : min budget (factorial n) ≡ budget = omega (arith, leb-true budget (factorial n) t) in
-    ap (λ (k : ℕ). take k (orders n)) e)
-    (λ t.
-    take_all (min budget (factorial n)) (orders n) (omega (arith, leb-false budget (factorial n) t))
-    ∙ sym (take_all budget (orders n) (omega (arith, leb-false budget (factorial n) t))))
+take_lesser n budget = grind (arith, all-orders, take_all, leb-false)
 
 pub best_lesser : (s : ℕ) (sizes : List ℕ) (budget tried : ℕ) → tried ≡ min budget (factorial (length sizes)) → best_order s sizes tried ≡ best_order s sizes budget
 unfolding best_order
-best_lesser s sizes budget tried e =
-    ap (λ (k : ℕ). first_least (large s sizes) (take k (orders (length sizes)))) e
-    ∙ ap (first_least (large s sizes)) (take_lesser (length sizes) budget)
+best_lesser s sizes budget tried e = grind (arith, take_lesser)

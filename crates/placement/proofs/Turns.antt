@@ -1,6 +1,6 @@
 -- The definitions over the sizes in the words of `std`, and a turn of the loop over an order. Assumes nothing.
-use Rattle.std.proofs.Common.{◌≡◌, ℕ, ◌+◌, ◌^◌, List, [], ◌∷◌, Bool, true, false, cond, ◌&&◌, refl, ap, leb, ltb, arith}
-use Rattle.std.specs.List.{list_all, count_by}
+use Rattle.std.proofs.Common.{◌≡◌, ℕ, ◌+◌, ◌^◌, List, [], ◌∷◌, Bool, true, false, cond, ◌&&◌, refl, leb, ltb, count_by, ap, arith}
+use Rattle.std.specs.List.{list_all}
 use Rattle.std.proofs.lemmas.List.Recursion.{is_count_by}
 use Rattle.frame.specs.Pointers.{bit}
 use Rattle.placement.specs.Placement.{good_sizes, floor_of}

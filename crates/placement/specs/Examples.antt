@@ -1,6 +1,5 @@
 -- Worked examples, computed: what is found at the ends of each rule, and what the claims say of one list of sizes. Assumes nothing.
-use Rattle.std.specs.Prelude.{ℕ, ◌≤◌, ◌<◌, min, ◌≡◌, refl, Bool, true, false, ◌&&◌, List, [], ◌∷◌, T, eqb, length, take}
-use Rattle.std.proofs.Common.{sym, ap, ◌∙◌, subst, arith, take_at}
+use Rattle.std.proofs.Common.{ℕ, ◌≤◌, ◌<◌, min, ◌≡◌, refl, Bool, true, false, ◌&&◌, List, [], ◌∷◌, T, eqb, length, take, sym, ap, ◌∙◌, subst, arith, take_at}
 use Rattle.frame.specs.Frame.{frame_number_in, frame_number}
 use Rattle.frame.specs.Tags.{wrapper}
 use Rattle.block.specs.Bytes.{decode, field}

@@ -1,12 +1,6 @@
 -- The claim of numbers: digit by digit, from the last. Assumes nothing.
-use Prim.Native.Nat.{ℕ, zero, suc, ◌+◌, ◌*◌, ◌-◌, ◌/◌, ◌%◌, ◌^◌, ◌<◌}
-use mathlib.Core.Path.{◌≡◌, refl, sym, ap, ◌∙◌}
-use mathlib.Core.Bool.{Bool, true, ◌&&◌, and-true, and_assoc}
-use mathlib.Core.List.{List, [], ◌∷◌, ◌++◌}
-use native.Mathlib.Nat.{pow-suc}
-use native.Mathlib.Omega.{arith}
-use lib.ListN.{length, length-append}
-use borrow.Author.Tests.{lt-ltb, le-leb}
+use Rattle.std.proofs.Common.{ℕ, zero, suc, ◌+◌, ◌*◌, ◌-◌, ◌/◌, ◌%◌, ◌^◌, ◌<◌, ◌≡◌, refl, Bool, true, ◌&&◌, List, [], ◌∷◌, ◌++◌, length, sym, ap, ◌∙◌, pow-suc, arith, length-append, lt-ltb, le-leb}
+use Rattle.std.proofs.Math.Bool.{and-true, and_assoc}
 use Rattle.traffic.specs.Digits.{hex_digit_ascii, last_digits}
 use Rattle.traffic.specs.Number.{is_digit, all_digits, value_from, number_from, number_of}
 use Rattle.traffic.specs.Claims.{NumbersReadBack}

@@ -1,5 +1,5 @@
 -- What `recorded` uses: a load writes inside its log. Assumes nothing.
-use Rattle.std.proofs.Common.{ℕ, ◌≤◌, ◌≡◌, ap, List, Result, arith, length}
+use Rattle.std.proofs.Common.{ℕ, ◌≤◌, ◌≡◌, List, Result, length, ap, arith}
 use Rattle.store.specs.State.{State}
 use Rattle.store.specs.declared.answer.Refusal.{Refusal}
 use Rattle.workload.specs.Traffic.{bytes_written, LoggedOutcome, logged}

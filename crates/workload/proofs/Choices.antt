@@ -1,7 +1,7 @@
 -- What a draw asks for.
 -- In order: when it allocates; the three choices, and that a pointer in one is a live one. Assumes nothing.
-use Rattle.std.proofs.Common.{◌≡◌, ℕ, ◌+◌, ◌/◌, ◌%◌, ◌^◌, ◌<◌, ◌≤◌, true, false, eqb, ltb, List, length, get_or, sym, refl, subst, mod-lt, arith, ltb-false, ltb-true, eq-eqb, ne_eqb, eqb-true}
-use borrow.Author.Tests.{eqb-false}
+use Rattle.std.proofs.Common.{◌≡◌, ℕ, ◌+◌, ◌/◌, ◌%◌, ◌^◌, ◌<◌, ◌≤◌, true, false, eqb, ltb, List, length, get_or, refl, sym, subst, mod-lt, arith, ltb-false, ltb-true, eq-eqb, ne_eqb, eqb-true}
+use Rattle.std.proofs.lemmas.Bool.{eqb-false}
 use Rattle.block.specs.laws.Booleans.{by_bool}
 use Rattle.workload.specs.Choice.{position, allocates, choice_of}
 use Rattle.workload.specs.declared.choosing.Choice.{Choice}

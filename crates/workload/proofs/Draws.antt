@@ -1,7 +1,7 @@
 -- The draws, one by one.
 -- In order: the three ways on; the same by the choice of a draw; what follows set-up. Assumes nothing.
-use Rattle.std.proofs.Common.{◌≡◌, ℕ, suc, ◌+◌, ◌<◌, ◌≤◌, true, false, List, length, sym, refl, ap, ◌∙◌, le-leb}
-use borrow.Author.Tests.{lt-leb}
+use Rattle.std.proofs.Common.{◌≡◌, ℕ, suc, ◌+◌, ◌<◌, ◌≤◌, true, false, List, length, refl, sym, ap, ◌∙◌, le-leb}
+use Rattle.std.proofs.lemmas.Bool.{lt-leb}
 use Rattle.block.specs.Bytes.{put}
 use Rattle.store.specs.State.{State}
 use Rattle.call_log.specs.Run.{made}

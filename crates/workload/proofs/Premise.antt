@@ -1,7 +1,7 @@
 -- Every workload's calls meet demand 3's premise; free and store are accepted, and allocate is declined only with 8.
 -- The induction is on the draws left. It carries an admitted list that leads to the workload's image and table with a heap, so that demand 3 holds of them, and that
 -- the pointers held are the heap's answers. In order: one draw; all draws; the shape that they keep. Assumes nothing.
-use Rattle.std.proofs.Common.{◌≡◌, ℕ, zero, suc, ◌^◌, ◌<◌, ◌≤◌, true, ltb, List, [], ◌∷◌, length, get_or, sym, refl, ap, ◌∙◌, subst, arith, length-append, length-drop, length-take, lt-ltb, Err, Ok}
+use Rattle.std.proofs.Common.{◌≡◌, ℕ, zero, suc, ◌^◌, ◌<◌, ◌≤◌, true, ltb, List, [], ◌∷◌, length, get_or, refl, Err, Ok, sym, ap, ◌∙◌, subst, arith, length-append, length-drop, length-take, lt-ltb}
 use Rattle.block.specs.Layout.{slot_exponent}
 use Rattle.block.specs.laws.Booleans.{by_bool, and_both}
 use Rattle.store.specs.State.{State, IsAccepted, returned}

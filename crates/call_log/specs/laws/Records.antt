@@ -1,9 +1,6 @@
 -- Laws of reading a log: where the record that is read ends, and what a log holds from a position on. Assumes nothing.
-use Prim.Native.Nat.{ℕ, zero, suc, ◌+◌, ◌-◌, ◌≤◌, ◌<◌}
-use Rattle.std.specs.Prelude.{◌≡◌, Bool, true, false, cond, ◌&&◌, List, length, leb, eqb, Some, None, Result, Ok, Err}
-use Rattle.std.proofs.Math.Path.{refl, sym, ap}
+use Rattle.std.proofs.Common.{ℕ, zero, suc, ◌+◌, ◌-◌, ◌≤◌, ◌<◌, ◌≡◌, Bool, true, false, cond, ◌&&◌, List, length, leb, eqb, Some, None, Result, Ok, Err, refl, sym, ap, ◌∙◌, arith, leb-true, eqb-true, eq-eqb}
 use Rattle.std.proofs.lemmas.Bool.Decides.{nat_tests}
-use Rattle.std.proofs.Common.{◌∙◌, arith, leb-true, eqb-true, eq-eqb}
 use Rattle.block.specs.Bytes.{field}
 use Rattle.block.specs.laws.Booleans.{by_bool, and_left, and_right}
 use Rattle.call_log.specs.Records.{kind_number, known_kind, field_bytes, record_length, call_at, good_value, insist, formed_at, Next, next_at, Records, followed, records_in, records_from}

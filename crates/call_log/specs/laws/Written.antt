@@ -1,7 +1,6 @@
 -- Laws of a call's record and of a log.
 -- In order: kind and length; the parts; the bytes of an allocate, a free and a store, and that a record can hold them; the log of calls. Assumes nothing.
-use Rattle.std.specs.Prelude.{ℕ, ◌^◌, ◌≤◌, ◌<◌, ◌≡◌, refl, true, List, [], ◌∷◌, ◌++◌, length}
-use Rattle.std.proofs.Common.{ap, ◌∙◌, append_assoc, append-nil, arith, length-append, lt-ltb}
+use Rattle.std.proofs.Common.{ℕ, ◌^◌, ◌≤◌, ◌<◌, ◌≡◌, refl, true, List, [], ◌∷◌, ◌++◌, length, ap, ◌∙◌, append_assoc, append-nil, arith, length-append, lt-ltb}
 use Rattle.block.specs.Bytes.{encode}
 use Rattle.block.specs.laws.Booleans.{and_both}
 use Rattle.block.specs.laws.Fields.{length-encode}

@@ -1,4 +1,4 @@
-use native.Mathlib.Omega.{arith}
+use Rattle.std.proofs.Common.{arith}
 use Rattle.dump.proofs.Entries.{begun, turn, ended}
 use Rattle.dump.proofs.put_entries.Goals as goal
 

@@ -228,9 +228,9 @@ matches_pointer s h size p e =
 unfoldable pub tagged : ℕ → ℕ → ℕ → Tagged
 tagged s h size = record { pointer = pointer_to s h size; entry = cond (is_small s h size) None (Some (entry_of s h size)) }
 
-pub tagged_pointer : (s h size : ℕ) → (tagged s h size).pointer ≡ pointer_to s h size
+pub tagged_pointer_lem : (s h size : ℕ) → (tagged s h size).pointer ≡ pointer_to s h size
 unfolding tagged
-tagged_pointer s h size = refl
+tagged_pointer_lem s h size = refl
 
 pub tagged_small : (s h size : ℕ) → wrapper h size ≤ s → (tagged s h size).entry ≡ None
 unfolding tagged

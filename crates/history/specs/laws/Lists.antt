@@ -1,7 +1,7 @@
 -- Laws of lists of calls: one call more in front, one more behind, and what an admitted list leads to. Assumes nothing.
-use Rattle.std.specs.Prelude.{◌≡◌, refl, Bool, true, ◌&&◌, List, [], ◌∷◌, ◌++◌}
-use Rattle.std.proofs.Common.{sym, ap, ◌∙◌}
-use Rattle.std.proofs.Math.Bool.{and-true, and_assoc}
+use Rattle.std.proofs.Common.{◌≡◌, refl, true, ◌&&◌, List, [], ◌∷◌, ◌++◌, ap, ◌∙◌}
+use Rattle.std.proofs.Common.{arith}
+use Rattle.std.proofs.Math.Bool.{and-true}
 use Rattle.block.specs.laws.Booleans.{and_both}
 use Rattle.store.specs.Step.{Call}
 use Rattle.history.specs.History.{admitted, Configuration, next, after, all_admitted}
@@ -36,9 +36,7 @@ admitted_last : (cs : List Call) (c : Call) (x : Configuration)
     → all_admitted (cs ++ (c ∷ [])) x ≡ all_admitted cs x && admitted (after cs x).heap c
 unfolding after all_admitted
 admitted_last [] c x = and-true (admitted x.heap c)
-admitted_last (d ∷ ds) c x =
-    ap (λ (b : Bool). admitted x.heap d && b) (admitted_last ds c (next d x))
-    ∙ sym (and_assoc (admitted x.heap d) (all_admitted ds (next d x)) _)
+admitted_last (d ∷ ds) c x = grind (arith, admitted_last ds c (next d x))
 
 -- An admitted list leads from one image, table and heap to another.
 pub record Reached (from to : Configuration) : Type 0 where

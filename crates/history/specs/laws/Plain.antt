@@ -1,11 +1,9 @@
 -- Heaps of plain objects, each with one pointer, allocate's answer, and one byte or more: what lists without moves and empty objects leave.
 -- In order: allocate's answers; one object more, written, less; a pointer's owner; what allocate and store do (free: `proofs/PlainFrees`). Not here: the
 -- image. Assumes nothing.
-use Rattle.std.specs.Prelude.{ℕ, zero, suc, ◌+◌, ◌-◌, ◌^◌, ◌<◌, ◌≡◌, refl, Bool, true, false, cond, ◌&&◌, List, [], ◌∷◌, ◌++◌, length, take, drop, get_or, eqb, Err, Ok, Option, None, Some}
-use Rattle.std.proofs.Common.{sym, ap, ◌∙◌, subst, suc-add, arith, eq-eqb, ne_eqb, eqb-true, le-leb}
+use Rattle.std.proofs.Common.{ℕ, zero, suc, ◌+◌, ◌-◌, ◌^◌, ◌<◌, ◌≡◌, refl, Bool, true, false, cond, ◌&&◌, List, [], ◌∷◌, ◌++◌, length, take, drop, get_or, eqb, Err, Ok, Option, None, Some, ltb, sym, ap, ◌∙◌, subst, suc-add, arith, eq-eqb, ne_eqb, eqb-true, le-leb}
 use Rattle.std.proofs.Math.Bool.{or-false}
 use mathlib.Core.List.Memᴰ
-use Rattle.std.proofs.Math.Dec.{ltb}
 use Rattle.frame.specs.Pointers.{unpack}
 use Rattle.block.specs.Bytes.{encode}
 use Rattle.block.specs.laws.Booleans.{by_bool, and_both}

@@ -1,6 +1,5 @@
 -- The answer that a result of the report stands for. Assumes nothing.
-use Rattle.std.specs.Prelude.{◌≡◌, refl, Result, Ok, Err}
-use Rattle.std.proofs.Common.{ap, arith}
+use Rattle.std.proofs.Common.{◌≡◌, refl, Result, Ok, Err, ap, arith}
 use Rattle.overhead.specs.declared.answer.Report.{Report as Given}
 use Rattle.overhead.specs.declared.answer.Refusal.{Refusal}
 use Rattle.overhead.specs.declared.answer.Refusal.TheVariants.{TooMany, BadSize}

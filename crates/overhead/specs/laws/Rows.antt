@@ -1,6 +1,5 @@
 -- The report's ways out, its sizes one by one, and its fractions. Assumes nothing.
-use Rattle.std.specs.Prelude.{ℕ, zero, suc, ◌-◌, ◌≤◌, ◌<◌, ◌≡◌, true, false, List, [], ◌∷◌, length, get_or, leb}
-use Rattle.std.proofs.Common.{arith, leb-true, leb-false, le-leb}
+use Rattle.std.proofs.Common.{ℕ, zero, suc, ◌-◌, ◌≤◌, ◌<◌, ◌≡◌, true, false, List, [], ◌∷◌, length, get_or, leb, arith, leb-true, leb-false, le-leb}
 use Rattle.std.proofs.lemmas.Bool.{lt-leb}
 use Rattle.block.specs.laws.Booleans.{by_bool}
 use Rattle.overhead.specs.declared.answer.Fraction.{Fraction}
@@ -24,7 +23,7 @@ bad_behind size sizes (too_large k h l) = too_large (suc k) (omega arith) l
 -- where not all are good, one is out of range
 pub size_bad : (sizes : List ℕ) → good_sizes sizes ≡ false → BadSize sizes
 unfolding good_sizes
-size_bad [] g = let z : ◌≡◌ {A = ℕ} 0 1 = cc in absurd (omega arith)
+size_bad [] g = cc
 size_bad (size ∷ sizes) g =
     by_bool (leb 1 size)
     (λ s.

@@ -1,6 +1,5 @@
 -- Sums over the sizes: their bounds, and padded blocks placed one after the other. Assumes nothing.
-use Rattle.std.specs.Prelude.{ℕ, suc, ◌+◌, ◌*◌, ◌≤◌, ◌<◌, ◌≡◌, refl, true, List, [], ◌∷◌, length, leb}
-use Rattle.std.proofs.Common.{sym, ap, ◌∙◌, subst, add-zero, mul_assoc, suc-mul, suc-add, add-suc, arith, leb-true}
+use Rattle.std.proofs.Common.{ℕ, suc, ◌+◌, ◌*◌, ◌≤◌, ◌<◌, ◌≡◌, refl, true, List, [], ◌∷◌, length, leb, sym, ap, ◌∙◌, subst, add-zero, mul_assoc, suc-mul, suc-add, add-suc, arith, leb-true}
 use Rattle.block.specs.laws.Booleans.{and_left, and_right}
 use Rattle.overhead.specs.Overhead.{good_size, good_sizes, padded, block_start, block_end, end_from, headed, total, sums, report_of, Sums}
 use Rattle.overhead.specs.Claims.{LowestMultiple, Placed, none, next, Fits}

@@ -1,6 +1,5 @@
 -- The answer that a result of the search stands for. Assumes nothing.
-use Rattle.std.specs.Prelude.{ℕ, ◌≡◌, refl, Result, Ok, Err}
-use Rattle.std.proofs.Common.{ap, arith}
+use Rattle.std.proofs.Common.{ℕ, ◌≡◌, refl, Result, Ok, Err, ap, arith}
 use Rattle.block.specs.Bytes.{decode, field}
 use Rattle.placement.specs.declared.answer.Placement.{Placement as Placed}
 use Rattle.placement.specs.declared.answer.Refusal.{Refusal}
@@ -9,12 +8,7 @@ use Rattle.placement.specs.Placement.{refused, Placement, order_word, answered}
 
 -- two results that give one answer are one
 pub answered_once : (a b : Result Placed Refusal) → answered a ≡ answered b → a ≡ b
-answered_once (Ok p) (Ok q) e =
-    let order : p.order ≡ q.order = ap (λ (r : Placement). r.order) e in
-    let large : p.large ≡ q.large = ap (λ (r : Placement). r.large) e in
-    let tried : p.tried ≡ q.tried = ap (λ (r : Placement). r.tried) e in
-    let floor : p.floor ≡ q.floor = ap (λ (r : Placement). r.floor) e in
-    λ k. Ok (record { order = order k; large = large k; tried = tried k; floor = floor k })
+answered_once (Ok p) (Ok q) e = grind arith
 answered_once (Ok p) (Err BadPlan) e = absurd (omega (arith, ap (λ (r : Placement). r.row) e))
 answered_once (Ok p) (Err NoBudget) e = absurd (omega (arith, ap (λ (r : Placement). r.row) e))
 answered_once (Err BadPlan) (Ok q) e = absurd (omega (arith, ap (λ (r : Placement). r.row) e))

@@ -1,7 +1,6 @@
 -- The orders of n objects are all of them, each once, lexicographically: an order is a list whose elements are picked one by one. In order: every order arranges
 -- the positions; so each has a number; what a number picks is an order; higher numbers stand behind lower ones; sums over an order. Assumes nothing.
-use Rattle.std.specs.Prelude.{ℕ, zero, suc, ◌+◌, ◌*◌, ◌/◌, ◌%◌, ◌≤◌, ◌<◌, ◌≡◌, refl, List, [], ◌∷◌, length, get_or, ltb}
-use Rattle.std.proofs.Common.{sym, ap, ◌∙◌, subst, mod-lt, div-mul-le_self, le-div_iff_mul-le, div-add-mod', le_trans, arith, ltb-true, ltb-false}
+use Rattle.std.proofs.Common.{ℕ, zero, suc, ◌+◌, ◌*◌, ◌/◌, ◌%◌, ◌≤◌, ◌<◌, ◌≡◌, refl, List, [], ◌∷◌, length, get_or, ltb, sym, ap, ◌∙◌, subst, mod-lt, div-mul-le_self, le-div_iff_mul-le, div-add-mod', le_trans, arith, ltb-true, ltb-false}
 use Rattle.std.proofs.Math.Arith.{digits_div, digits_mod, digits_lt}
 use Rattle.block.specs.laws.Booleans.{by_bool}
 use Rattle.placement.specs.Orders.{positions, without, order_at, factorial, IsOrder, Before, here, later}
@@ -84,7 +83,7 @@ picked_arranges (suc n) xs i e h =
 
 arranged_length : (order xs : List ℕ) → Arranges order xs → length order ≡ length xs
 arranged_length _ _ none = refl
-arranged_length _ _ (first k order xs h r) = ap suc (arranged_length order (without k xs) r) ∙ without-length k xs h
+arranged_length _ _ (first k order xs h r) = grind (arith, without-length, arranged_length order (without k xs) r)
 
 arranged_stands : (order xs : List ℕ) → Arranges order xs → (i : ℕ) → i < length order → StandsIn xs (get_or order i 0)
 arranged_stands _ _ none i l = absurd (omega arith)
@@ -175,11 +174,7 @@ before_itself xs w = before-not xs xs w w
 
 -- so an order that stands before another has the lower number
 pub before_lower : (n i j : ℕ) → i < factorial n → j < factorial n → Before (order_at n i) (order_at n j) → i < j
-before_lower n i j h k w =
-    by_order i j
-    (λ l. l)
-    (λ g. absurd (before-not (order_at n i) (order_at n j) w (orders_ascend n j i g h)))
-    (λ e. absurd (before_itself (order_at n j) (subst (λ (q : ℕ). Before (order_at n q) (order_at n j)) e w)))
+before_lower n i j h k w = grind (arith, before-not, orders_ascend, before_itself)
 
 -- and each order has one number
 pub orders_once : (n i j : ℕ) → i < factorial n → j < factorial n → order_at n i ≡ order_at n j → i ≡ j
@@ -206,4 +201,4 @@ without-sum f (suc k) (x ∷ xs) h = omega (arith, without-sum f k xs (omega ari
 pub arranged_sum : (f : ℕ → ℕ) (order xs : List ℕ) → Arranges order xs → sum_of f order ≡ sum_of f xs
 unfolding sum_of
 arranged_sum f _ _ none = refl
-arranged_sum f _ _ (first k order xs h r) = omega (arith, arranged_sum f order (without k xs) r, without-sum f k xs h)
+arranged_sum f _ _ (first k order xs h r) = grind (arith, without-sum, arranged_sum f order (without k xs) r)

@@ -1,8 +1,6 @@
 -- Large-framed objects, one by one, and the floor under them. Assumes nothing.
-use Rattle.std.specs.Prelude.{ℕ, suc, ◌+◌, ◌*◌, ◌/◌, ◌^◌, ◌≤◌, ◌<◌, ◌≡◌, refl, Bool, true, false, List, [], ◌∷◌, length, get_or, leb, ltb}
-use Rattle.std.proofs.Common.{sym, ap, ◌∙◌, add-zero, div-mul-le_self, arith, pow_pos, leb-true, ltb-true, eqb-true, le-leb}
+use Rattle.std.proofs.Common.{ℕ, suc, ◌+◌, ◌*◌, ◌/◌, ◌^◌, ◌≤◌, ◌<◌, ◌≡◌, refl, Bool, true, false, List, [], ◌∷◌, length, get_or, leb, ltb, sym, ap, ◌∙◌, add-zero, div-mul-le_self, arith, pow_pos, leb-true, ltb-true}
 use Rattle.std.proofs.Math.Nat.{lt-div-mul-add}
-use Rattle.std.proofs.lemmas.Bool.{eqb-false}
 use Rattle.frame.specs.Frame.{same_frame}
 use Rattle.frame.specs.Pointers.{bit}
 use Rattle.frame.specs.Tags.{wrapper, last_held}
@@ -16,14 +14,10 @@ use Rattle.placement.specs.laws.Arrangements.{order_arranges, sum_of, arranged_s
 
 -- it is large-framed exactly where no slot holds it from its header to the byte behind it
 pub small_here : (s h size : ℕ) → same_frame s h (last_held h size) ≡ true → large_at s h size ≡ 0
-small_here s h size e =
-    rw (le-leb (wrapper h size) s ((wrapper_iff s h size).1 (eqb-true (h / 2 ^ s) (last_held h size / 2 ^ s) e)))
+small_here s h size e = grind (arith, wrapper_iff)
 
 pub large_here : (s h size : ℕ) → same_frame s h (last_held h size) ≡ false → large_at s h size ≡ 1
-large_here s h size e =
-    by_bool (leb (wrapper h size) s)
-    (λ t. absurd (eqb-false (h / 2 ^ s) (last_held h size / 2 ^ s) e ((wrapper_iff s h size).0 (leb-true (wrapper h size) s t))))
-    (λ t. rw t)
+large_here s h size e = grind (arith, wrapper_iff)
 
 -- it counts once at most
 pub bit_most : (b : Bool) → bit b ≤ 1
@@ -61,8 +55,7 @@ large_one s sizes h k order = refl
 large_least : (s : ℕ) (sizes order : List ℕ) (h : ℕ) → sum_of (λ k. oversized s (get_or sizes k 0)) order ≤ large_from s sizes h order
 unfolding sum_of large_from
 large_least s sizes [] h = omega arith
-large_least s sizes (k ∷ order) h =
-    omega (arith, oversized-large s h (get_or sizes k 0), large_least s sizes order (last_held h (get_or sizes k 0)))
+large_least s sizes (k ∷ order) h = grind (arith, oversized-large, large_least s sizes order)
 
 floor_sum : (s : ℕ) (sizes rest : List ℕ) (from : ℕ) → ((i : ℕ) → i < length rest → get_or sizes (from + i) 0 ≡ get_or rest i 0)
     → sum_of (λ k. oversized s (get_or sizes k 0)) (positions_from (length rest) from) ≡ floor_of s rest

@@ -1,8 +1,7 @@
 -- Orders picked from the positions in one number. Assumes nothing.
-use Rattle.std.specs.Prelude.{ℕ, zero, suc, ◌-◌, ◌/◌, ◌%◌, ◌≤◌, ◌<◌, ◌≡◌, refl, List, [], ◌∷◌, get_or}
-use Rattle.std.proofs.Common.{sym, ap, ◌∙◌, subst, mod-lt, arith}
+use Rattle.std.proofs.Common.{ℕ, zero, suc, ◌-◌, ◌/◌, ◌%◌, ◌≤◌, ◌<◌, ◌≡◌, refl, List, [], ◌∷◌, ap, ◌∙◌, subst, mod-lt, arith}
 use Rattle.block.specs.Bytes.{decode, Bytes}
-use Rattle.placement.specs.Orders.{positions, without, order_at, factorial}
+use Rattle.placement.specs.Orders.{order_at, factorial}
 use Rattle.placement.specs.laws.Positions.{positions_agree}
 use Rattle.placement.specs.laws.Picks.{factorial_some, picked, order_picked, picked_agree, digit_below}
 use Rattle.placement.specs.laws.Packed.{place_in, removed_from, place_is, removed_is, without_bytes, eight_bytes, eight_packed}
@@ -42,13 +41,8 @@ turn n rest left f some l is =
 from_list : (n : ℕ) (xs : List ℕ) (left : ℕ) → Bytes xs → picked_in n (decode xs) left ≡ picked n xs left
 unfolding picked_in picked
 from_list zero xs left b = refl
-from_list (suc n) xs left b =
-    let k : ℕ = left / factorial n in
-    let rest = from_list n (without k xs) (left % factorial n) (without_bytes k xs b) in
-    rw (place_is k xs b, removed_is k xs b) (ap (λ (order : List ℕ). get_or xs k 0 ∷ order) rest)
+from_list (suc n) xs left b = grind (arith, without_bytes, place_is, removed_is, from_list n)
 
 -- from 0 to 7 they pick the order of that number
 pub picks_order : (n i : ℕ) → n ≤ 8 → i < factorial n → picked_in n 0x0706050403020100 i ≡ order_at n i
-picks_order n i h l =
-    ap (λ (rest : ℕ). picked_in n rest i) eight_packed ∙ from_list n (positions 8) i eight_bytes
-    ∙ picked_agree n (positions 8) (positions n) i l (positions_agree n 8 h) ∙ sym (order_picked n i l)
+picks_order n i h l = grind (arith, eight_packed, from_list, eight_bytes, picked_agree, positions_agree, order_picked)

@@ -1,13 +1,7 @@
 -- The first of a list that has the least f. Assumes nothing.
-use Prim.Native.Nat.{ℕ, zero, suc, ◌≤◌, ◌<◌}
-use Rattle.std.specs.Prelude.{◌≡◌, refl, length, get_or, ltb}
-use Rattle.std.proofs.Common.{sym, ap, ◌∙◌, length-append}
-use Rattle.std.proofs.Math.Path.{subst}
-use mathlib.Core.List.{List, [], ◌∷◌, ◌++◌, append-nil}
-use native.Mathlib.Omega.{arith}
+use Rattle.std.proofs.Common.{ℕ, zero, suc, ◌≤◌, ◌<◌, ◌≡◌, refl, length, get_or, ltb, List, [], ◌∷◌, ◌++◌, sym, ap, ◌∙◌, length-append, subst, append-nil, arith, ltb-true, ltb-false, lt-ltb, le-ltb}
 use Rattle.std.proofs.Math.ListN.{get_or-append}
 use Rattle.std.proofs.Math.Seq.{append_snoc, get_or-append_seam}
-use borrow.Author.Tests.{ltb-true, ltb-false, lt-ltb, le-ltb}
 use Rattle.block.specs.laws.Booleans.{by_bool}
 use Rattle.placement.specs.Placement.{least_from, first_least}
 

@@ -1,9 +1,7 @@
 -- Positions in one number, the one at place k in byte k: reading one, and taking one out. Assumes nothing.
-use Rattle.std.specs.Prelude.{ℕ, zero, suc, ◌+◌, ◌*◌, ◌/◌, ◌%◌, ◌^◌, ◌<◌, ◌≡◌, refl, List, [], ◌∷◌, ltb, length, get_or}
-use Rattle.std.proofs.Common.{sym, ap, ◌∙◌, subst, zero-add, div-one, mul-suc, mul_comm, mul_left_comm, zero-mul, mul-one, arith, pow_pos, pow-add, ltb-true, ltb-false}
-use Rattle.std.proofs.Math.Nat.{zero-div, zero-mod, mod-one, div-div-eq-div-mul}
+use Rattle.std.proofs.Common.{ℕ, zero, suc, ◌+◌, ◌*◌, ◌/◌, ◌%◌, ◌^◌, ◌<◌, ◌≡◌, refl, List, [], ◌∷◌, ltb, length, get_or, ap, ◌∙◌, subst, div-one, mul-suc, mul_comm, mul_left_comm, mul-one, arith, pow_pos, pow-add, ltb-true, ltb-false}
 use Rattle.std.proofs.Math.ListN.{get_or-eq_default}
-use Rattle.std.proofs.Math.Arith.{mod-mul}
+use Rattle.std.proofs.Math.Nat.{zero-div, mod-one}
 use Rattle.block.specs.Bytes.{decode, Bytes}
 use Rattle.block.specs.laws.Booleans.{by_bool}
 use Rattle.placement.specs.Orders.{positions_from, positions, without}
@@ -24,15 +22,10 @@ bits_suc k = ap (λ (n : ℕ). 2 ^ n) (mul-suc 8 k) ∙ pow-add 2 (8 * k) 8 ∙ 
 -- a number behind its lowest byte
 module _ (x d m : ℕ) (h : x < 256) where
   behind : (x + 256 * d) / (256 * m) ≡ d / m
-  behind =
-      let e : (x + 256 * d) / 256 ≡ d = omega arith in
-      sym (div-div-eq-div-mul (x + 256 * d) 256 m) ∙ ap (λ (n : ℕ). n / m) e
+  behind = grind arith
 
   remains : 0 < m → (x + 256 * d) % (256 * m) ≡ x + 256 * (d % m)
-  remains p =
-      let high : (x + 256 * d) / 256 ≡ d = omega arith in
-      let low : (x + 256 * d) % 256 ≡ x = omega arith in
-      ap (λ (n : ℕ). (x + 256 * d) % n) (mul_comm 256 m) ∙ mod-mul (x + 256 * d) p (omega arith) ∙ rw (high, low) (omega arith)
+  remains p = grind arith
 
 pub place_is : (k : ℕ) (xs : List ℕ) → Bytes xs → place_in (decode xs) k ≡ get_or xs k 0
 unfolding decode
@@ -44,7 +37,7 @@ place_is (suc k) (x ∷ xs) b =
 
 pub removed_is : (k : ℕ) (xs : List ℕ) → Bytes xs → removed_from (decode xs) k ≡ decode (without k xs)
 unfolding decode without
-removed_is k [] b = rw (zero-div (2 ^ (8 * k)), zero-mod (2 ^ (8 * k))) (zero-add (0 * 2 ^ (8 * k)) ∙ zero-mul (2 ^ (8 * k)))
+removed_is k [] b = grind arith
 removed_is zero (x ∷ xs) b =
     let v : ℕ = x + 256 * decode xs in
     rw (div-one v, mod-one v, mul-one (v / 256)) (omega (arith, b 0))

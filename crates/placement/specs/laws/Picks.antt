@@ -1,15 +1,8 @@
 -- Orders by their numbers: the order tried as number i is picked by the digits of i in the factorial number system. Assumes nothing.
-use Prim.Native.Nat.{ℕ, zero, suc, ◌+◌, ◌-◌, ◌*◌, ◌/◌, ◌%◌, ◌<◌}
-use Rattle.std.specs.Prelude.{◌≡◌, refl, ltb}
-use Rattle.std.proofs.Math.Path.{sym, ap}
-use Rattle.std.proofs.Common.{◌∙◌, mod-lt, div-lt_iff_lt-mul, add-one}
-use mathlib.Core.List.{List, [], ◌∷◌, ◌++◌, map}
-use Rattle.std.proofs.Math.Nat.{suc-mul, div-eq_of_lt-le, mod-eq-sub-div-mul}
-use native.Mathlib.Omega.{arith}
-use Rattle.std.proofs.Math.ListN.{length, get_or, length-append, get_or-append}
-use Rattle.std.proofs.lemmas.List.{length-map}
-use Rattle.std.proofs.Math.Seq.{get_or-append-add}
-use borrow.Author.Tests.{ltb-true, ltb-false}
+use Rattle.std.proofs.Common.{ℕ, zero, suc, ◌+◌, ◌-◌, ◌*◌, ◌/◌, ◌%◌, ◌<◌, ◌≡◌, refl, ltb, List, [], ◌∷◌, ◌++◌, map, length, get_or, sym, ap, ◌∙◌, div-lt_iff_lt-mul, add-one, suc-mul, arith, get_or-append-add, ltb-true, ltb-false}
+use Rattle.std.proofs.lemmas.Grind.{common_steps}
+use Rattle.std.proofs.Math.ListN.{get_or-append}
+use Rattle.std.proofs.Math.Nat.{div-eq_of_lt-le, mod-eq-sub-div-mul}
 use Rattle.block.specs.laws.Booleans.{by_bool}
 use Rattle.placement.specs.Orders.{positions, without, starting_with, orders_of, orders, order_at, factorial}
 use Rattle.placement.specs.laws.Positions.{Agree, agree_without}
@@ -17,7 +10,7 @@ use Rattle.placement.specs.laws.Positions.{Agree, agree_without}
 pub factorial_some : (n : ℕ) → 0 < factorial n
 unfolding factorial
 factorial_some zero = omega arith
-factorial_some (suc n) = rw (suc-mul n (factorial n)) (omega (arith, factorial_some n))
+factorial_some (suc n) = grind (arith, factorial_some n)
 
 pub factorial_zero : factorial 0 ≡ 1
 unfolding factorial
@@ -35,11 +28,7 @@ module _ (rest : ℕ → List (List ℕ)) (xs : List ℕ) (b : ℕ) (even : (k :
   starting_length : (k : ℕ) → length (starting_with rest xs k) ≡ k * b
   unfolding starting_with
   starting_length zero = omega arith
-  starting_length (suc k) =
-      length-append (starting_with rest xs k) (map (λ order. get_or xs k 0 ∷ order) (rest k))
-      ∙ ap (λ (n : ℕ). n + length (map (λ order. get_or xs k 0 ∷ order) (rest k))) (starting_length k)
-      ∙ ap (λ (n : ℕ). k * b + n) (length-map (rest k) (λ order. get_or xs k 0 ∷ order) ∙ even k)
-      ∙ sym (suc-mul k b)
+  starting_length (suc k) = grind (arith, common_steps, starting_length k)
 
   -- element i stands in run i / b, at place i % b
   starting_at : (k i : ℕ) → i < k * b → get_or (starting_with rest xs k) i [] ≡ get_or xs (i / b) 0 ∷ get_or (rest (i / b)) (i % b) []
@@ -65,7 +54,7 @@ module _ (rest : ℕ → List (List ℕ)) (xs : List ℕ) (b : ℕ) (even : (k :
 orders-length : (n : ℕ) (xs : List ℕ) → length (orders_of n xs) ≡ factorial n
 unfolding orders_of factorial
 orders-length zero xs = refl
-orders-length (suc n) xs = starting_length (λ k. orders_of n (without k xs)) xs (factorial n) (λ k. orders-length n (without k xs)) (suc n)
+orders-length (suc n) xs = grind (arith, starting_length, orders-length n)
 
 -- there are n! of them
 pub all-orders : (n : ℕ) → length (orders n) ≡ factorial n
@@ -83,10 +72,7 @@ picks_of : (n : ℕ) (xs : List ℕ) (i : ℕ) → i < factorial n → get_or (o
 unfolding orders_of factorial picked
 picks_of zero xs zero h = refl
 picks_of zero xs (suc i) h = absurd (omega arith)
-picks_of (suc n) xs i h =
-    starting_at (λ k. orders_of n (without k xs)) xs (factorial n) (λ k. orders-length n (without k xs)) (suc n) i h
-    ∙ ap (λ (order : List ℕ). get_or xs (i / factorial n) 0 ∷ order)
-    (picks_of n (without (i / factorial n) xs) (i % factorial n) (mod-lt i (factorial_some n)))
+picks_of (suc n) xs i h = grind (arith, starting_at, orders-length, picks_of n)
 
 pub order_picked : (n i : ℕ) → i < factorial n → order_at n i ≡ picked n (positions n) i
 unfolding orders
@@ -103,7 +89,7 @@ picked_one n xs i = refl
 pub picked-length : (n : ℕ) (xs : List ℕ) (i : ℕ) → length (picked n xs i) ≡ n
 unfolding picked
 picked-length zero xs i = refl
-picked-length (suc n) xs i = ap suc (picked-length n (without (i / factorial n) xs) (i % factorial n))
+picked-length (suc n) xs i = grind (arith, picked-length n)
 
 -- a digit picks from as many as there are
 pub digit_below : (n i : ℕ) → i < factorial (suc n) → i / factorial n < suc n
@@ -114,9 +100,4 @@ digit_below n i h = (div-lt_iff_lt-mul (factorial_some n)).1 h
 pub picked_agree : (n : ℕ) (xs ys : List ℕ) (i : ℕ) → i < factorial n → Agree n xs ys → picked n xs i ≡ picked n ys i
 unfolding picked
 picked_agree zero xs ys i h a = refl
-picked_agree (suc n) xs ys i h a =
-    let k : ℕ = i / factorial n in
-    let r : ℕ = i % factorial n in
-    ap (λ (x : ℕ). x ∷ picked n (without k xs) r) (a.at k (digit_below n i h))
-    ∙ ap (λ (order : List ℕ). get_or ys k 0 ∷ order)
-    (picked_agree n (without k xs) (without k ys) r (mod-lt i (factorial_some n)) (agree_without n k xs ys a))
+picked_agree (suc n) xs ys i h a = grind (arith, digit_below, factorial_some, agree_without, picked_agree n)

@@ -1,6 +1,5 @@
 -- Lists of positions: ascending ones, lists without an element, and lists that begin alike. Assumes nothing.
-use Rattle.std.specs.Prelude.{ℕ, zero, suc, ◌+◌, ◌≤◌, ◌<◌, ◌≡◌, refl, cond, List, [], ◌∷◌, length, get_or, ltb}
-use Rattle.std.proofs.Common.{sym, ap, ◌∙◌, arith, ltb-true, ltb-false}
+use Rattle.std.proofs.Common.{ℕ, zero, suc, ◌+◌, ◌≤◌, ◌<◌, ◌≡◌, refl, cond, List, [], ◌∷◌, length, get_or, ltb, sym, ap, ◌∙◌, arith, ltb-true, ltb-false}
 use Rattle.block.specs.laws.Booleans.{by_bool}
 use Rattle.placement.specs.Orders.{positions_from, positions, without}
 
@@ -52,28 +51,19 @@ stood k m = cond (ltb m k) m (suc m)
 
 pub without_at : (k : ℕ) (xs : List ℕ) (m : ℕ) → get_or (without k xs) m 0 ≡ get_or xs (stood k m) 0
 unfolding stood
-without_at k xs m =
-    by_bool (ltb m k)
-    (λ t. rw t (without_below k xs m (ltb-true m k t)))
-    (λ t. rw t (without_above k xs m (ltb-false m k t)))
+without_at k xs m = grind (arith, without_below, without_above)
 
 pub stood_other : (k m : ℕ) → stood k m ≡ k → ⊥
 unfolding stood
-stood_other k m =
-    by_bool (ltb m k)
-    (λ t. rw t (λ e. omega (arith, ltb-true m k t)))
-    (λ t. rw t (λ e. omega (arith, ltb-false m k t)))
+stood_other k m = grind arith
 
 stood_ascends : (k a b : ℕ) → a < b → stood k a < stood k b
 unfolding stood
-stood_ascends k a b l =
-    by_bool (ltb a k)
-    (λ t. by_bool (ltb b k) (λ u. rw (t, u) l) (λ u. rw (t, u) (omega arith)))
-    (λ t. by_bool (ltb b k) (λ u. absurd (omega (arith, ltb-false a k t, ltb-true b k u))) (λ u. rw (t, u) (omega arith)))
+stood_ascends k a b l = grind arith
 
 pub stood_most : (k m : ℕ) → stood k m ≤ suc m
 unfolding stood
-stood_most k m = by_bool (ltb m k) (λ t. rw t (omega arith)) (λ t. rw t (omega arith))
+stood_most k m = grind arith
 
 -- every element but element k stands in it
 pub stands_without :
@@ -105,8 +95,7 @@ without_ascends k xs h r a b l m =
 -- different places of an ascending list hold different numbers
 pub ascending_once : (xs : List ℕ) → Ascending xs → (a b : ℕ) → a < length xs → b < length xs → get_or xs a 0 ≡ get_or xs b 0 → a ≡ b
 unfolding Ascending
-ascending_once xs r a b h k e =
-    by_order a b (λ l. absurd (omega (arith, r a b l k))) (λ g. absurd (omega (arith, r b a g h))) (λ d. d)
+ascending_once xs r a b h k e = grind arith
 
 -- Lists that begin alike.
 

@@ -38,19 +38,19 @@ planned s sizes g =
 -- the tests of the count and of the sizes passed, that of the exponent tells
 pub plan_rest : (s : ℕ) (sizes : List ℕ) → 1 ≤ length sizes → length sizes ≤ 8 → good_sizes sizes ≡ true → good_plan s sizes ≡ good_exponent s
 unfolding good_plan
-plan_rest s sizes l m g = rw (le-leb 1 (length sizes) l, le-leb (length sizes) 8 m, g)
+plan_rest s sizes l m g = grind arith
 
 -- each size is in range
 pub size_most : (sizes : List ℕ) → good_sizes sizes ≡ true → (k : ℕ) → get_or sizes k 0 ≤ 65535
 unfolding good_sizes
 size_most [] g k = omega arith
-size_most (size ∷ sizes) g zero = leb-true size 65535 (and_left (leb size 65535) (good_sizes sizes) g)
-size_most (size ∷ sizes) g (suc k) = size_most sizes (and_right (leb size 65535) (good_sizes sizes) g) k
+size_most (size ∷ sizes) g zero = grind arith
+size_most (size ∷ sizes) g (suc k) = grind (arith, size_most sizes)
 
 -- or one is not
 pub size_above : (sizes : List ℕ) → good_sizes sizes ≡ false → (k : ℕ) × (k < length sizes) × (65535 < get_or sizes k 0)
 unfolding good_sizes
-size_above [] g = let z : ◌≡◌ {A = ℕ} 0 1 = cc in absurd (omega arith)
+size_above [] g = cc
 size_above (size ∷ sizes) g =
     by_bool (leb size 65535)
     (λ t. let (k, h, l) = size_above sizes (rw t at g) in (suc k, omega arith, l))
@@ -88,7 +88,7 @@ verdict s sizes budget =
 -- The orders that the budget allows.
 
 pub tried_length : (n budget : ℕ) → length (take budget (orders n)) ≡ min budget (factorial n)
-tried_length n budget = length-take budget (orders n) ∙ ap (λ (k : ℕ). min budget k) (all-orders n)
+tried_length n budget = grind (arith, length-take, all-orders)
 
 pub tried_at : (n budget i : ℕ) → i < min budget (factorial n) → get_or (take budget (orders n)) i [] ≡ order_at n i
 tried_at n budget i h = get_or-take budget (orders n) i [] (omega arith)

@@ -1,5 +1,5 @@
 -- `read_input` ends, since each turn leaves less to fill.
-use Rattle.std.proofs.Common.{length, ◌-◌, ◌≤◌}
+use Rattle.std.specs.Prelude.{length, ◌-◌, ◌≤◌}
 use Rattle.replay.proofs.read_input.Given as goal
 
 abbrev pub invariant-loop-done : goal.invariant-loop-done

@@ -1,5 +1,5 @@
 -- `overhead::padding::block_end`: the code is the definition, and its start is at most from + (p - 1). Assumes nothing.
-use native.Mathlib.Omega.{arith}
+use Rattle.std.proofs.Common.{arith}
 use Rattle.overhead.proofs.Turns.{start_most}
 use Rattle.overhead.proofs.padding.block_end.Goals as goal
 

@@ -1,6 +1,5 @@
 -- The definition's tests in their order; no overhead is negative (`sums-ordered`).
-use Rattle.std.proofs.Common.{◌≡◌, sym, ◌∙◌, arith, rules}
-use Rattle.std.specs.List.{sum_by}
+use Rattle.std.proofs.Common.{◌≡◌, sum_by, sym, ◌∙◌, arith, rules}
 use Rattle.overhead.specs.laws.Totals.{sums-ordered}
 use Rattle.overhead.specs.laws.Rows.{report_long, report_bad, report-given}
 use Rattle.overhead.proofs.Turns.{sum_most, summed}

@@ -1,4 +1,4 @@
-use Rattle.std.proofs.Common.{refl, sym, ◌∙◌, ap, get_or, arith}
+use Rattle.std.proofs.Common.{refl, get_or, sym, ◌∙◌, ap, arith}
 use Rattle.placement.specs.laws.Counts.{small_here, large_here}
 use Rattle.placement.specs.laws.Rows.{planned}
 use Rattle.placement.proofs.Picking.{counting_begins, counting_goes_on, counting_ends}

@@ -1,5 +1,4 @@
-use Rattle.std.proofs.Common.{◌≡◌, ltb, ◌^◌, ◌+◌, sym, ◌∙◌, rules}
-use Rattle.std.specs.List.{count_by}
+use Rattle.std.proofs.Common.{◌≡◌, ltb, ◌^◌, ◌+◌, count_by, sym, ◌∙◌, rules}
 use Rattle.placement.proofs.Turns.{floor_count}
 use Rattle.placement.proofs.plan.floor_of.Goals as goal
 

@@ -1,6 +1,5 @@
 -- The definition's tests in their order; the lesser of budget and all orders finds what the budget finds.
-use Rattle.std.proofs.Common.{◌≡◌, sym, ap, ◌∙◌, subst, true, ℕ, ◌<◌, min, List, length, Option, None, Some, Ok, Err, MatchOption, arith, rules}
-use Rattle.std.specs.Option.{ok_or}
+use Rattle.std.proofs.Common.{◌≡◌, true, ℕ, ◌<◌, min, List, length, Option, None, Some, Ok, Err, MatchOption, ok_or, sym, ap, ◌∙◌, subst, arith, rules}
 use Rattle.placement.specs.declared.answer.Refusal.{Refusal}
 use Rattle.placement.specs.declared.answer.Refusal.TheVariants.{NoBudget}
 use Rattle.placement.specs.Orders.{order_at, factorial}

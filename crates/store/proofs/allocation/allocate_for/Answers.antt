@@ -3,7 +3,7 @@ use Rattle.std.proofs.Common.{arith, sym, ap, ◌∙◌}
 use Rattle.std.proofs.lemmas.Grind.{common_steps}
 use Rattle.std.proofs.lemmas.Result.{err_from_is_err_and}
 use Rattle.std.specs.Prelude.{◌≡◌, ℕ, Ok}
-use Rattle.frame.specs.laws.Tags.{tagged, tagged_pointer, pointer_range}
+use Rattle.frame.specs.laws.Tags.{tagged, tagged_pointer_lem, pointer_range}
 use Rattle.frame.specs.declared.tag.Tagged.{Tagged}
 use Rattle.store.specs.State.{State, state}
 use Rattle.store.specs.Calls.{allocate_checks}
@@ -35,7 +35,7 @@ pub pack-requires : goal.pack-requires
 pack-requires c =
     let (found, t) = chosen _ c.in_ok-new.field-0 _ _ c.in_ok-new.ensures c.in_ok-site.ensures in
     let o = opened c.in_ok-new.field-0 _ c.in_ok-new.ensures in
-    rw (ap (λ (u : Tagged). u.pointer) t ∙ tagged_pointer _ _ _) (pointer_range _ _ _ o.high (omega (arith, (allocate_parts _ _ _ found).inside, o.short)))
+    rw (ap (λ (u : Tagged). u.pointer) t ∙ tagged_pointer_lem _ _ _) (pointer_range _ _ _ o.high (omega (arith, (allocate_parts _ _ _ found).inside, o.short)))
 
 -- row 4 or 5
 pub returns-in_err-new : goal.returns-in_err-new
@@ -49,6 +49,6 @@ returns-in_err-site c = let p = err_from_is_err_and c.from_residual-in_err-site.
 pub returns : goal.returns
 returns c =
     let (found, t) = chosen _ c.in_ok-new.field-0 _ _ c.in_ok-new.ensures c.in_ok-site.ensures in
-    allocate_done _ (state _ _) _ _ _ _ _ _ _ _ found (opened c.in_ok-new.field-0 _ c.in_ok-new.ensures).exponent c.allot.ensures (ap (λ (u : Tagged). u.pointer) t ∙ tagged_pointer _ _ _)
+    allocate_done _ (state _ _) _ _ _ _ _ _ _ _ found (opened c.in_ok-new.field-0 _ c.in_ok-new.ensures).exponent c.allot.ensures (ap (λ (u : Tagged). u.pointer) t ∙ tagged_pointer_lem _ _ _)
     (c.note.ensures ∙ ap (λ (u : Tagged). noted_for u c.in_ok-site.site.header c.args.table.now) t ∙ tagged-noted _ _ _ _ _)
     c.pack.ensures

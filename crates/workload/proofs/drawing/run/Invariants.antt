@@ -1,5 +1,5 @@
 -- `workload::drawing::run`. The invariant: the draws that are left, from where the load is, end as all the draws from its start do. Assumes nothing.
-use Rattle.std.proofs.Common.{◌≡◌, ◌-◌, ◌≤◌, length}
+use Rattle.std.specs.Prelude.{◌≡◌, ◌-◌, ◌≤◌, length}
 use Rattle.store.specs.State.{state}
 use Rattle.workload.specs.Traffic.{draws_from, started}
 use Rattle.workload.proofs.Draws.{progress}

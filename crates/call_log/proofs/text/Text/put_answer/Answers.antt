@@ -1,5 +1,5 @@
 -- `call_log::text::Text::put_answer`: kind, refusal, digits and line end, one behind the other. Assumes nothing.
-use Rattle.std.proofs.Common.{◌≤◌, arith, length}
+use Rattle.std.proofs.Common.{◌≤◌, length, arith}
 use Rattle.call_log.specs.Text.{line_of}
 use Rattle.call_log.proofs.Texts.{length-hexadecimal, puts_next, kind_tag, value_is}
 use Rattle.call_log.proofs.text.Text.put_answer.Goals as goal

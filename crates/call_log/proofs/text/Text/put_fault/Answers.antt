@@ -1,5 +1,5 @@
 -- `call_log::text::Text::put_fault`: the word, the number and the line end. Assumes nothing.
-use Rattle.std.proofs.Common.{◌≤◌, arith, length}
+use Rattle.std.proofs.Common.{◌≤◌, length, arith}
 use Rattle.call_log.specs.Text.{fault_line}
 use Rattle.call_log.proofs.Texts.{puts_next, fault_tag}
 use Rattle.call_log.proofs.text.Text.put_fault.Goals as goal

@@ -1,5 +1,5 @@
 -- Each turn puts the first of the digits that are left. Assumes nothing.
-use Rattle.std.proofs.Common.{ℕ, suc, ◌-◌, ◌≤◌, ◌≡◌, subst, arith, length}
+use Rattle.std.proofs.Common.{ℕ, suc, ◌-◌, ◌≤◌, ◌≡◌, length, subst, arith}
 use Rattle.call_log.proofs.Texts.{Putting, none_put, all_put, digit_put}
 use Rattle.call_log.proofs.text.Text.put_hexadecimal.Goals as goal
 

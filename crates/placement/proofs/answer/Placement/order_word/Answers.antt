@@ -1,4 +1,4 @@
-use Rattle.std.proofs.Common.{◌≡◌, ◌∙◌, ℕ, List, w64, arith}
+use Rattle.std.proofs.Common.{◌≡◌, ℕ, List, ◌∙◌, w64, arith}
 use Rattle.std.specs.Int.{from_le_bytes}
 use Rattle.block.specs.Bytes.{field}
 use Rattle.block.specs.laws.Fields.{field_zero, field_step}
