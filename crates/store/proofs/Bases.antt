@@ -1,5 +1,5 @@
 -- Row 15 and row 22 of free by what the code tests. Assumes nothing.
-use Rattle.std.specs.Prelude.{◌≡◌, ℕ, ◌+◌, true, false, List, Bool, Result, Ok, Err, length}
+use Rattle.std.specs.Prelude.{◌≡◌, ℕ, true, false, List, Bool, Result, Ok, Err}
 use Rattle.std.proofs.Common.{sym, ap, ◌∙◌}
 use Rattle.frame.specs.Pointers.{unpack}
 use Rattle.block.specs.Layout.{extent_at}

@@ -1,7 +1,5 @@
 -- What holds of single calls on every image and table.
 -- In order: shapes that are kept; how each call ends; the claims. Assumes nothing.
-use Rattle.store.specs.State.{usage_of}
-use Rattle.store.specs.Calls.{merge_of}
 use Rattle.store.specs.State.{measured_as}
 use Rattle.std.specs.Prelude.{Err, Ok, Result}
 use Prim.Native.Nat.{ℕ, ◌+◌, ◌^◌, ◌≤◌, ◌<◌}
@@ -51,12 +49,9 @@ use Rattle.store.specs.laws.Tally.{tally_balanced}
 use Rattle.store.specs.State.{Answer}
 use Rattle.store.specs.declared.release.FreedBlock.{FreedBlock}
 use Rattle.store.specs.declared.locate.Reading.{Reading}
-use Rattle.store.specs.declared.measuring.BodyEnds.{BodyEnds}
-use Rattle.block.specs.declared.walk.Counts.{Counts}
 use Rattle.store.proofs.Sweeping.{sweep_freed}
 use Rattle.store.proofs.Gathering.{sweep_begins}
 use Rattle.store.specs.declared.answer.Refusal.{Refusal}
-use Rattle.std.specs.declared.cmp.Ordering.{Ordering}
 use Rattle.store.specs.State.{Usage, Comparison, Measurement}
 
 -- how a call ends: refused with nothing changed, or accepted with the shape kept

@@ -1,5 +1,5 @@
 -- The text at a pointer, by what reading its tag gave. Assumes nothing.
-use Rattle.std.specs.Prelude.{◌≡◌, ℕ, ◌+◌, ◌-◌, ◌≤◌, ◌^◌, Bool, true, false, ◌&&◌, length, take, drop, pos, Option, Some, None, Ok, Err, refl}
+use Rattle.std.specs.Prelude.{◌≡◌, ℕ, ◌+◌, ◌-◌, ◌≤◌, ◌^◌, true, false, ◌&&◌, length, take, drop, pos, Option, Some, None, Ok, Err, refl}
 use Rattle.std.specs.Option.{ok_or}
 use Rattle.std.specs.Int.Signed.{le_z}
 use Rattle.std.proofs.Common.{sym, ◌∙◌, arith}

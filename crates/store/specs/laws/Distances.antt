@@ -16,7 +16,6 @@ use Rattle.store.specs.Calls.{opening, located, found_at, read_tag, from_start, 
 use Rattle.store.specs.laws.TagReading.{FoundAt}
 use Rattle.store.specs.declared.answer.Refusal.{Refusal}
 use Rattle.store.specs.State.{Answer}
-use Rattle.store.specs.declared.measuring.BodyEnds.{BodyEnds}
 use Rattle.store.specs.declared.locate.Reading.{Reading}
 use Rattle.store.specs.State.{Measurement}
 

@@ -139,8 +139,7 @@ released_parts image k h from to e = go (walk_to image k) refl e
         let found : FreedBlock = record { header = k; from = merge_start image before k; to = merge_end image (k + extent_at image k) } in
         let wanted : FreedBlock = record { header = h; from = from; to = to } in
         let q : Ok found ≡ Ok wanted = rw t at e in
-        let w : found ≡ wanted = cc in
-        (
+        let w : found ≡ wanted = cc in (
           sym (ap (λ (b : FreedBlock). b.header) w),
           before,
           record {

@@ -1,7 +1,6 @@
 -- `store::fill` meets its contract: refused by its tests, or the bytes are set. Assumes nothing.
 use Rattle.std.proofs.Common.{arith, sym, ap, ◌∙◌}
 use Rattle.std.proofs.lemmas.Grind.{common_steps}
-use Rattle.std.proofs.lemmas.Result.{err_from_is_err_and}
 use Rattle.store.specs.Calls.{fill, fill_checks}
 use Rattle.store.specs.laws.Fill.{fill_parts}
 use Rattle.store.proofs.access.fill.Goals as goal

@@ -1,7 +1,6 @@
 -- `store::store` meets its contract: refused by its tests, or the value is written. Assumes nothing.
 use Rattle.std.proofs.Common.{arith, sym, ap, ◌∙◌}
 use Rattle.std.proofs.lemmas.Grind.{common_steps}
-use Rattle.std.proofs.lemmas.Result.{err_from_is_err_and}
 use Rattle.store.specs.Calls.{store, store_checks}
 use Rattle.store.specs.laws.Access.{width_range}
 use Rattle.store.specs.laws.Store.{store_parts}

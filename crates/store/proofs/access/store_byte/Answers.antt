@@ -1,7 +1,6 @@
 -- `store::store_byte` meets its contract: as `store`, whose 14 and 16 a byte passes. Assumes nothing.
 use Rattle.std.proofs.Common.{arith, sym, ap, ◌∙◌}
 use Rattle.std.proofs.lemmas.Grind.{common_steps}
-use Rattle.std.proofs.lemmas.Result.{err_from_is_err_and}
 use Rattle.store.specs.Calls.{store, store_checks, accessed}
 use Rattle.frame.specs.Pointers.{unpack}
 use Rattle.store.specs.State.{State}

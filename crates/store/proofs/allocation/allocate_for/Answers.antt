@@ -1,6 +1,5 @@
 -- `store::allocate_for` meets its contract: refused by its tests, or the block is taken and noted. Assumes nothing.
 use Rattle.std.proofs.Common.{arith, sym, ap, ◌∙◌}
-use Rattle.std.proofs.lemmas.Grind.{common_steps}
 use Rattle.std.proofs.lemmas.Result.{err_from_is_err_and}
 use Rattle.std.specs.Prelude.{◌≡◌, ℕ, Ok}
 use Rattle.frame.specs.laws.Tags.{tagged, tagged_pointer, tagged_pointer_lem, pointer_range}
@@ -9,11 +8,11 @@ use Rattle.store.specs.State.{State, state}
 use Rattle.store.specs.Calls.{allocate_checks}
 use Rattle.store.specs.Opened.{seen}
 use Rattle.store.specs.laws.Entries.{noted_for, tagged_in, tagged-noted}
-use Rattle.store.specs.laws.Allocate.{Allocates, site_of, site_declined, site_chosen, allocate_parts, allocate_shut, allocate_declined, allocate_done}
+use Rattle.store.specs.laws.Allocate.{site_of, site_declined, site_chosen, allocate_parts, allocate_shut, allocate_declined, allocate_done}
 use Rattle.store.specs.declared.allocation.Site.{Site}
 use Rattle.store.specs.declared.opening.Opened.{Opened}
 use Rattle.store.proofs.Carving.{fit_needs}
-use Rattle.store.proofs.Lent.{opens, opened}
+use Rattle.store.proofs.Lent.{opened}
 use Rattle.store.proofs.allocation.allocate_for.Goals as goal
 
 -- where its rows are passed, the tests found the block, and its tag is the object's
@@ -27,12 +26,12 @@ pub allot-requires : goal.allot-requires
 allot-requires c = let a = allocate_parts _ _ _ (chosen _ c.in_ok-new.field-0 _ _ c.in_ok-new.ensures c.in_ok-site.ensures).0 in (a.lowest.is_sound, a.lowest.fits_in, a.total_holds)
 
 pub note-requires : goal.note-requires
-note-requires c = 
+note-requires c =
     let (found, t) = chosen _ c.in_ok-new.field-0 _ _ c.in_ok-new.ensures c.in_ok-site.ensures in
     rw t (tagged_in _ _ _ _ (fit_needs (state _ _) _ _ _ (opened c.in_ok-new.field-0 _ c.in_ok-new.ensures) (allocate_parts _ _ _ found).found).3)
 
 pub pack-requires : goal.pack-requires
-pack-requires c = 
+pack-requires c =
     let (found, t) = chosen _ c.in_ok-new.field-0 _ _ c.in_ok-new.ensures c.in_ok-site.ensures in
     let o = opened c.in_ok-new.field-0 _ c.in_ok-new.ensures in
     rw (c.pointer.ensures ∙ ap tagged_pointer t ∙ tagged_pointer_lem _ _ _) (pointer_range _ _ _ o.high (omega (arith, (allocate_parts _ _ _ found).inside, o.short)))
@@ -47,7 +46,7 @@ returns-in_err-site c = let p = err_from_is_err_and c.from_residual-in_err-site.
 
 -- the object
 pub returns : goal.returns
-returns c = 
+returns c =
     let (found, t) = chosen _ c.in_ok-new.field-0 _ _ c.in_ok-new.ensures c.in_ok-site.ensures in
     allocate_done _ (state _ _) _ _ _ _ _ _ _ _ found (opened c.in_ok-new.field-0 _ c.in_ok-new.ensures).exponent c.allot.ensures (c.pointer.ensures ∙ ap tagged_pointer t ∙ tagged_pointer_lem _ _ _)
     (c.note.ensures ∙ ap (λ (u : Tagged). noted_for u c.in_ok-site.site.header c.args.table.now) t ∙ tagged-noted _ _ _ _ _)

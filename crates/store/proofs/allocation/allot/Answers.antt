@@ -8,6 +8,3 @@ stored_total-requires c = omega (arith, sound_in _ _ c.requires.0)
 
 pub write_total-requires : goal.write_total-requires
 write_total-requires c = omega (arith, sound_in _ _ c.requires.0)
-
-pub returns : goal.returns
-returns c = cc

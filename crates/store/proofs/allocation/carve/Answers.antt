@@ -25,12 +25,6 @@ returns-else-rest-lt16 c =
 pub extent_at-extent-requires : goal.extent_at-extent-requires
 extent_at-extent-requires c = sound_in _ _ c.requires.0
 
-pub overflow_add-need : goal.overflow_add-need
-overflow_add-need c = omega (arith, sound-end _ _ c.requires.0)
-
-pub overflow_sub-rest : goal.overflow_sub-rest
-overflow_sub-rest c = omega (arith, c.extent_at-extent.ensures)
-
 pub write_live-requires : goal.write_live-requires
 write_live-requires c = sound_in _ _ c.requires.0
 

@@ -25,12 +25,6 @@ returns-then-distance-lt0 c =
     let given : to_z w64 (of_z w64 c.args.distance) ≡ c.args.distance = let fits : SFits w64 c.args.distance = search rules in to_z-of_z fits in
     sym (has_before _ _ _ c.args.distance (rw given at c.if-distance-lt0.true))
 
-pub overflow_cast-distance : goal.overflow_cast-distance
-overflow_cast-distance c =
-    let given : to_z w64 (of_z w64 c.args.distance) ≡ c.args.distance = let fits : SFits w64 c.args.distance = search rules in to_z-of_z fits in
-    let fits : SFits w64 c.args.distance = search rules in
-    rw given (behind c.args.distance fits (rw given at c.if-distance-lt0.false))
-
 -- yes
 pub returns-then-type_has : goal.returns-then-type_has
 returns-then-type_has c =

@@ -2,7 +2,7 @@
 use Rattle.std.proofs.Common.{arith, sym, ap, ◌∙◌}
 use Rattle.std.proofs.lemmas.Grind.{common_steps}
 use Rattle.std.proofs.lemmas.Result.{err_from_is_err_and}
-use Rattle.std.specs.Prelude.{◌≡◌, true, Ok}
+use Rattle.std.specs.Prelude.{◌≡◌, true}
 use mir.Syntax.{w64}
 use mir.Val.{SFits, to_z, of_z}
 use mir.Facts.{to_z-of_z}
@@ -38,7 +38,7 @@ returns-in_err-object c = rw (← c.in_ok-store.ensures) (let p = err_from_is_er
 
 -- row 25, or the answer
 pub returns : goal.returns
-returns c = 
+returns c =
     let a = c.args in
     let opened : State = seen c.in_ok-store.store in
     let good : good_list a.list.now ≡ true = sym c.good_list.ensures ∙ c.if-not-good_list.false in

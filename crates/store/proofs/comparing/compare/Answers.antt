@@ -1,7 +1,6 @@
 -- `store::compare` meets its contract: refused by its tests, or the bytes are compared. Assumes nothing.
 use Rattle.std.proofs.Common.{arith, sym, ap, ◌∙◌}
 use Rattle.std.proofs.lemmas.Grind.{common_steps}
-use Rattle.std.proofs.lemmas.Result.{err_from_is_err_and}
 use Rattle.store.specs.Calls.{compare, compared, copy_checks}
 use Rattle.store.specs.laws.Copy.{copy_parts}
 use Rattle.store.proofs.comparing.compare.Goals as goal

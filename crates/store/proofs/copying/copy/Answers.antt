@@ -1,7 +1,6 @@
 -- `store::copy` meets its contract: refused by its tests, or the bytes are copied. Assumes nothing.
 use Rattle.std.proofs.Common.{arith, sym, ap, ◌∙◌}
 use Rattle.std.proofs.lemmas.Grind.{common_steps}
-use Rattle.std.proofs.lemmas.Result.{err_from_is_err_and}
 use Rattle.store.specs.Calls.{copy, copy_checks}
 use Rattle.store.specs.laws.Copy.{copy_parts}
 use Rattle.store.proofs.copying.copy.Goals as goal

@@ -20,18 +20,6 @@ module _ (a b : ℕ) (k : a < 2 ^ 63) (l : b < 2 ^ 63) where
   exact : to_z w64 (of_z w64 (to_z w64 a -ℤ to_z w64 b)) ≡ pos a -ℤ pos b
   exact = to_z-of_z fits ∙ plain
 
-pub overflow_sub-offset : goal.overflow_sub-offset
-overflow_sub-offset c =
-    let address-low : c.args.p.address < 2 ^ 63 = omega (arith, c.requires.0.address) in
-    let base-low : c.args.h + 16 < 2 ^ 63 = omega (arith, c.requires.1) in
-    fits _ _ address-low base-low
-
-pub overflow_sub-remaining : goal.overflow_sub-remaining
-overflow_sub-remaining c =
-    let address-low : c.args.p.address < 2 ^ 63 = omega (arith, c.requires.0.address) in
-    let end_low : c.args.h + 16 + c.args.size < 2 ^ 63 = omega (arith, c.requires.1) in
-    fits _ _ end_low address-low
-
 pub returns : goal.returns
 returns c =
     let address-low : c.args.p.address < 2 ^ 63 = omega (arith, c.requires.0.address) in

@@ -1,5 +1,5 @@
 -- `store::distances` meets its contract: 4 and 5, then 10 and 11 (`locate`). Assumes nothing.
-use Rattle.std.proofs.Common.{arith, sym, ap, ◌∙◌}
+use Rattle.std.proofs.Common.{arith, sym}
 use Rattle.std.proofs.lemmas.Grind.{common_steps}
 use Rattle.std.proofs.lemmas.Result.{err_from_is_err_and}
 use Rattle.store.specs.laws.Distances.{distances_shut, distances_refused, distances-found}

@@ -1,7 +1,6 @@
 -- `store::offset` meets its contract: 4 and 5, then 10 and 12 (`offset_in`). Assumes nothing.
-use Rattle.std.proofs.Common.{arith, sym, ap, ◌∙◌}
+use Rattle.std.proofs.Common.{arith, ap, ◌∙◌}
 use Rattle.std.proofs.lemmas.Grind.{common_steps}
-use Rattle.std.proofs.lemmas.Result.{err_from_is_err_and}
 use Rattle.std.specs.Prelude.{ℤ}
 use mir.Facts.{to_z-of_z}
 use Rattle.store.specs.Calls.{move_answer}

@@ -1,9 +1,8 @@
 -- `store::coalesce` meets its contract. It ends in one of four ways: the walk does not meet h; the block at h is the last of the image; the header that follows is
 -- unsound; or it is sound. Assumes nothing.
 use Rattle.std.proofs.Common.{arith, sym, ap, ◌∙◌}
-use Rattle.std.proofs.lemmas.Grind.{common_steps}
 use Rattle.std.proofs.lemmas.Result.{err_from_is_err_and}
-use Rattle.std.specs.Prelude.{◌≡◌, ◌+◌, ◌<◌, Err, length}
+use Rattle.std.specs.Prelude.{◌+◌, ◌<◌, Err, length}
 use Rattle.block.specs.laws.Soundness.{sound_in, sound-end, examined_is_sound, examined_is_unsound}
 use Rattle.block.specs.declared.header.Header.{Header}
 use Rattle.store.specs.Calls.{released}
@@ -26,7 +25,7 @@ merge_end-requires c = let (so, is) = examined_is_sound _ _ _ (sym c.examine.ens
 
 -- row 7: h is not met
 pub returns-in_err-before : goal.returns-in_err-before
-returns-in_err-before c = 
+returns-in_err-before c =
     let (lost, why) = ok_or_none _ _ _ c.in_err-before.ensures.value in
     let p = err_from_is_err_and c.from_residual.result c.from_residual.ensures.1 in rw (p.1, p.2) (ap Err why ∙ sym (ap (released c.args.image.now c.args.h) (sym c.walk_to.ensures ∙ lost) ∙ released_lost _ _))
 
@@ -36,14 +35,14 @@ returns-then-next-image c = rw c.merge_start-from.ensures (sym (released_last (m
 
 -- row 7: the next header is unsound
 pub returns-in_err-d : goal.returns-in_err-d
-returns-in_err-d c = 
+returns-in_err-d c =
     let inside : c.args.h + c.extent_at.result < length c.args.image.now = omega (arith, c.extent_at.ensures, sound-end _ _ c.requires) in
     let (bad, why) = ok_or_none _ _ _ c.in_err-d.ensures.value in
     let p = err_from_is_err_and c.from_residual-in_err-d.result c.from_residual-in_err-d.ensures.1 in rw (p.1, p.2) (ap Err why ∙ sym (released_bad (meets _ _ _ _ (sym c.walk_to.ensures ∙ ok_or_some _ _ _ c.in_ok-before.ensures.value) c.extent_at.ensures c.requires) inside (examined_is_unsound _ _ (sym c.examine.ensures ∙ bad))))
 
 -- it is sound
 pub returns : goal.returns
-returns c = 
+returns c =
     let inside : c.args.h + c.extent_at.result < length c.args.image.now = omega (arith, c.extent_at.ensures, sound-end _ _ c.requires) in
     let (so, is) = examined_is_sound _ _ _ (sym c.examine.ensures ∙ ok_or_some _ _ _ c.in_ok-d.ensures.value) in
     rw (c.merge_start-from.ensures, c.merge_end.ensures) (sym (released-next (meets _ _ _ _ (sym c.walk_to.ensures ∙ ok_or_some _ _ _ c.in_ok-before.ensures.value) c.extent_at.ensures c.requires) inside _ is so))

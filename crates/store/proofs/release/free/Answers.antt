@@ -1,7 +1,6 @@
 -- `store::free` meets its contract: refused by its tests, or the block is given back and the entry is cleared. Assumes nothing.
 use Rattle.std.proofs.Common.{arith, sym, ap, ◌∙◌}
 use Rattle.std.proofs.lemmas.Grind.{common_steps}
-use Rattle.std.proofs.lemmas.Result.{err_from_is_err_and}
 use Rattle.std.specs.Prelude.{◌≡◌, ℕ, Ok}
 use Rattle.std.proofs.Common.{subst, lt_of_lt_of_le}
 use Rattle.frame.specs.Pointers.{unpack}
@@ -32,7 +31,7 @@ pub give_back-requires : goal.give_back-requires
 give_back-requires c = let f = accepted _ c.in_ok-store.store _ _ c.in_ok-store.ensures c.in_ok-block.ensures in (omega (arith, f.inside), f.room, f.high, omega (arith, f.total, f.opens.short))
 
 pub clear_entry-requires : goal.clear_entry-requires
-clear_entry-requires c = 
+clear_entry-requires c =
     let f = accepted _ c.in_ok-store.store _ _ c.in_ok-store.ensures c.in_ok-block.ensures in
     let o = opened c.in_ok-store.store _ c.in_ok-store.ensures in
     let l = object _ _ _ c.in_ok-block.block o f in
@@ -57,7 +56,7 @@ returns-in_err-block c = grind (arith, common_steps)
 
 -- the object is freed
 pub returns : goal.returns
-returns c = 
+returns c =
     let f = accepted _ c.in_ok-store.store _ _ c.in_ok-store.ensures c.in_ok-block.ensures in
     let o = opened c.in_ok-store.store _ c.in_ok-store.ensures in
     let t = c.args.table.now in

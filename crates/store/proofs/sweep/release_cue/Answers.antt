@@ -1,15 +1,10 @@
 -- `store::release_cue` meets its contract: refused by its tests, or the pass frees the objects. Assumes nothing.
 use Rattle.std.proofs.Common.{arith, sym, ap, ◌∙◌}
 use Rattle.std.proofs.lemmas.Grind.{common_steps}
-use Rattle.std.proofs.lemmas.Result.{err_from_is_err_and}
-use Rattle.std.specs.Prelude.{Ok}
-use Rattle.store.specs.State.{State, state, returned}
-use Rattle.store.specs.Calls.{opening, release_cue, release_checks}
+use Rattle.store.specs.State.{state}
+use Rattle.store.specs.Calls.{release_cue, release_checks}
 use Rattle.store.specs.laws.Release.{release_shut, release_done}
 use Rattle.store.proofs.sweep.release_cue.Goals as goal
-
-pub sweep-requires : goal.sweep-requires
-sweep-requires c = (ap opening (sym c.in_ok-store.ensures) ∙ c.in_ok-store.store.opens, ap returned (sym (ap (release_checks c.args.cue) c.in_ok-store.ensures) ∙ sym c.in_ok-n.ensures))
 
 -- row 4 or 5
 pub returns-in_err-store : goal.returns-in_err-store

@@ -64,9 +64,6 @@ loop-h-preserved-then-is_of_cue c =
     let l = c.loop-h in
     (l.invariant.0, omega (arith, l.invariant.1), pass_takes l.invariant.2 seen of_cue_lem _ _ cleared c.merge_end_at-h.ensures)
 
-pub settle-requires : goal.settle-requires
-settle-requires c = let k = c.loop-h.invariant.2.kept in (k.room, k.high)
-
 pub loop-h-smaller : goal.loop-h-smaller
 loop-h-smaller c =
     let seen : let l = c.loop-h in Seen l.image l.h c.read_header-d.result = let l = c.loop-h in pass_sees l.invariant.2 _ (λ e. omega (arith, l.invariant.0)) c.read_header-d.ensures in
@@ -79,20 +76,6 @@ loop-h-preserved c =
     let l = c.loop-h in
     let t = sym c.is_of_cue.ensures ∙ c.if-is_of_cue.false in
     (omega (arith, l.invariant.0), l.invariant.1, rw (c.settle.ensures, c.merge_start_behind-from.ensures) (pass_passes l.invariant.2 seen t))
-
-pub settle-requires-2 : goal.settle-requires-2
-settle-requires-2 c =
-    let l = c.loop-h in
-    ((λ t. let r : l.run ≡ true = cc in omega (arith, l.invariant.2.kept.room r, l.invariant.2.kept.high, l.invariant.0)), omega (arith, l.invariant.0))
-
-pub write_total-requires : goal.write_total-requires
-write_total-requires c =
-    let o = opening_parts _ _ c.requires.0 in
-    omega (arith, o.long, c.loop-h.invariant.0)
-
--- the image is as long as before
-pub shape_of-image : goal.shape_of-image
-shape_of-image c = omega (arith, c.loop-h.invariant.0)
 
 -- the last run and the total are written, and the goal reached
 pub returns : goal.returns
@@ -112,6 +95,3 @@ pub overflow_add-next : goal.overflow_add-next
 overflow_add-next c =
     let seen : let l = c.loop-h in Seen l.image l.h c.read_header-d.result = let l = c.loop-h in pass_sees l.invariant.2 _ (λ e. omega (arith, l.invariant.0)) c.read_header-d.ensures in
     let e = seen in omega (arith, e.inside)
-
-pub shape_of-table : goal.shape_of-table
-shape_of-table c = c.loop-h.invariant.1

@@ -1,7 +1,6 @@
 -- `store::Opened::allocatable` meets its contract: 7 or 8 as first fit ends, then 9 (`entry_holds`), then 22. Assumes nothing.
-use Rattle.std.proofs.Common.{arith, sym, ap, ◌∙◌}
+use Rattle.std.proofs.Common.{arith, sym, ◌∙◌}
 use Rattle.std.proofs.lemmas.Grind.{common_steps}
-use Rattle.std.proofs.lemmas.Result.{err_from_is_err_and}
 use Rattle.block.specs.laws.FirstFit.{first_fit_lowest}
 use Rattle.store.specs.Opened.{seen}
 use Rattle.store.specs.laws.Entries.{tagged_in}

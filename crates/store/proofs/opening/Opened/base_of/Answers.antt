@@ -1,5 +1,5 @@
 -- `store::Opened::base_of` meets its contract: 10 and 11 (`locate`), then 15. Assumes nothing.
-use Rattle.std.proofs.Common.{arith, sym, ap, ◌∙◌}
+use Rattle.std.proofs.Common.{arith, sym}
 use Rattle.std.proofs.lemmas.Grind.{common_steps}
 use Rattle.std.proofs.lemmas.Result.{err_from_is_err_and}
 use Rattle.store.proofs.Bases.{free_unread_tag, free_aside, free_at_base}

@@ -1,7 +1,5 @@
 -- `store::Opened::cue_releasable` meets its contract: row 7 as the walk ends, then 21 and 22 of what it has gathered. Assumes nothing.
-use Rattle.std.proofs.Common.{arith, sym, ap, ◌∙◌}
-use Rattle.std.proofs.lemmas.Grind.{common_steps}
-use Rattle.std.proofs.lemmas.Result.{err_from_is_err_and}
+use Rattle.std.proofs.Common.{arith, sym, ◌∙◌}
 use Rattle.block.specs.laws.Gathering.{cue_live}
 use Rattle.block.specs.laws.Soundness.{sound_low}
 use Rattle.block.specs.laws.Turns.{seen_at, live_holds}
@@ -22,7 +20,7 @@ pub overflow_add-given : goal.overflow_add-given
 overflow_add-given c = omega (arith, c.loop-d.invariant.small, (seen_at _ _ _ (sym c.in-Some.ensures)).inside)
 
 pub still_held-held-requires : goal.still_held-held-requires
-still_held-held-requires c = 
+still_held-held-requires c =
     let at = seen_at _ _ _ (sym c.in-Some.ensures) in
     let live = cue_live _ c.in-Some.d (sym c.if-is_of_cue.ensures) in
     entry_needs (seen c.args.self.now) _ _ _ (opens c.args.self.now) (sound_low _ _ at.is_sound) (omega (arith, live_holds at live, at.inside))
@@ -34,7 +32,7 @@ pub loop-d-smaller : goal.loop-d-smaller
 loop-d-smaller c = let at = seen_at _ _ _ (sym c.in-Some.ensures) in omega (arith, at.inside, at.long)
 
 pub loop-d-preserved : goal.loop-d-preserved
-loop-d-preserved c = 
+loop-d-preserved c =
     let at = seen_at _ _ _ (sym c.in-Some.ensures) in
     let g = c.loop-d.invariant in
     elim c.if-is_of_cue.branch [

@@ -3,10 +3,10 @@
 use Rattle.std.proofs.Common.{arith, sym, ap, ◌∙◌}
 use Rattle.std.proofs.lemmas.Grind.{common_steps}
 use Rattle.std.proofs.lemmas.Result.{err_from_is_err_and}
-use Rattle.std.specs.Prelude.{◌≡◌, ℤ, pos, take, drop}
+use Rattle.std.specs.Prelude.{ℤ, take, drop}
 use lib.IntN.{nat_abs}
 use mir.Syntax.{w64}
-use mir.Val.{SFits, to_z, of_z}
+use mir.Val.{SFits}
 use mir.Facts.{to_z-of_z}
 use Rattle.std.proofs.Common.{ap₂, rules}
 use Rattle.frame.specs.declared.parts.Pointer.{Pointer}
@@ -26,21 +26,15 @@ returns-in_err-object c = let p = err_from_is_err_and c.from_residual.result c.f
 pub returns-then-not-in_body : goal.returns-then-not-in_body
 returns-then-not-in_body c = grind (arith, common_steps, text_out)
 
-pub overflow_cast-object : goal.overflow_cast-object
-overflow_cast-object c = 
-    let ahead = body_ahead _ _ (seen c.args.self.now) _ (sym c.in_ok-object.ensures) c.args.self.now.opens (sym c.if-not-in_body.ensures) in
-    let fits : SFits w64 c.in_ok-object.object.remaining = search rules in
-    rw (to_z-of_z fits ∙ ahead.remaining) (tt, record { fits = omega (arith, ahead.inside, ahead.short) })
-
 pub find_text-requires : goal.find_text-requires
-find_text-requires c = 
+find_text-requires c =
     let ahead = body_ahead _ _ (seen c.args.self.now) _ (sym c.in_ok-object.ensures) c.args.self.now.opens (sym c.if-not-in_body.ensures) in
     let fits : SFits w64 c.in_ok-object.object.remaining = search rules in
     rw (to_z-of_z fits ∙ ahead.remaining) (omega (arith, ap (λ (p : Pointer). p.address) c.unpack-at.ensures, ahead.inside))
 
 -- the length, or row 20
 pub returns : goal.returns
-returns c = 
+returns c =
     let ahead = body_ahead _ _ (seen c.args.self.now) _ (sym c.in_ok-object.ensures) c.args.self.now.opens (sym c.if-not-in_body.ensures) in
     let fits : SFits w64 c.in_ok-object.object.remaining = search rules in
     c.ok_or.ensures.value
