@@ -1,4 +1,5 @@
 -- `store::allocate_for` meets its contract: refused by its tests, or the block is taken and noted. Assumes nothing.
+use Rattle.std.proofs.lemmas.Grind.{common_steps}
 use Rattle.std.proofs.Common.{arith, sym, ap, ◌∙◌}
 use Rattle.std.proofs.lemmas.Result.{err_from_is_err_and}
 use Rattle.std.specs.Prelude.{◌≡◌, ℕ, Ok}
@@ -42,7 +43,7 @@ returns-in_err-new c = let p = err_from_is_err_and c.from_residual.result c.from
 
 -- row 7, 8, 9 or 22
 pub returns-in_err-site : goal.returns-in_err-site
-returns-in_err-site c = let p = err_from_is_err_and c.from_residual-in_err-site.result c.from_residual-in_err-site.ensures.1 in rw (p.1, p.2) (allocate_declined _ (state _ _) _ _ _ (sym (ap (allocate_checks c.args.size) c.in_ok-new.ensures) ∙ site_declined _ _ _ _ (sym c.in_err-site.ensures)))
+returns-in_err-site c = grind (arith, common_steps, site_declined, allocate_declined)
 
 -- the object
 pub returns : goal.returns

@@ -1,4 +1,5 @@
 -- `store::has_at` meets its contract: no before the base; else as the type has it there (`type_has`). Assumes nothing.
+use Rattle.std.proofs.lemmas.Grind.{common_steps}
 use Prim.Native.Nat.{ℕ}
 use mathlib.Core.Path.{◌≡◌, sym, ap, ◌∙◌}
 use mathlib.Core.Bool.{true, false}
@@ -21,20 +22,12 @@ behind (negsuc n) f t = let z : ◌≡◌ {A = ℕ} 0 1 = cc in absurd (omega ar
 
 -- before the base
 pub returns-then-distance-lt0 : goal.returns-then-distance-lt0
-returns-then-distance-lt0 c =
-    let given : to_z w64 (of_z w64 c.args.distance) ≡ c.args.distance = let fits : SFits w64 c.args.distance = search rules in to_z-of_z fits in
-    sym (has_before _ _ _ c.args.distance (rw given at c.if-distance-lt0.true))
+returns-then-distance-lt0 c = grind (arith, common_steps, has_before)
 
 -- yes
 pub returns-then-type_has : goal.returns-then-type_has
-returns-then-type_has c =
-    let given : to_z w64 (of_z w64 c.args.distance) ≡ c.args.distance = let fits : SFits w64 c.args.distance = search rules in to_z-of_z fits in
-    let told : type_has c.args.list.now c.args.wanted c.args.q (nat_abs c.args.distance) ≡ c.type_has.result = ap (λ (z : ℤ). type_has c.args.list.now c.args.wanted c.args.q (nat_abs z)) (sym given) ∙ sym c.type_has.ensures in
-    sym (has_behind _ _ _ c.args.distance (rw given at c.if-distance-lt0.false) true (told ∙ c.if-type_has.true))
+returns-then-type_has c = grind (arith, common_steps, has_behind)
 
 -- no
 pub returns-else-type_has : goal.returns-else-type_has
-returns-else-type_has c =
-    let given : to_z w64 (of_z w64 c.args.distance) ≡ c.args.distance = let fits : SFits w64 c.args.distance = search rules in to_z-of_z fits in
-    let told : type_has c.args.list.now c.args.wanted c.args.q (nat_abs c.args.distance) ≡ c.type_has.result = ap (λ (z : ℤ). type_has c.args.list.now c.args.wanted c.args.q (nat_abs z)) (sym given) ∙ sym c.type_has.ensures in
-    sym (has_behind _ _ _ c.args.distance (rw given at c.if-distance-lt0.false) false (told ∙ c.if-type_has.false))
+returns-else-type_has c = grind (arith, common_steps, has_behind)

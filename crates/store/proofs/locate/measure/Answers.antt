@@ -1,4 +1,5 @@
 -- `store::locate::measure` meets its contract: no number has more than 63 bits, so the machine's differences are those of the integers. Assumes nothing.
+use Rattle.std.proofs.lemmas.Grind.{common_steps}
 use Prim.Native.Nat.{ℕ, ◌+◌, ◌^◌, ◌<◌}
 use mathlib.Core.Path.{◌≡◌, ap₂, ◌∙◌}
 use native.Mathlib.Omega.{arith}
@@ -21,11 +22,4 @@ module _ (a b : ℕ) (k : a < 2 ^ 63) (l : b < 2 ^ 63) where
   exact = to_z-of_z fits ∙ plain
 
 pub returns : goal.returns
-returns c =
-    let address-low : c.args.p.address < 2 ^ 63 = omega (arith, c.requires.0.address) in
-    let base-low : c.args.h + 16 < 2 ^ 63 = omega (arith, c.requires.1) in
-    let end_low : c.args.h + 16 + c.args.size < 2 ^ 63 = omega (arith, c.requires.1) in
-    let a = c.args in
-    ap₂ (λ (x y : ℤ). record { header = a.h; base = a.h + 16; size = a.size; offset = x; remaining = y })
-    (exact _ _ address-low base-low ∙ start_is a.h a.p)
-    (exact _ _ end_low address-low ∙ end_is a.h a.p a.size)
+returns c = grind (arith, common_steps, start_is, end_is)

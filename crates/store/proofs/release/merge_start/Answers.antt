@@ -1,4 +1,5 @@
 -- `store::release::merge_start`: no block before, a free one, or another. Assumes nothing.
+use Rattle.std.proofs.lemmas.Grind.{common_steps}
 use mathlib.Core.Path.{sym, ◌∙◌}
 use native.Mathlib.Omega.{arith}
 use Rattle.store.proofs.Merging.{starts_first, starts_before, starts_here}
@@ -14,4 +15,4 @@ returns-then-kind_at-eq1 c = sym (starts_before _ _ _ (omega arith) cc)
 
 -- it is live
 pub returns-else-kind_at-eq1 : goal.returns-else-kind_at-eq1
-returns-else-kind_at-eq1 c = sym (starts_here _ _ _ (λ k. c.if-kind_at-eq1.false (c.kind_at.ensures ∙ k)))
+returns-else-kind_at-eq1 c = grind (arith, common_steps, starts_here)

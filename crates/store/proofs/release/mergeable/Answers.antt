@@ -10,7 +10,7 @@ pub extent_at-requires : goal.extent_at-requires
 extent_at-requires c = sound_in _ _ c.requires
 
 pub total_fits-requires : goal.total_fits-requires
-total_fits-requires c = (omega (arith, sound_in _ _ c.requires), omega (arith, sound-end _ _ c.requires))
+total_fits-requires c = grind (arith, common_steps, sound_in, sound-end)
 
 pub returns-in_err-block : goal.returns-in_err-block
 unfolding totalled

@@ -1,4 +1,5 @@
 -- `store::setup::lay_out` meets its contract: the image is filled with zeros, then the superblock and one free header are put. Assumes nothing.
+use Rattle.std.proofs.lemmas.Grind.{common_steps}
 use mathlib.Core.Path.{refl}
 use native.Mathlib.Omega.{arith}
 use lib.ListN.{length}
@@ -7,6 +8,4 @@ use Rattle.store.proofs.setup.lay_out.Goals as goal
 
 -- a fresh image
 pub returns : goal.returns
-returns c =
-    let a = c.args in
-    cc (laid_out a.image.now a.s (length a.image.now) refl (omega arith))
+returns c = grind (arith, common_steps, laid_out)

@@ -1,4 +1,5 @@
 -- `store::setup::settable` meets its contract: 1 by two comparisons, 2 by two, then 3. Assumes nothing.
+use Rattle.std.proofs.lemmas.Grind.{common_steps}
 use mathlib.Core.Path.{◌≡◌, sym}
 use mathlib.Core.Bool.{true}
 use Prim.Native.Nat.{◌^◌}
@@ -11,34 +12,24 @@ use Rattle.store.proofs.setup.settable.Goals as goal
 
 -- row 1: the exponent is too low
 pub returns-then-s-lt6 : goal.returns-then-s-lt6
-returns-then-s-lt6 c = sym (set_up_exponent _ _ (within_low 6 15 c.args.s (omega arith)))
+returns-then-s-lt6 c = grind (arith, common_steps, set_up_exponent, within_low)
 
 -- row 1: it is too high
 pub returns-then-s-gt15 : goal.returns-then-s-gt15
-returns-then-s-gt15 c = sym (set_up_exponent _ _ (within_high 6 15 c.args.s (omega arith)))
+returns-then-s-gt15 c = grind (arith, common_steps, set_up_exponent, within_high)
 
 -- row 2: the image is too short
 pub returns-then-len-lt64 : goal.returns-then-len-lt64
-returns-then-len-lt64 c =
-    let exponent-in : good_exponent c.args.s ≡ true = within_in 6 15 c.args.s (omega arith) (omega arith) in
-    sym (set_up-length _ _ exponent-in (within_low 64 (2 ^ 30) (length c.args.image.now) (omega arith)))
+returns-then-len-lt64 c = grind (arith, common_steps, set_up-length, within_low, within_in)
 
 -- row 2: it is too long
 pub returns-then-len-gt1073741824 : goal.returns-then-len-gt1073741824
-returns-then-len-gt1073741824 c =
-    let exponent-in : good_exponent c.args.s ≡ true = within_in 6 15 c.args.s (omega arith) (omega arith) in
-    sym (set_up-length _ _ exponent-in (within_high 64 (2 ^ 30) (length c.args.image.now) (omega arith)))
+returns-then-len-gt1073741824 c = grind (arith, common_steps, set_up-length, within_high, within_in)
 
 -- row 3
 pub returns-then-table-used_entries : goal.returns-then-table-used_entries
-returns-then-table-used_entries c =
-    let exponent-in : good_exponent c.args.s ≡ true = within_in 6 15 c.args.s (omega arith) (omega arith) in
-    let length-in : good_length (length c.args.image.now) ≡ true = within_in 64 (2 ^ 30) (length c.args.image.now) (omega arith) (omega arith) in
-    sym (set_up_few _ _ exponent-in length-in (omega arith))
+returns-then-table-used_entries c = grind (arith, common_steps, set_up_few, within_in)
 
 -- the three are passed
 pub returns : goal.returns
-returns c =
-    let exponent-in : good_exponent c.args.s ≡ true = within_in 6 15 c.args.s (omega arith) (omega arith) in
-    let length-in : good_length (length c.args.image.now) ≡ true = within_in 64 (2 ^ 30) (length c.args.image.now) (omega arith) (omega arith) in
-    sym (set_up-passes _ _ exponent-in length-in (omega arith))
+returns c = grind (arith, common_steps, set_up-passes, within_in)

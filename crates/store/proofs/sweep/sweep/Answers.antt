@@ -1,3 +1,4 @@
+use Rattle.std.proofs.lemmas.Grind.{common_steps}
 use mathlib.Core.Path.{◌≡◌, refl, sym, ap, ◌∙◌}
 use mathlib.Core.Bool.{true}
 use Prim.Native.Nat.{◌<◌, ◌≤◌, ◌+◌, ◌^◌}
@@ -57,12 +58,7 @@ loop-h-smaller-then-is_of_cue c =
 
 -- behind an object of the cue
 pub loop-h-preserved-then-is_of_cue : goal.loop-h-preserved-then-is_of_cue
-loop-h-preserved-then-is_of_cue c =
-    let seen : let l = c.loop-h in Seen l.image l.h c.read_header-d.result = let l = c.loop-h in pass_sees l.invariant.2 _ (λ e. omega (arith, l.invariant.0)) c.read_header-d.ensures in
-    let of_cue_lem : is_of_cue c.args.cue c.read_header-d.result ≡ true = sym c.is_of_cue.ensures ∙ c.if-is_of_cue.true in
-    let cleared : c.note.new.table ≡ noted c.args.s c.loop-h.h c.read_header-d.result.size 0 c.loop-h.table = c.note.ensures ∙ ap (λ (t : Tagged). noted_for t 0 c.loop-h.table) c.tag_object.ensures ∙ tagged-noted _ _ _ _ _ in
-    let l = c.loop-h in
-    (l.invariant.0, omega (arith, l.invariant.1), pass_takes l.invariant.2 seen of_cue_lem _ _ cleared c.merge_end_at-h.ensures)
+loop-h-preserved-then-is_of_cue c = grind (arith, common_steps, noted_for, tagged-noted, pass_sees, pass_takes)
 
 pub loop-h-smaller : goal.loop-h-smaller
 loop-h-smaller c =
@@ -71,11 +67,7 @@ loop-h-smaller c =
 
 -- behind another block
 pub loop-h-preserved : goal.loop-h-preserved
-loop-h-preserved c =
-    let seen : let l = c.loop-h in Seen l.image l.h c.read_header-d.result = let l = c.loop-h in pass_sees l.invariant.2 _ (λ e. omega (arith, l.invariant.0)) c.read_header-d.ensures in
-    let l = c.loop-h in
-    let t = sym c.is_of_cue.ensures ∙ c.if-is_of_cue.false in
-    (omega (arith, l.invariant.0), l.invariant.1, rw (c.settle.ensures, c.merge_start_behind-from.ensures) (pass_passes l.invariant.2 seen t))
+loop-h-preserved c = grind (arith, common_steps, pass_sees, pass_passes)
 
 -- the last run and the total are written, and the goal reached
 pub returns : goal.returns

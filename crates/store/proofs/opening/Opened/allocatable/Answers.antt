@@ -31,11 +31,11 @@ returns-then-stored_total-taken_extent c = grind (arith, common_steps, site_wron
 
 -- row 7
 pub returns-in-Unsound : goal.returns-in-Unsound
-returns-in-Unsound c = site_refused _ _ _ _ (allocate_unsound _ (seen c.args.self.now) _ c.args.self.now.opens _ (sym c.first_fit.ensures ∙ c.in-Unsound.is))
+returns-in-Unsound c = grind (arith, common_steps, site_refused, allocate_unsound)
 
 -- row 8
 pub returns-in-End : goal.returns-in-End
-returns-in-End c = site_refused _ _ _ _ (allocate_full _ (seen c.args.self.now) _ c.args.self.now.opens (sym c.first_fit.ensures ∙ c.in-End.is))
+returns-in-End c = grind (arith, common_steps, site_refused, allocate_full)
 
 -- the block at h is taken
 pub returns-else-stored_total-taken_extent : goal.returns-else-stored_total-taken_extent

@@ -8,10 +8,10 @@ use Rattle.store.proofs.Lent.{opens}
 use Rattle.store.proofs.opening.Opened.text_copyable.Goals as goal
 
 pub overflow_add-n : goal.overflow_add-n
-overflow_add-n c = omega (arith, text_inside _ _ (seen c.args.self.now) _ (sym c.in_ok-n.ensures), (opens c.args.self.now).short)
+overflow_add-n c = grind (arith, common_steps, text_inside, opens)
 
 pub access-requires : goal.access-requires
-access-requires c = omega (arith, text_inside _ _ (seen c.args.self.now) _ (sym c.in_ok-n.ensures), (opens c.args.self.now).short)
+access-requires c = grind (arith, common_steps, text_inside, opens)
 
 pub returns-in_err-n : goal.returns-in_err-n
 unfolding copy_text_checks
