@@ -1,6 +1,6 @@
 -- Row 15 and row 22 of free by what the code tests. Assumes nothing.
 use Rattle.std.specs.Prelude.{◌≡◌, ℕ, true, false, List, Bool, Result, Ok, Err}
-use Rattle.std.proofs.Common.{sym, ap, ◌∙◌}
+use Rattle.std.proofs.Common.{sym, ap, ◌∙◌, eq-eqb, ne_eqb}
 use Rattle.frame.specs.Pointers.{unpack}
 use Rattle.block.specs.Layout.{extent_at}
 use Rattle.block.specs.Walk.{walk_to}
@@ -11,7 +11,6 @@ use Rattle.store.specs.declared.answer.Refusal.{Refusal}
 use Rattle.store.specs.declared.answer.Refusal.TheVariants.{NotBase, WrongTotal}
 use Rattle.store.specs.declared.locate.Reading.{Reading}
 use Rattle.store.specs.declared.release.FreedBlock.{FreedBlock}
-use borrow.Author.Tests.{eq-eqb, ne_eqb}
 
 module _ (word : ℕ) (x : State) (s : ℕ) (opens : opening x ≡ Ok s) where
   -- row 10 or 11

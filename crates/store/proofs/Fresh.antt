@@ -1,13 +1,10 @@
 -- Set-up: ranges, clearing entries, laying out a fresh image. Assumes nothing.
-use mathlib.Core.Path.{◌≡◌, refl, sym, ap, ◌∙◌}
-use mathlib.Core.Bool.{true, false, and-false}
-use mathlib.Core.List.{List, [], ◌++◌, append-nil}
-use Prim.Native.Nat.{ℕ, suc, ◌+◌, ◌-◌, ◌≤◌, ◌<◌}
-use native.Mathlib.Numerals.{add-one}
-use native.Mathlib.Omega.{arith}
-use lib.ListN.{length, drop, get_or, set, replicate, length-replicate, replicate-append-replicate}
-use lib.Seq.{drop-cons, set_at, append_snoc}
-use borrow.Author.Tests.{le-leb, lt-leb}
+use Rattle.std.specs.Prelude.{◌≡◌, refl, true, false, List, [], ◌++◌, ℕ, suc, ◌+◌, ◌-◌, ◌≤◌, ◌<◌, length, drop, get_or, set, replicate}
+use Rattle.std.proofs.Common.{sym, ap, ◌∙◌, append-nil, add-one, arith, drop-cons, le-leb}
+use mathlib.Core.Bool.{and-false}
+use lib.ListN.{length-replicate, replicate-append-replicate}
+use lib.Seq.{set_at, append_snoc}
+use borrow.Author.Tests.{lt-leb}
 use Rattle.block.specs.Bytes.{put}
 use Rattle.block.specs.laws.Writes.{put-at}
 use Rattle.block.specs.Layout.{within, superblock, free_header}

@@ -1,14 +1,10 @@
 -- Free, way out by way out: where the merged block starts and ends, and the bytes of it. Assumes nothing.
 use Rattle.store.specs.Calls.{merge_of}
-use Rattle.std.specs.Prelude.{Some, Err}
-use mathlib.Core.Path.{◌≡◌, refl, sym, ap, ◌∙◌}
-use mathlib.Core.Bool.{true, false, cond, and-false}
-use mathlib.Core.List.{List, ◌++◌}
-use Prim.Native.Nat.{ℕ, ◌+◌, ◌-◌, ◌≤◌, ◌<◌}
-use native.Mathlib.Omega.{arith}
-use lib.Dec.{ltb, eqb}
-use lib.ListN.{length, replicate, length-replicate, replicate-append-replicate}
-use borrow.Author.Tests.{le-leb, lt-leb, le-ltb, eq-eqb, ne_eqb}
+use Rattle.std.specs.Prelude.{Some, Err, ◌≡◌, refl, true, false, cond, List, ◌++◌, ℕ, ◌+◌, ◌-◌, ◌≤◌, ◌<◌, ltb, eqb, length, replicate}
+use Rattle.std.proofs.Common.{sym, ap, ◌∙◌, arith, le-leb, le-ltb, eq-eqb, ne_eqb}
+use mathlib.Core.Bool.{and-false}
+use lib.ListN.{length-replicate, replicate-append-replicate}
+use borrow.Author.Tests.{lt-leb}
 use Rattle.block.specs.Bytes.{put}
 use Rattle.block.specs.Layout.{free_header, sound, extent_at, kind_at, header_at}
 use Rattle.block.specs.Walk.{walk_to}

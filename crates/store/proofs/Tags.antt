@@ -1,7 +1,7 @@
 -- Reading a tag by what the code tests of it: in place of the header, the size of the object that its place leads to. Assumes nothing.
 use Rattle.std.specs.Prelude.{◌≡◌, ℕ, ◌+◌, ◌≤◌, ◌<◌, Bool, true, false, ◌&&◌, List, length, get_or, pos, Some, None, Ok, Err, Result}
-use Rattle.std.specs.Int.Signed.{le_z}
 use Rattle.std.proofs.Common.{◌∙◌, ap, arith, sym}
+use Rattle.std.specs.Int.Signed.{le_z}
 use Rattle.frame.specs.Frame.{frame_start}
 use Rattle.frame.specs.Pointers.{good_tag}
 use Rattle.frame.specs.Tags.{entry_at}

@@ -2,9 +2,9 @@
 -- In order: the extent that is taken; what is known where its rows are passed; each row, and what is left by the answer; its outcomes; the carved image;
 -- the image that is left. Assumes nothing.
 use Rattle.std.specs.Prelude.{ℕ, ◌+◌, ◌^◌, ◌≤◌, ◌<◌, ◌-◌, ◌≡◌, true, false, List, leb, ltb, length, Err, Ok, Result}
+use Rattle.std.proofs.Common.{sym, ap, ◌∙◌, arith, inl, leb-true, le-leb, ltb-true, lt-ltb, le-ltb, ltb-false}
 use Rattle.std.proofs.Math.Path.{refl}
-use Rattle.std.proofs.Common.{sym, ap, ◌∙◌, arith, inl}
-use borrow.Author.Tests.{leb-true, le-leb, lt-leb, ltb-true, lt-ltb, le-ltb, ltb-false}
+use borrow.Author.Tests.{lt-leb}
 use Rattle.frame.specs.Tags.{pointer_to, entry_of}
 use Rattle.frame.specs.laws.Pointers.{pack_small}
 use Rattle.frame.specs.laws.Tags.{tagged, pointer_range}

@@ -1,9 +1,9 @@
 -- Type check before a cast: row 25, the answer, and the call's rows. Assumes nothing.
 use Rattle.std.specs.Prelude.{ℕ, ◌≤◌, ◌<◌, ◌≡◌, Bool, true, false, cond, List, ◌⊎◌, length, leb, ℤ, pos, negsuc, nat_abs, Err, None, Ok, Option, Some}
+use Rattle.std.proofs.Common.{sym, ap, ◌∙◌, subst, inl, inr, arith, le-leb, leb-true, leb-false, ltb-true}
 use Rattle.std.proofs.Math.Path.{refl}
-use Rattle.std.proofs.Common.{sym, ap, ◌∙◌, subst, inl, inr, arith}
 use Rattle.std.specs.Int.Signed.{lt_z}
-use borrow.Author.Tests.{le-leb, lt-leb, leb-true, leb-false, ltb-true}
+use borrow.Author.Tests.{lt-leb}
 use Rattle.frame.specs.Pointers.{unpack}
 use Rattle.block.specs.Layout.{type_at, size_at}
 use Rattle.block.specs.laws.Booleans.{by_bool}

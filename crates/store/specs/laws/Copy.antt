@@ -1,7 +1,6 @@
 -- Copy: its rows, what is known where they are passed, and what it leaves. Assumes nothing.
 use Rattle.std.specs.Prelude.{ℕ, ◌≤◌, ◌<◌, ◌≡◌, true, false, ◌&&◌, Bool, ltb, take, drop, Err, Ok}
-use Rattle.std.proofs.Common.{sym, ◌∙◌, subst, arith}
-use borrow.Author.Tests.{lt-ltb, ltb-true, ltb-false}
+use Rattle.std.proofs.Common.{sym, ◌∙◌, subst, arith, lt-ltb, ltb-true, ltb-false}
 use Rattle.frame.specs.Pointers.{unpack}
 use Rattle.block.specs.Bytes.{put}
 use Rattle.store.specs.State.{State, outcome, demand, refuse}

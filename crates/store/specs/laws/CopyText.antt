@@ -1,7 +1,7 @@
 -- Text copy: its rows, what is known where they are passed, and what it leaves. Assumes nothing.
 use Rattle.std.specs.Prelude.{ℕ, ◌+◌, ◌-◌, ◌≤◌, ◌<◌, ◌≡◌, Bool, true, false, ◌&&◌, leb, length, take, drop, Err, None, Ok, Option, Some}
-use Rattle.std.proofs.Math.Path.{refl}
 use Rattle.std.proofs.Common.{sym, ap, subst, arith, length-take}
+use Rattle.std.proofs.Math.Path.{refl}
 use Rattle.frame.specs.Pointers.{unpack}
 use Rattle.frame.specs.declared.parts.Pointer.{Pointer}
 use Rattle.block.specs.Bytes.{put}

@@ -1,8 +1,8 @@
 -- Distances: what the two numbers say, and the call's rows. Assumes nothing.
 use Rattle.store.specs.State.{measured_as}
 use Rattle.std.specs.Prelude.{ℕ, zero, suc, ◌+◌, ◌-◌, ◌≤◌, ◌<◌, ◌≡◌, ◌&&◌, List, ◌↔◌, ltb, ℤ, pos, negsuc, ◌+ℤ◌, ◌-ℤ◌, Err, Ok, Result}
-use Rattle.std.proofs.Math.Path.{refl, sym, ap}
 use Rattle.std.proofs.Common.{◌∙◌, arith, ltb-true, ltb-false, leb-true, leb-false, lt-ltb, le-ltb, le-leb}
+use Rattle.std.proofs.Math.Path.{refl, sym, ap}
 use Rattle.std.proofs.Math.Dec.{leb}
 use Rattle.std.proofs.Math.IntN.{sub_ℕ}
 use Rattle.std.specs.Int.Signed.{mag, le_z}

@@ -3,14 +3,13 @@
 -- image; the image that is left. Assumes nothing.
 use Rattle.store.specs.Calls.{merge_of}
 use Rattle.std.specs.Prelude.{ℕ, ◌+◌, ◌-◌, ◌^◌, ◌≤◌, ◌<◌, Bool, true, false, cond, ◌&&◌, ◌||◌, leb, ltb, eqb, replicate, Err, None, Ok, Option, Result, Some}
+use Rattle.std.specs.Prelude.{List, ◌++◌}
+use Rattle.std.proofs.Common.{sym, ◌∙◌, inl, inr, length-append, append_assoc, arith, le-ltb, lt-ltb, eq-eqb, ne_eqb, ltb-true, eqb-true}
 use Rattle.std.proofs.Math.Path.{◌≡◌, refl, ap}
-use Rattle.std.proofs.Common.{sym, ◌∙◌, inl, inr, length-append}
 use Rattle.std.proofs.Math.Bool.{and-false}
-use mathlib.Core.List.{List, ◌++◌, append_assoc}
-use native.Mathlib.Omega.{arith}
 use Rattle.std.proofs.Math.ListN.{length, take, drop}
 use Rattle.std.proofs.lemmas.List.{length-replicate}
-use borrow.Author.Tests.{lt-leb, le-ltb, lt-ltb, eq-eqb, ne_eqb, ltb-true, eqb-true, eqb-false}
+use borrow.Author.Tests.{lt-leb, eqb-false}
 use Rattle.frame.specs.Pointers.{unpack}
 use Rattle.frame.specs.Tags.{entry_of}
 use Rattle.block.specs.Layout.{superblock_good, slot_exponent, stored_total, with_total, sound, is_free, header_at, extent_at, size_at, fields, free_header}

@@ -1,7 +1,7 @@
 -- Load: its rows, and what it gives. Assumes nothing.
 use Rattle.std.specs.Prelude.{ℕ, ◌≡◌, true, false, Bool, Err, Ok}
-use Rattle.std.proofs.Math.Path.{refl}
 use Rattle.std.proofs.Common.{sym, ap, ◌∙◌}
+use Rattle.std.proofs.Math.Path.{refl}
 use Rattle.frame.specs.Pointers.{unpack}
 use Rattle.block.specs.Bytes.{field}
 use Rattle.store.specs.State.{State, demand, and_then}

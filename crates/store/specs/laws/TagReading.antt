@@ -1,10 +1,9 @@
 -- Reading a tag: rows 10 and 11.
 -- In order: what is known where they are passed, how they are passed, what a write keeps, that an object's pointers lead to it, each way out. Assumes nothing.
 use Rattle.std.specs.Prelude.{ℕ, ◌+◌, ◌*◌, ◌/◌, ◌^◌, ◌≤◌, ◌<◌, ◌≡◌, Bool, true, false, ◌&&◌, List, ltb, eqb, length, get_or, Err, None, Ok, Some}
+use Rattle.std.proofs.Common.{ap, ap₂, ◌∙◌, subst, inl, div-mul-le_self, arith, ltb-true, eqb-true, lt-ltb, eq-eqb, ne_eqb, le-ltb}
 use Rattle.std.proofs.Math.Path.{refl, sym}
-use Rattle.std.proofs.Common.{ap, ap₂, ◌∙◌, subst, inl, div-mul-le_self, arith}
 use Rattle.std.proofs.Math.Bool.{and_assoc, and-true, and-false}
-use borrow.Author.Tests.{ltb-true, eqb-true, lt-ltb, eq-eqb, ne_eqb, le-ltb}
 use Rattle.frame.specs.Frame.{frame_start, same_frame}
 use Rattle.frame.specs.Pointers.{InRange, unpack, good_tag, reach, at}
 use Rattle.frame.specs.Tags.{wrapper, pointer_to, entry_of, tag_matches, entry_at}

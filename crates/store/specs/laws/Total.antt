@@ -1,6 +1,6 @@
 -- The free total: row 22 where bytes are given back, and the call. Assumes nothing.
 use Rattle.std.specs.Prelude.{ℕ, ◌+◌, ◌-◌, ◌≤◌, ◌≡◌, true, List, length, Err, Ok}
-use borrow.Author.Tests.{leb-true, le-leb}
+use Rattle.std.proofs.Common.{leb-true, le-leb}
 use Rattle.block.specs.Layout.{stored_total}
 use Rattle.store.specs.State.{State}
 use Rattle.store.specs.Calls.{opening, total_fits, free_total}

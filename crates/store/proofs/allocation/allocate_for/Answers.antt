@@ -1,8 +1,8 @@
 -- `store::allocate_for` meets its contract: refused by its tests, or the block is taken and noted. Assumes nothing.
 use Rattle.std.proofs.lemmas.Grind.{common_steps}
+use Rattle.std.specs.Prelude.{◌≡◌, ℕ, Ok}
 use Rattle.std.proofs.Common.{arith, sym, ap, ◌∙◌}
 use Rattle.std.proofs.lemmas.Result.{err_from_is_err_and}
-use Rattle.std.specs.Prelude.{◌≡◌, ℕ, Ok}
 use Rattle.frame.specs.laws.Tags.{tagged, tagged_pointer, tagged_pointer_lem, pointer_range}
 use Rattle.frame.specs.declared.tag.Tagged.{Tagged}
 use Rattle.store.specs.State.{State, state}

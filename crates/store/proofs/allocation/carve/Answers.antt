@@ -1,6 +1,6 @@
 -- `store::allocation::carve` meets its contract: the live block takes all of the free one, or a rest of 16 bytes or more stays free. Assumes nothing.
 use Rattle.std.proofs.lemmas.Grind.{common_steps}
-use native.Mathlib.Omega.{arith}
+use Rattle.std.proofs.Common.{arith}
 use Rattle.block.specs.laws.Soundness.{sound_in, sound-end}
 use Rattle.store.specs.laws.Allocate.{carved-whole, carved_rest}
 use Rattle.store.proofs.allocation.carve.Goals as goal

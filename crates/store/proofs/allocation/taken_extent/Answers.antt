@@ -1,6 +1,6 @@
 -- `store::allocation::taken_extent` meets its contract: all of the free block, or a rest of 16 bytes or more stays free. Assumes nothing.
 use Rattle.std.proofs.lemmas.Grind.{common_steps}
-use native.Mathlib.Omega.{arith}
+use Rattle.std.proofs.Common.{arith}
 use Rattle.block.specs.laws.Soundness.{sound_in}
 use Rattle.store.specs.laws.Allocate.{taken_whole, taken_rest}
 use Rattle.store.proofs.allocation.taken_extent.Goals as goal

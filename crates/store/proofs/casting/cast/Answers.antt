@@ -1,11 +1,7 @@
 -- `store::cast` meets its contract: 25, then the answer. Assumes nothing.
-use Rattle.std.proofs.Common.{sym, ap, ◌∙◌}
-use Rattle.std.proofs.lemmas.Result.{err_from_is_err_and}
-use mir.Syntax.{w64}
-use mir.Val.{SFits}
-use mir.Facts.{to_z-of_z}
-use Rattle.std.proofs.Common.{rules}
 use Rattle.std.specs.Prelude.{Ok}
+use Rattle.std.proofs.Common.{sym, ap, ◌∙◌, w64, SFits, to_z-of_z, rules}
+use Rattle.std.proofs.lemmas.Result.{err_from_is_err_and}
 use Rattle.descriptors.specs.laws.Lists.{lookup_stands}
 use Rattle.store.specs.Calls.{has_at}
 use Rattle.store.specs.laws.Casts.{described_parts, cast_undescribed, cast_described}

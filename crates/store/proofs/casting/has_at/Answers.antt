@@ -1,18 +1,9 @@
 -- `store::has_at` meets its contract: no before the base; else as the type has it there (`type_has`). Assumes nothing.
 use Rattle.std.proofs.lemmas.Grind.{common_steps}
-use Prim.Native.Nat.{ℕ}
-use mathlib.Core.Path.{◌≡◌, sym, ap, ◌∙◌}
-use mathlib.Core.Bool.{true, false}
-use native.Mathlib.Omega.{arith}
-use lib.IntN.{ℤ, pos, negsuc, nat_abs}
-use lib.Dec.{T}
+use Rattle.std.specs.Prelude.{ℕ, ◌≡◌, false, ℤ, pos, negsuc, nat_abs, T}
+use Rattle.std.proofs.Common.{arith, w64, Fits, SFits}
 use lib.Signed.{non_neg, lt_z}
-use mir.Syntax.{w64}
-use mir.Val.{Fits, SFits, to_z, of_z}
-use mir.Facts.{to_z-of_z}
-use Rattle.descriptors.specs.Layouts.{type_has}
 use Rattle.store.specs.laws.Casts.{has_before, has_behind}
-use borrow.Author.Rules.{rules}
 use Rattle.store.proofs.casting.has_at.Goals as goal
 
 -- a number that is not below zero has its own size

@@ -1,8 +1,7 @@
 -- `store::offset` meets its contract: 4 and 5, then 10 and 12 (`offset_in`). Assumes nothing.
-use Rattle.std.proofs.Common.{arith, ap, ◌∙◌}
-use Rattle.std.proofs.lemmas.Grind.{common_steps}
 use Rattle.std.specs.Prelude.{ℤ}
-use mir.Facts.{to_z-of_z}
+use Rattle.std.proofs.Common.{arith, ap, ◌∙◌, to_z-of_z}
+use Rattle.std.proofs.lemmas.Grind.{common_steps}
 use Rattle.store.specs.Calls.{move_answer}
 use Rattle.store.specs.Opened.{seen}
 use Rattle.store.specs.laws.Move.{move_answer_lem}

@@ -1,12 +1,10 @@
 -- `store::coalesce` meets its contract. It ends in one of four ways: the walk does not meet h; the block at h is the last of the image; the header that follows is
 -- unsound; or it is sound. Assumes nothing.
 use Rattle.std.proofs.lemmas.Grind.{common_steps}
+use Rattle.std.specs.Prelude.{◌+◌, ◌<◌, Err, length}
 use Rattle.std.proofs.Common.{arith, sym, ap, ◌∙◌}
 use Rattle.std.proofs.lemmas.Result.{err_from_is_err_and}
-use Rattle.std.specs.Prelude.{◌+◌, ◌<◌, Err, length}
 use Rattle.block.specs.laws.Soundness.{sound_in, sound-end, examined_is_sound, examined_is_unsound}
-use Rattle.block.specs.declared.header.Header.{Header}
-use Rattle.store.specs.Calls.{released}
 use Rattle.store.specs.laws.Free.{released_lost}
 use Rattle.store.proofs.Lent.{ok_or_some, ok_or_none}
 use Rattle.store.proofs.Merging.{meets, before_in, released_last, released_bad, released-next}

@@ -1,8 +1,7 @@
 -- `store::free` meets its contract: refused by its tests, or the block is given back and the entry is cleared. Assumes nothing.
-use Rattle.std.proofs.Common.{arith, sym, ap, ◌∙◌}
-use Rattle.std.proofs.lemmas.Grind.{common_steps}
 use Rattle.std.specs.Prelude.{◌≡◌, ℕ, Ok}
-use Rattle.std.proofs.Common.{subst, lt_of_lt_of_le}
+use Rattle.std.proofs.Common.{arith, sym, ap, ◌∙◌, subst, lt_of_lt_of_le}
+use Rattle.std.proofs.lemmas.Grind.{common_steps}
 use Rattle.frame.specs.Pointers.{unpack}
 use Rattle.frame.specs.laws.Pointers.{good_large, reach-large}
 use Rattle.frame.specs.laws.Wrappers.{entry_used}

@@ -1,7 +1,6 @@
 -- `store::release::merge_start`: no block before, a free one, or another. Assumes nothing.
 use Rattle.std.proofs.lemmas.Grind.{common_steps}
-use mathlib.Core.Path.{sym, ◌∙◌}
-use native.Mathlib.Omega.{arith}
+use Rattle.std.proofs.Common.{sym, arith}
 use Rattle.store.proofs.Merging.{starts_first, starts_before, starts_here}
 use Rattle.store.proofs.release.merge_start.Goals as goal
 

@@ -1,11 +1,6 @@
 -- `store::setup::settable` meets its contract: 1 by two comparisons, 2 by two, then 3. Assumes nothing.
 use Rattle.std.proofs.lemmas.Grind.{common_steps}
-use mathlib.Core.Path.{◌≡◌, sym}
-use mathlib.Core.Bool.{true}
-use Prim.Native.Nat.{◌^◌}
-use native.Mathlib.Omega.{arith}
-use lib.ListN.{length}
-use Rattle.block.specs.Layout.{good_exponent, good_length}
+use Rattle.std.proofs.Common.{arith}
 use Rattle.store.specs.laws.SetUp.{set_up_exponent, set_up-length, set_up_few, set_up-passes}
 use Rattle.store.proofs.Fresh.{within_low, within_high, within_in}
 use Rattle.store.proofs.setup.settable.Goals as goal

@@ -1,12 +1,6 @@
 -- `store::sweep::merge_end_at` meets its contract: at the image's end, or by the block at `next`. Assumes nothing.
 use Rattle.std.proofs.lemmas.Grind.{common_steps}
-use mathlib.Core.Path.{◌≡◌, sym, ap, ◌∙◌}
-use mathlib.Core.Bool.{true}
-use Prim.Native.Nat.{ℕ, ◌+◌, ◌<◌}
-use native.Mathlib.Omega.{arith}
-use lib.ListN.{length}
-use borrow.Author.Tests.{eq-eqb, ne_eqb}
-use Rattle.block.specs.Layout.{sound}
+use Rattle.std.proofs.Common.{sym, arith}
 use Rattle.block.specs.laws.Soundness.{sound_in, sound-end}
 use Rattle.store.specs.laws.Free.{merge_end_last, merge_end-free, merge_end_live}
 use Rattle.store.proofs.sweep.merge_end_at.Goals as goal

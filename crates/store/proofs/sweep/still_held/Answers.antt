@@ -1,10 +1,6 @@
 -- `store::sweep::still_held` meets its contract: the object decides, where those before it are held. Assumes nothing.
 use Rattle.std.proofs.Common.{arith}
 use Rattle.std.proofs.lemmas.Grind.{common_steps}
-use mathlib.Core.Path.{sym, ap, ◌∙◌}
-use mathlib.Core.Bool.{Bool, ◌&&◌}
-use Rattle.frame.specs.declared.tag.Tagged.{Tagged}
-use Rattle.store.specs.Calls.{entry_holds}
 use Rattle.store.specs.laws.Entries.{holds_for, tagged_in, tagged-holds}
 use Rattle.store.proofs.sweep.still_held.Goals as goal
 

@@ -1,17 +1,12 @@
 use Rattle.std.proofs.lemmas.Grind.{common_steps}
-use mathlib.Core.Path.{◌≡◌, refl, sym, ap, ◌∙◌}
-use mathlib.Core.Bool.{true}
-use Prim.Native.Nat.{◌<◌, ◌≤◌, ◌+◌, ◌^◌}
-use native.Mathlib.Omega.{arith}
-use lib.ListN.{length}
+use Rattle.std.specs.Prelude.{◌≡◌, refl, true, ◌<◌, ◌≤◌, ◌+◌, ◌^◌, length}
+use Rattle.std.proofs.Common.{sym, ◌∙◌, arith}
 use Rattle.frame.specs.Tags.{wrapper, entry_of}
-use Rattle.frame.specs.declared.tag.Tagged.{Tagged}
 use Rattle.block.specs.Bytes.{Bytes}
 use Rattle.block.specs.Walk.{is_of_cue}
 use Rattle.block.specs.laws.Soundness.{sound_in}
 use Rattle.block.specs.laws.Turns.{Seen}
 use Rattle.store.specs.State.{state}
-use Rattle.store.specs.Calls.{noted}
 use Rattle.store.specs.laws.Opening.{opening_parts}
 use Rattle.store.specs.laws.Entries.{noted_for, tagged_in, tagged-noted}
 use Rattle.store.proofs.Gathering.{pass_begins}

@@ -1,6 +1,6 @@
 -- `store::Opened::cue_releasable` meets its contract: row 7 as the walk ends, then 21 and 22 of what it has gathered. Assumes nothing.
 use Rattle.std.proofs.lemmas.Grind.{common_steps}
-use Rattle.std.proofs.Common.{arith, sym, ◌∙◌}
+use Rattle.std.proofs.Common.{arith, sym}
 use Rattle.block.specs.laws.Gathering.{cue_live}
 use Rattle.block.specs.laws.Soundness.{sound_low}
 use Rattle.block.specs.laws.Turns.{seen_at, live_holds}

@@ -1,7 +1,6 @@
 -- `store::Opened::text_copyable` meets its contract: the source is read (`text_at`), then `access` of the target, for the length of the text plus one bytes. Assumes nothing.
-use Rattle.std.proofs.Common.{arith, sym}
+use Rattle.std.proofs.Common.{arith}
 use Rattle.std.proofs.lemmas.Grind.{common_steps}
-use Rattle.store.specs.Opened.{seen}
 use Rattle.store.specs.Calls.{copy_text_checks}
 use Rattle.store.specs.laws.CopyText.{text_inside}
 use Rattle.store.proofs.Lent.{opens}
