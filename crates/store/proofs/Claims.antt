@@ -3,7 +3,7 @@
 use Rattle.store.specs.State.{measured_as}
 use Rattle.std.specs.Prelude.{Err, Ok, Result, ℕ, ◌+◌, ◌^◌, ◌≤◌, ◌<◌, ◌≡◌, refl, List, [], ◌∷◌, ◌↔◌, ℤ, pos, ◌+ℤ◌, ◌-ℤ◌, length, take, drop, replicate}
 use Rattle.std.proofs.Common.{sym, ap, ap₂, ◌∙◌, subst, arith, length-append, length-drop, drop_at, length-take-le, eq-eqb}
-use lib.ListN.{length-replicate}
+use Rattle.std.proofs.lemmas.List.{length-replicate}
 use Rattle.frame.specs.Pointers.{unpack, pack}
 use Rattle.frame.specs.Tags.{pointer_to, used_entries}
 use Rattle.frame.specs.declared.parts.Pointer.{Pointer}

@@ -2,7 +2,7 @@
 -- In order: the walk, block by block, and its ways out; what tests that are passed say, with which the pass begins. Assumes nothing.
 use Rattle.std.specs.Prelude.{Err, None, Ok, ℕ, ◌+◌, ◌≤◌, ◌≡◌, refl, Bool, true, false, cond, ◌&&◌, List, [], ◌∷◌, ◌++◌, length}
 use Rattle.std.proofs.Common.{sym, ap, ◌∙◌, subst, append-nil, append_assoc, arith, length-append}
-use mathlib.Core.Bool.{and-true}
+use Rattle.std.proofs.Math.Bool.{and-true}
 use Rattle.block.specs.laws.Booleans.{by_bool, and_left, and_right}
 use Rattle.block.specs.Bytes.{Bytes}
 use Rattle.block.specs.Layout.{stored_total, header_at, extent_at, size_at, sound}

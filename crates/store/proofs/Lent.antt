@@ -23,8 +23,8 @@ module _ (o : Opened) where
 
 pub ok_or_some : {A : Type 0} (o : Option A) (e : Refusal) (v : A) → Ok v ≡ ok_or o e → o ≡ Some v
 ok_or_some (Some w) e v q = let s : v ≡ w = cc in ap Some (sym s)
-ok_or_some None e v q = let z : ◌≡◌ {A = ℕ} 0 1 = cc in absurd (omega arith)
+ok_or_some None e v q = cc
 
 pub ok_or_none : {A : Type 0} (o : Option A) (e r : Refusal) → Err r ≡ ok_or o e → (o ≡ None) × (r ≡ e)
-ok_or_none (Some w) e r q = let z : ◌≡◌ {A = ℕ} 0 1 = cc in absurd (omega arith)
+ok_or_none (Some w) e r q = cc
 ok_or_none None e r q = let s : r ≡ e = cc in (refl, s)

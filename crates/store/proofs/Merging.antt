@@ -2,9 +2,9 @@
 use Rattle.store.specs.Calls.{merge_of}
 use Rattle.std.specs.Prelude.{Some, Err, ◌≡◌, refl, true, false, cond, List, ◌++◌, ℕ, ◌+◌, ◌-◌, ◌≤◌, ◌<◌, ltb, eqb, length, replicate}
 use Rattle.std.proofs.Common.{sym, ap, ◌∙◌, arith, le-leb, le-ltb, eq-eqb, ne_eqb}
-use mathlib.Core.Bool.{and-false}
-use lib.ListN.{length-replicate, replicate-append-replicate}
-use borrow.Author.Tests.{lt-leb}
+use Rattle.std.proofs.Math.Bool.{and-false}
+use Rattle.std.proofs.lemmas.List.{length-replicate, replicate-append-replicate}
+use Rattle.std.proofs.lemmas.Bool.{lt-leb}
 use Rattle.block.specs.Bytes.{put}
 use Rattle.block.specs.Layout.{free_header, sound, extent_at, kind_at, header_at}
 use Rattle.block.specs.Walk.{walk_to}

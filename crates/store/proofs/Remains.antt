@@ -1,7 +1,7 @@
 -- What a release has still to free: the blocks from a place on, with the objects of its cue among them. Assumes nothing.
 use Rattle.std.specs.Prelude.{ℕ, ◌+◌, ◌≤◌, ◌≡◌, refl, true, false, ◌||◌, List, [], ◌∷◌, leb, length}
 use Rattle.std.proofs.Common.{sym, ap, ◌∙◌, subst, arith, le-leb, eq-eqb, ne_eqb}
-use borrow.Author.Tests.{lt-leb}
+use Rattle.std.proofs.lemmas.Bool.{lt-leb}
 use Rattle.frame.specs.Pointers.{pack}
 use Rattle.frame.specs.Tags.{pointer_to}
 use Rattle.block.specs.laws.Booleans.{by_bool, true_false}

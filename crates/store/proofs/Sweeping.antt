@@ -1,7 +1,7 @@
 -- The pass of a release, block by block, on the states that freeing singly goes through. Assumes nothing.
 use Rattle.std.specs.Prelude.{Ok, ℕ, zero, suc, ◌+◌, ◌-◌, ◌≤◌, ◌<◌, ◌≡◌, true, false, List, ◌∷◌, eqb, length}
 use Rattle.std.proofs.Common.{sym, ap, ◌∙◌, subst, arith, eqb-true}
-use borrow.Author.Tests.{eqb-false}
+use Rattle.std.proofs.lemmas.Bool.{eqb-false}
 use Rattle.block.specs.laws.Booleans.{by_bool}
 use Rattle.block.specs.Layout.{stored_total, header_at, extent_at, sound}
 use Rattle.block.specs.laws.Soundness.{sound-extent}

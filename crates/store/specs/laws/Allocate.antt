@@ -4,7 +4,7 @@
 use Rattle.std.specs.Prelude.{ℕ, ◌+◌, ◌^◌, ◌≤◌, ◌<◌, ◌-◌, ◌≡◌, true, false, List, leb, ltb, length, Err, Ok, Result}
 use Rattle.std.proofs.Common.{sym, ap, ◌∙◌, arith, inl, leb-true, le-leb, ltb-true, lt-ltb, le-ltb, ltb-false}
 use Rattle.std.proofs.Math.Path.{refl}
-use borrow.Author.Tests.{lt-leb}
+use Rattle.std.proofs.lemmas.Bool.{lt-leb}
 use Rattle.frame.specs.Tags.{pointer_to, entry_of}
 use Rattle.frame.specs.laws.Pointers.{pack_small}
 use Rattle.frame.specs.laws.Tags.{tagged, pointer_range}
@@ -51,8 +51,8 @@ module _ (image : List ℕ) (h size extent : ℕ) (e : extent ≡ extent_at imag
 pub fit_met : (f : Fit) (next : ℕ → Answer) (v : ℕ) → fit_answer f next ≡ Ok v → (h : ℕ) × (f ≡ fit.At h) × (next h ≡ Ok v)
 unfolding fit_answer
 fit_met (fit.At h) next v e = (h, refl, e)
-fit_met (fit.Unsound h) next v e = let z : ◌≡◌ {A = ℕ} 0 1 = cc in absurd (omega arith)
-fit_met fit.End next v e = let z : ◌≡◌ {A = ℕ} 0 1 = cc in absurd (omega arith)
+fit_met (fit.Unsound h) next v e = cc
+fit_met fit.End next v e = cc
 
 -- the rows of allocate are passed: an object of `size` bytes goes into the free block at h
 pub record Allocates (size : ℕ) (x : State) (h : ℕ) : Type 0 where
@@ -172,7 +172,7 @@ site_at s size h t a p e = rw (p, ← e) refl
 -- and back
 pub site_declined : (s size : ℕ) (a : Answer) (r : Refusal) → site_of s size a ≡ Err r → a ≡ Err r
 unfolding site_of
-site_declined s size (Ok h) r e = let z : ◌≡◌ {A = ℕ} 0 1 = cc in absurd (omega arith)
+site_declined s size (Ok h) r e = cc
 site_declined s size (Err t) r e = let w : t ≡ r = cc in ap Err w
 
 pub site_chosen : (s size : ℕ) (a : Answer) (h : ℕ) (t : Tagged) → site_of s size a ≡ site_with h t → (a ≡ Ok h) × (t ≡ tagged s h size)
@@ -183,7 +183,7 @@ site_chosen s size (Ok k) h t e =
     let q : chosen ≡ wanted = cc in
     let p : k ≡ h = ap (λ (x : Site). x.header) q in
     (ap Ok p, sym (ap (λ (x : Site). x.tagged) q) ∙ ap (λ (j : ℕ). tagged s j size) p)
-site_chosen s size (Err r) h t e = let z : ◌≡◌ {A = ℕ} 0 1 = cc in absurd (omega arith)
+site_chosen s size (Err r) h t e = cc
 
 -- What it comes to, where rows 4 and 5 are passed.
 

@@ -31,7 +31,7 @@ text_endless = refl
 text_answered : (t : Option ℕ) (n : ℕ) → text_answer t ≡ Ok n → t ≡ Some n
 unfolding text_answer
 text_answered (Some m) n e = let q : m ≡ n = cc in ap Some q
-text_answered None n e = let z : ◌≡◌ {A = ℕ} 0 1 = cc in absurd (omega arith)
+text_answered None n e = cc
 
 -- rows 13 and 20, where rows 10 and 11 are passed
 pub text_located : (s : ℕ) (p : Pointer) (x : State) (h : ℕ) → located s p x ≡ Ok h

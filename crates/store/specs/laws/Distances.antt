@@ -58,7 +58,7 @@ difference_least a b n =
 difference_at : (a b n : ℕ) → (sub_ℕ a b ≡ pos n) ↔ (a ≡ b + n)
 difference_at a b n =
     by_difference (λ z. (z ≡ pos n) ↔ (a ≡ b + n)) a b
-    (λ l. ((λ e. let z : ◌≡◌ {A = ℕ} 0 1 = cc in absurd (omega arith)), λ e. absurd (omega arith)))
+    (λ l. ((λ e. cc), λ e. absurd (omega arith)))
     (λ l. ((λ e. let z : a - b ≡ n = cc in omega arith), λ e. ap pos (omega arith)))
 
 -- as the integers subtract

@@ -9,7 +9,7 @@ use Rattle.std.proofs.Math.Path.{◌≡◌, refl, ap}
 use Rattle.std.proofs.Math.Bool.{and-false}
 use Rattle.std.proofs.Math.ListN.{length, take, drop}
 use Rattle.std.proofs.lemmas.List.{length-replicate}
-use borrow.Author.Tests.{lt-leb, eqb-false}
+use Rattle.std.proofs.lemmas.Bool.{lt-leb, eqb-false}
 use Rattle.frame.specs.Pointers.{unpack}
 use Rattle.frame.specs.Tags.{entry_of}
 use Rattle.block.specs.Layout.{superblock_good, slot_exponent, stored_total, with_total, sound, is_free, header_at, extent_at, size_at, fields, free_header}
@@ -148,8 +148,8 @@ released_parts image k h from to e = go (walk_to image k) refl e
             ends = sym (ap (λ (b : FreedBlock). b.to) w);
           },
         ))
-        (λ t. let z : ◌≡◌ {A = ℕ} 0 1 = cc in absurd (omega arith))
-    go None p e = let z : ◌≡◌ {A = ℕ} 0 1 = cc in absurd (omega arith)
+        (λ t. cc)
+    go None p e = cc
 
 -- the same, with the test that found the object
 released_at_parts : (a : Answer) (image : List ℕ) (h from to : ℕ) → released_at a image ≡ merge_of h from to
@@ -158,7 +158,7 @@ unfolding released_at
 released_at_parts (Ok k) image h from to e =
     let (q, before, r) = released_parts image k h from to e in
     rw q (refl, before, r)
-released_at_parts (Err r) image h from to e = let z : ◌≡◌ {A = ℕ} 0 1 = cc in absurd (omega arith)
+released_at_parts (Err r) image h from to e = cc
 
 -- the place in a release is that of the block that is asked for
 pub released-place : (image : List ℕ) (k h from to : ℕ) → released image k (walk_to image k) ≡ merge_of h from to → h ≡ k
@@ -194,8 +194,8 @@ module _ (image : List ℕ) where
       let w : m ≡ wanted = cc in
       let is_place : m.header ≡ h = ap (λ (d : FreedBlock). d.header) w in
       (q, ap (λ (j : ℕ). total_fits image (extent_at image j)) (sym is_place) ∙ b))
-      (λ b. let q : Err WrongTotal ≡ merge_of h from to = rw b at e in let z : ◌≡◌ {A = ℕ} 0 1 = cc in absurd (omega arith))
-  totalled_parts (Err r) h from to e = let z : ◌≡◌ {A = ℕ} 0 1 = cc in absurd (omega arith)
+      (λ b. let q : Err WrongTotal ≡ merge_of h from to = rw b at e in cc)
+  totalled_parts (Err r) h from to e = cc
 
 -- the rows of free are passed: the object at h goes, and a free block reaches from `from` to `to`
 pub record Frees (word : ℕ) (x : State) (h from to : ℕ) : Type 0 where

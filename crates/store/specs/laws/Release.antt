@@ -90,8 +90,8 @@ free_each_one p ps x = refl
 gathered_met : (w : Walked (List ℕ)) (next : List ℕ → Answer) (v : ℕ) → gathered_answer w next ≡ Ok v
     → (places : List ℕ) × (w ≡ ended places) × (next places ≡ Ok v)
 unfolding gathered_answer
-gathered_met (stopped places h) next v e = let z : ◌≡◌ {A = ℕ} 0 1 = cc in absurd (omega arith)
-gathered_met (unsound h) next v e = let z : ◌≡◌ {A = ℕ} 0 1 = cc in absurd (omega arith)
+gathered_met (stopped places h) next v e = cc
+gathered_met (unsound h) next v e = cc
 gathered_met (ended places) next v e = (places, refl, e)
 
 -- the rows of release are passed, for the objects of the cue at these places

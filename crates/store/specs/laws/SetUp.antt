@@ -2,7 +2,7 @@
 use Rattle.std.specs.Prelude.{ℕ, ◌^◌, ◌≤◌, ◌<◌, ◌-◌, ◌≡◌, refl, true, false, leb, length, take, drop, replicate, ◌++◌, Err, Ok}
 use Rattle.std.proofs.Common.{sym, ap, ◌∙◌, arith, length-append, leb-true, le-leb}
 use Rattle.std.proofs.lemmas.List.{length-replicate}
-use borrow.Author.Tests.{lt-leb}
+use Rattle.std.proofs.lemmas.Bool.{lt-leb}
 use Rattle.std.proofs.Math.Seq.{take_at, drop_at}
 use Rattle.frame.specs.Tags.{used_entries}
 use Rattle.block.specs.laws.Booleans.{and_left, and_right}

@@ -92,7 +92,7 @@ located_refusal s p x r e =
     by_bool (good_tag s p)
     (λ g.
     by_bool (leads_back s p x)
-    (λ l. let q : Ok (header_place s p x.table) ≡ Err r = rw (g, l) at e in let z : ◌≡◌ {A = ℕ} 0 1 = cc in absurd (omega arith))
+    (λ l. let q : Ok (header_place s p x.table) ≡ Err r = rw (g, l) at e in cc)
     (λ l. let q : Err Dangling ≡ Err r = rw (g, l) at e in let w : Dangling ≡ r = cc in rw (← w) (omega arith, omega arith)))
     (λ g. let q : Err BadTag ≡ Err r = rw g at e in let w : BadTag ≡ r = cc in rw (← w) (omega arith, omega arith))
 
@@ -302,7 +302,7 @@ read_found s p x o e = go (located s p x) refl
     go (Ok h) q =
         let w : reading h (size_at x.image h) p ≡ o = cc in
         rw (← w) (record { tested = q; read = refl; object = located_parts s p x h q })
-    go (Err r) q = let z : ◌≡◌ {A = ℕ} 0 1 = cc in absurd (omega arith)
+    go (Err r) q = cc
 
 -- why it found nothing
 pub read-refused : (s : ℕ) (p : Pointer) (x : State) (r : Refusal) → read_tag s p x ≡ Err r → located s p x ≡ Err r
@@ -310,5 +310,5 @@ unfolding read_tag found_at
 read-refused s p x r e = go (located s p x) refl
   where
     go : (a : Answer) → located s p x ≡ a → located s p x ≡ Err r
-    go (Ok h) q = let z : ◌≡◌ {A = ℕ} 0 1 = cc in absurd (omega arith)
+    go (Ok h) q = cc
     go (Err t) q = let w : t ≡ r = cc in q ∙ ap Err w

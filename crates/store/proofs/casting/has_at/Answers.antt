@@ -2,14 +2,9 @@
 use Rattle.std.proofs.lemmas.Grind.{common_steps}
 use Rattle.std.specs.Prelude.{ℕ, ◌≡◌, false, ℤ, pos, negsuc, nat_abs, T}
 use Rattle.std.proofs.Common.{arith, w64, Fits, SFits}
-use lib.Signed.{non_neg, lt_z}
+use Rattle.std.specs.Int.Signed.{non_neg, lt_z}
 use Rattle.store.specs.laws.Casts.{has_before, has_behind}
 use Rattle.store.proofs.casting.has_at.Goals as goal
-
--- a number that is not below zero has its own size
-behind : (z : ℤ) → SFits w64 z → lt_z z (pos 0) ≡ false → T (non_neg z) × Fits w64 (nat_abs z)
-behind (pos n) f t = (tt, record { fits = omega (arith, f.sfits) })
-behind (negsuc n) f t = let z : ◌≡◌ {A = ℕ} 0 1 = cc in absurd (omega arith)
 
 -- before the base
 pub returns-then-distance-lt0 : goal.returns-then-distance-lt0
