@@ -3,7 +3,7 @@ use Rattle.std.proofs.Common.{arith}
 use Rattle.std.proofs.lemmas.Grind.{common_steps}
 use Rattle.block.specs.laws.Soundness.{sound_in, sound-end}
 use Rattle.store.specs.Calls.{totalled}
-use Rattle.store.proofs.Bases.{merges_wrongly, merges_in_total}
+use Rattle.store.specs.laws.Free.{released-place}
 use Rattle.store.proofs.release.mergeable.Goals as goal
 
 pub extent_at-requires : goal.extent_at-requires
@@ -17,7 +17,9 @@ unfolding totalled
 returns-in_err-block c = grind (arith, common_steps)
 
 pub returns-then-not-total_fits : goal.returns-then-not-total_fits
-returns-then-not-total_fits c = grind (arith, common_steps, merges_wrongly)
+unfolding totalled
+returns-then-not-total_fits c = grind (arith, common_steps, released-place)
 
 pub returns : goal.returns
-returns c = grind (arith, common_steps, merges_in_total)
+unfolding totalled
+returns c = grind (arith, common_steps, released-place)
