@@ -25,14 +25,6 @@ within_high lo hi x l = simp (and-false, lt-leb _ _ l)
 pub within_in : (lo hi x : ℕ) → lo ≤ x → x ≤ hi → within lo hi x ≡ true
 within_in lo hi x l u = and_both _ _ (le-leb _ _ l) (le-leb _ _ u)
 
--- clearing entries: one entry more
-pub clear_turn : (t : List ℕ) (i : ℕ) → i < length t → set (replicate i 0 ++ drop i t) i 0 ≡ replicate (i + 1) 0 ++ drop (i + 1) t
-clear_turn t i l =
-    ap (λ (x : List ℕ). set (replicate i 0 ++ x) i 0) (drop-cons t i 0 l)
-    ∙ set_at (replicate i 0) (get_or t i 0) (drop (suc i) t) 0 i (length-replicate i 0)
-    ∙ sym (append_snoc (replicate i 0) 0 (drop (suc i) t))
-    ∙ rw (← replicate-append-replicate {A = ℕ} i 1 0, add-one i) refl
-
 -- laying out
 
 -- an image of zeros, where all of it is filled

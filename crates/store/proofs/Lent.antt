@@ -1,6 +1,6 @@
 -- What is known of every `Opened`; what an option says where it is made a result. Assumes nothing.
 use Rattle.std.specs.Prelude.{◌≡◌, ℕ, Option, Some, None, Ok, Err, refl, ok_or}
-use Rattle.std.proofs.Common.{ap, sym, subst, arith}
+use Rattle.std.proofs.Common.{ap, sym, ◌∙◌, subst, arith}
 use Rattle.store.specs.declared.answer.Refusal.{Refusal}
 use Rattle.store.specs.State.{State}
 use Rattle.store.specs.Calls.{opening}
@@ -18,6 +18,10 @@ module _ (o : Opened) where
   -- so are the image and table that were lent
   pub opened : (x : State) → seen o ≡ x → Open x o.s
   opened x e = subst (λ (y : State). Open y o.s) e opens
+
+-- the rows that are passed on what was lent are passed there
+pub met : {A : Type 0} (rows : State → A) {x y : State} {a : A} → x ≡ y → a ≡ rows x → rows y ≡ a
+met rows e q = sym (ap rows e) ∙ sym q
 
 -- what `ok_or` was made of
 

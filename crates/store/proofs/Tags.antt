@@ -15,7 +15,6 @@ use Rattle.store.specs.laws.TagReading.{place_small, place-large, bad_tag, start
 use Rattle.store.specs.declared.answer.Refusal.TheVariants.{BadTag, Dangling, OutOfBounds}
 use Rattle.store.specs.declared.answer.Refusal.{Refusal}
 use Rattle.store.specs.declared.locate.Reading.{Reading}
-use Rattle.store.specs.laws.Access.{reached_by, reached_by_lem}
 
 -- an object lies in its image
 pub object_inside : (image : List ℕ) (h size : ℕ) → object_at image h ≡ Some size → h + 16 + size ≤ length image
@@ -69,24 +68,3 @@ module _ (s : ℕ) (p : Pointer) (x : State) where
           frame_object e =
               found-verified (frame_holds h size p) x.image h size p e (object_is x.image h size object).2
               ∙ found_by s p x _ (led-large s p x good h (place ∙ place-large s p x.table large) size large starts object)
-
--- Bytes through a pointer, by what reading its tag gave.
-
-module _ (s : ℕ) (p : Pointer) (n : ℕ) (x : State) where
-  -- row 10 or 11
-  pub access_refused : (r : Refusal) → read_tag s p x ≡ Err r → Err r ≡ accessed s p n x
-  unfolding reached_by
-  access_refused r e = sym (ap (λ (f : Result Reading Refusal). reached_by f p n) e) ∙ reached_by_lem s p n x
-
-  module _ (o : Reading) (read : read_tag s p x ≡ Ok o) where
-    through_tag : demand (le_z (pos 0) o.offset && le_z (pos n) o.remaining) OutOfBounds (Ok p.address) ≡ accessed s p n x
-    unfolding reached_by
-    through_tag = sym (ap (λ (f : Result Reading Refusal). reached_by f p n) read) ∙ reached_by_lem s p n x
-
-    -- row 13
-    pub access_outside : le_z (pos 0) o.offset && le_z (pos n) o.remaining ≡ false → Err OutOfBounds ≡ accessed s p n x
-    access_outside e = ap (λ (b : Bool). demand b OutOfBounds (Ok p.address)) (sym e) ∙ through_tag
-
-    -- the address
-    pub access_inside : le_z (pos 0) o.offset && le_z (pos n) o.remaining ≡ true → Ok p.address ≡ accessed s p n x
-    access_inside e = ap (λ (b : Bool). demand b OutOfBounds (Ok p.address)) (sym e) ∙ through_tag

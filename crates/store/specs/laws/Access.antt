@@ -80,19 +80,6 @@ module _ (s : ℕ) (p : Pointer) (n : ℕ) (x : State) where
     unfolding accessed
     within_body b = rw (l, b)
 
--- by what reading the tag gave
-unfoldable pub reached_by : Result Reading Refusal → Pointer → ℕ → Answer
-reached_by (Ok o) p n = demand (le_z (pos 0) o.offset && le_z (pos n) o.remaining) OutOfBounds (Ok p.address)
-reached_by (Err r) p n = Err r
-
-pub reached_by_lem : (s : ℕ) (p : Pointer) (n : ℕ) (x : State) → reached_by (read_tag s p x) p n ≡ accessed s p n x
-unfolding reached_by read_tag found_at accessed
-reached_by_lem s p n x = go (located s p x)
-  where
-    go : (a : Answer) → reached_by (found_at a x.image p) p n ≡ and_then a (λ h. demand (in_body x.image h p n) OutOfBounds (Ok p.address))
-    go (Ok h) = ap (λ (b : Bool). demand b OutOfBounds (Ok p.address)) (sym (in_body_lem h p x.image n))
-    go (Err r) = refl
-
 -- the same bytes, once others are put there
 pub accessed_again : (s : ℕ) (p : Pointer) (n : ℕ) (x : State) (a : ℕ) (bs : List ℕ) → Accessed s p n x a → length bs ≡ n
     → accessed s p n (state (put x.image a bs) x.table) ≡ Ok a

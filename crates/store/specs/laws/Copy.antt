@@ -11,12 +11,6 @@ use Rattle.store.specs.laws.Access.{Accessed, accessed_parts, through}
 use Rattle.store.specs.declared.answer.Refusal.{Refusal}
 use Rattle.store.specs.declared.answer.Refusal.TheVariants.{Empty, OutOfBounds}
 
-module _ (x : State) (r : Refusal) (e : opening x ≡ Err r) where
-  -- row 4 or 5
-  pub copy_shut : (target source n : ℕ) → Err r ≡ copy_checks target source n x
-  unfolding copy_checks
-  copy_shut target source n = rw e
-
 module _ (x : State) (s : ℕ) (e : opening x ≡ Ok s) where
   module _ (target source n : ℕ) where
     -- row 6

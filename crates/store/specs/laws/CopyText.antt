@@ -70,12 +70,6 @@ text_inside s p x n e =
 
 -- The rows.
 
-module _ (x : State) (r : Refusal) (e : opening x ≡ Err r) where
-  -- row 4 or 5
-  pub copy_text_shut : (target source : ℕ) → Err r ≡ copy_text_checks target source x
-  unfolding copy_text_checks
-  copy_text_shut target source = rw e
-
 module _ (x : State) (s : ℕ) (e : opening x ≡ Ok s) where
   module _ (target source : ℕ) where
     -- the source's rows 10, 11, 13 and 20

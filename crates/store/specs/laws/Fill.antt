@@ -11,12 +11,6 @@ use Rattle.store.specs.laws.Access.{Accessed, accessed_parts, through}
 use Rattle.store.specs.declared.answer.Refusal.{Refusal}
 use Rattle.store.specs.declared.answer.Refusal.TheVariants.{Empty, OutOfBounds}
 
-module _ (x : State) (r : Refusal) (e : opening x ≡ Err r) where
-  -- row 4 or 5
-  pub fill_shut : (word n : ℕ) → Err r ≡ fill_checks word n x
-  unfolding fill_checks
-  fill_shut word n = rw e
-
 module _ (x : State) (s : ℕ) (e : opening x ≡ Ok s) where
   module _ (word n : ℕ) where
     -- row 6

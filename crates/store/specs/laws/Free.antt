@@ -161,8 +161,8 @@ released_at_parts (Ok k) image h from to e =
 released_at_parts (Err r) image h from to e = cc
 
 -- the place in a release is that of the block that is asked for
-pub released-place : (image : List ℕ) (k h from to : ℕ) → released image k (walk_to image k) ≡ merge_of h from to → h ≡ k
-released-place image k h from to e = (released_parts image k h from to e).0
+pub released-place : (image : List ℕ) (h : ℕ) (b : FreedBlock) → released image h (walk_to image h) ≡ Ok b → b.header ≡ h
+released-place image h b e = (released_parts image h b.header b.from b.to e).0
 
 -- row 22
 
@@ -171,11 +171,6 @@ module _ (image : List ℕ) where
   pub totalled_merges : (h from to : ℕ) → total_fits image (extent_at image h) ≡ true → totalled (merge_of h from to) image ≡ merge_of h from to
   unfolding totalled
   totalled_merges h from to e = rw e refl
-
-  -- it is not
-  pub totalled_wrong : (h from to : ℕ) → total_fits image (extent_at image h) ≡ false → totalled (merge_of h from to) image ≡ Err WrongTotal
-  unfolding totalled
-  totalled_wrong h from to e = rw e refl
 
   -- it is not reached
   pub totalled-refused : (r : Refusal) → totalled (Err r) image ≡ Err r
@@ -255,22 +250,7 @@ free_parts word x h from to e =
 
 -- The rows, and what is left by the answer.
 
--- row 15, by what reading the tag gave
-unfoldable pub based_by : Result Reading Refusal → Pointer → Answer
-based_by (Ok o) p = demand (eqb p.address o.base) NotBase (Ok o.header)
-based_by (Err r) p = Err r
-
 module _ (word : ℕ) (x : State) where
-  -- the rows up to 15, where 4 and 5 are passed
-  pub free_based : (s : ℕ) → opening x ≡ Ok s → based_by (read_tag s (unpack word) x) (unpack word) ≡ free_checks word x
-  unfolding free_checks read_tag based_by found_at
-  free_based s o = rw o (go (located s (unpack word) x))
-    where
-      go : (a : Answer) → based_by (found_at a x.image (unpack word)) (unpack word)
-          ≡ and_then a (λ h. demand (eqb (unpack word).address (h + 16)) NotBase (Ok h))
-      go (Ok h) = refl
-      go (Err r) = refl
-
   -- by their answer
   pub free_unchecked : (r : Refusal) → free_checks word x ≡ Err r → Err r ≡ free_release word x
   unfolding free_release totalled released_at

@@ -24,12 +24,6 @@ module _ (s : ℕ) (p : Pointer) (d : ℤ) where
   unfolding moved_answer
   moved_in q g e = rw (g, e)
 
-module _ (x : State) (r : Refusal) (e : opening x ≡ Err r) where
-  -- row 4 or 5
-  pub move_shut : (word : ℕ) (d : ℤ) → Err r ≡ move_answer word d x
-  unfolding move_answer
-  move_shut word d = rw e
-
 module _ (x : State) (s : ℕ) (e : opening x ≡ Ok s) where
   -- row 10, then 12
   pub move_answer_lem : (word : ℕ) (d : ℤ) → moved_by s (unpack word) d ≡ move_answer word d x

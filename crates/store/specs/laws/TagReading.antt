@@ -154,20 +154,6 @@ located_object s x h size word o g =
       };
     }
 
--- What reading a tag asks for of a pointer's parts, where rows 4 and 5 are passed.
-
-module _ (x : State) (s word : ℕ) (p : Pointer) (o : opening x ≡ Ok s) (e : p ≡ unpack word) where
-  in_range_lem : InRange p
-  in_range_lem = subst InRange (sym e) (unpack_range word)
-
-  -- small-framed
-  pub asks_small : p.flag ≡ true → (s < 16) × InRange p × (p.flag ≡ true) × (64 ≤ length x.image) × (length x.image ≤ 2 ^ 30)
-  asks_small f = let b = opening_parts x s o in (omega (arith, b.high), in_range_lem, f, b.long, b.short)
-
-  -- large-framed
-  pub asks_large : p.flag ≡ false → (opening x ≡ Ok s) × InRange p × (p.flag ≡ false)
-  asks_large f = (o, in_range_lem, f)
-
 -- The ways out.
 
 -- the place that a tag leads to

@@ -20,11 +20,6 @@ module _ (image : List ℕ) (n : ℕ) where
 
 -- the call
 module _ (x : State) where
-  -- row 4 or 5
-  pub free_total_shut : (r : Refusal) → opening x ≡ Err r → Err r ≡ free_total x
-  unfolding free_total
-  free_total_shut r e = rw e
-
   -- otherwise the stored number
   pub free_total-given : (s : ℕ) → opening x ≡ Ok s → Ok (stored_total x.image) ≡ free_total x
   unfolding free_total

@@ -27,21 +27,10 @@ object : (word : ℕ) (s : ℕ) (x : State) (b : FreedBlock) → Open x s → Fr
 object word s x b o f = subst (λ (k : ℕ). Located k (unpack word) x b.header) (sym o.exponent) f.object
 
 pub give_back-requires : goal.give_back-requires
-give_back-requires c = let f = accepted _ c.in_ok-store.store _ _ c.in_ok-store.ensures c.in_ok-block.ensures in (omega (arith, f.inside), f.room, f.high, omega (arith, f.total, f.opens.short))
+give_back-requires c = grind (arith, common_steps, accepted _ c.in_ok-store.store _ _ c.in_ok-store.ensures c.in_ok-block.ensures)
 
 pub clear_entry-requires : goal.clear_entry-requires
-clear_entry-requires c =
-    let f = accepted _ c.in_ok-store.store _ _ c.in_ok-store.ensures c.in_ok-block.ensures in
-    let o = opened c.in_ok-store.store _ c.in_ok-store.ensures in
-    let l = object _ _ _ c.in_ok-block.block o f in
-    let s = c.in_ok-store.store.s in
-    let p = unpack c.args.pointer in
-    rw c.unpack.ensures (
-      omega (arith, o.high),
-      l.good,
-      omega (arith, l.starts, o.short),
-      λ e. lt_of_lt_of_le (entry_used s p.tag _ p.address (good_large s p e l.good).1 (rw (reach-large s p e) at l.starts)) o.entries,
-    )
+clear_entry-requires c = grind (arith, common_steps, accepted _ c.in_ok-store.store _ _ c.in_ok-store.ensures c.in_ok-block.ensures, opened c.in_ok-store.store _ c.in_ok-store.ensures, good_large, reach-large, entry_used)
 
 -- row 4 or 5
 pub returns-in_err-store : goal.returns-in_err-store
@@ -55,10 +44,5 @@ returns-in_err-block c = grind (arith, common_steps)
 
 -- the object is freed
 pub returns : goal.returns
-returns c =
-    let f = accepted _ c.in_ok-store.store _ _ c.in_ok-store.ensures c.in_ok-block.ensures in
-    let o = opened c.in_ok-store.store _ c.in_ok-store.ensures in
-    let t = c.args.table.now in
-    let h = (object _ _ _ c.in_ok-block.block o f).header in
-    free_done _ (state _ _) _ _ _ _ _ _ (sym (ap (free_release c.args.pointer) c.in_ok-store.ensures) ∙ sym c.in_ok-block.ensures) o.exponent c.give_back.ensures
-    (c.clear_entry.ensures ∙ ap (λ (p : Pointer). entry_cleared c.in_ok-store.store.s p t) c.unpack.ensures ∙ cleared-noted _ _ _ _ t h.matches h.near)
+unfolding free freed
+returns c = grind (arith, common_steps, accepted _ c.in_ok-store.store _ _ c.in_ok-store.ensures c.in_ok-block.ensures, opened c.in_ok-store.store _ c.in_ok-store.ensures, cleared-noted)

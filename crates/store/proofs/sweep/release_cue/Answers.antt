@@ -18,4 +18,5 @@ returns-in_err-n c = grind (arith, common_steps)
 
 -- the objects are freed
 pub returns : goal.returns
-returns c = release_done _ (state _ _) _ _ _ (sym (ap (release_checks c.args.cue) c.in_ok-store.ensures) ∙ sym c.in_ok-n.ensures) c.sweep.ensures
+unfolding release_cue
+returns c = grind (arith, common_steps)

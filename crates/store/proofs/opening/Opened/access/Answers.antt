@@ -2,7 +2,7 @@
 use Rattle.std.proofs.Common.{arith}
 use Rattle.std.proofs.lemmas.Grind.{common_steps}
 use Rattle.store.specs.Calls.{accessed, read_tag, found_at}
-use Rattle.store.specs.laws.Access.{in_body_lem}
+use Rattle.store.specs.laws.Distances.{in_body_lem}
 use Rattle.store.proofs.opening.Opened.access.Goals as goal
 
 pub returns-in_err-object : goal.returns-in_err-object
