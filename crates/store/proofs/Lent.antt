@@ -1,6 +1,6 @@
 -- What is known of every `Opened`; what an option says where it is made a result. Assumes nothing.
-use Rattle.std.specs.Prelude.{◌≡◌, ℕ, Option, Some, None, Ok, Err, refl, ok_or}
-use Rattle.std.proofs.Common.{ap, sym, ◌∙◌, subst, arith}
+use Rattle.std.specs.Prelude.{◌≡◌, Option, Some, None, Ok, Err, refl, ok_or}
+use Rattle.std.proofs.Common.{ap, sym, ◌∙◌, subst}
 use Rattle.store.specs.declared.answer.Refusal.{Refusal}
 use Rattle.store.specs.State.{State}
 use Rattle.store.specs.Calls.{opening}

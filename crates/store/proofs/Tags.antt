@@ -1,7 +1,6 @@
 -- Reading a tag by what the code tests of it: in place of the header, the size of the object that its place leads to. Assumes nothing.
-use Rattle.std.specs.Prelude.{◌≡◌, ℕ, ◌+◌, ◌≤◌, ◌<◌, Bool, true, false, ◌&&◌, List, length, get_or, pos, Some, None, Ok, Err, Result}
-use Rattle.std.proofs.Common.{◌∙◌, ap, arith, sym}
-use Rattle.std.specs.Int.Signed.{le_z}
+use Rattle.std.specs.Prelude.{◌≡◌, ℕ, ◌+◌, ◌≤◌, ◌<◌, true, false, List, length, get_or, Some, None, Ok, Err}
+use Rattle.std.proofs.Common.{◌∙◌, arith}
 use Rattle.frame.specs.Frame.{frame_start}
 use Rattle.frame.specs.Pointers.{good_tag}
 use Rattle.frame.specs.Tags.{entry_at}
@@ -9,12 +8,10 @@ use Rattle.frame.specs.laws.Pointers.{reach-large}
 use Rattle.frame.specs.laws.Tags.{slot_holds, frame_holds}
 use Rattle.frame.specs.declared.parts.Pointer.{Pointer}
 use Rattle.block.specs.laws.Soundness.{sound-end, sound_live, object_at, object_is}
-use Rattle.store.specs.State.{State, demand}
-use Rattle.store.specs.Calls.{reading, read_tag, accessed}
+use Rattle.store.specs.State.{State}
+use Rattle.store.specs.Calls.{reading, read_tag}
 use Rattle.store.specs.laws.TagReading.{place_small, place-large, bad_tag, starts_past, led_nowhere, led_small, led-large, found_by, found-refused, found-verified, found_dangling}
-use Rattle.store.specs.declared.answer.Refusal.TheVariants.{BadTag, Dangling, OutOfBounds}
-use Rattle.store.specs.declared.answer.Refusal.{Refusal}
-use Rattle.store.specs.declared.locate.Reading.{Reading}
+use Rattle.store.specs.declared.answer.Refusal.TheVariants.{BadTag, Dangling}
 
 -- an object lies in its image
 pub object_inside : (image : List ℕ) (h size : ℕ) → object_at image h ≡ Some size → h + 16 + size ≤ length image

@@ -1,22 +1,18 @@
 -- Bytes through a pointer: rows 10, 11 and 13. Assumes nothing.
-use Rattle.std.specs.Prelude.{ℕ, ◌+◌, ◌≤◌, ◌<◌, ◌≡◌, refl, Bool, true, false, ◌&&◌, cond, List, ◌↔◌, leb, pos, length, Err, Ok, Result}
+use Rattle.std.specs.Prelude.{ℕ, ◌+◌, ◌≤◌, ◌<◌, ◌≡◌, refl, Bool, true, false, ◌&&◌, cond, List, ◌↔◌, leb, length, Err, Ok}
 use Rattle.std.proofs.Common.{sym, ap, ◌∙◌, inl, arith, leb-true, le-leb}
-use Rattle.std.specs.Int.Signed.{le_z}
 use Rattle.frame.specs.declared.parts.Pointer.{Pointer}
 use Rattle.block.specs.laws.Booleans.{by_bool, true_false, and_left, and_right}
 use Rattle.block.specs.Layout.{size_at}
 use Rattle.block.specs.Bytes.{put}
 use Rattle.block.specs.laws.Headers.{header_at-put_other}
 use Rattle.block.specs.declared.header.Header.{Header}
-use Rattle.store.specs.State.{State, state, demand, and_then, Outcome, outcome, IsAccepted, refuse}
-use Rattle.store.specs.Calls.{located, found_at, read_tag, in_body, accessed, good_width}
-use Rattle.store.specs.laws.Distances.{in_body_lem}
+use Rattle.store.specs.State.{State, state, demand, Outcome, outcome, IsAccepted, refuse}
+use Rattle.store.specs.Calls.{located, in_body, accessed, good_width}
 use Rattle.store.specs.laws.Refusals.{demand_met, and_then_met}
 use Rattle.store.specs.laws.TagReading.{Located, located_parts, located-inside, located-at, located_kept}
 use Rattle.store.specs.declared.answer.Refusal.{Refusal}
 use Rattle.store.specs.declared.answer.Refusal.TheVariants.{OutOfBounds}
-use Rattle.store.specs.State.{Answer}
-use Rattle.store.specs.declared.locate.Reading.{Reading}
 
 -- rows 10, 11 and 13 are passed: n bytes from a on lie in the body of an object
 pub record Accessed (s : ℕ) (p : Pointer) (n : ℕ) (x : State) (a : ℕ) : Type 0 where

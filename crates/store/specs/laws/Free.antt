@@ -22,8 +22,8 @@ use Rattle.block.specs.laws.Total.{length-with_total, with_total_opens, with_tot
 use Rattle.block.specs.laws.WalkTo.{Behind, at_first, at_later, MeetsBlock, walk_to_meets}
 use Rattle.block.specs.laws.Writes.{length-put, put_def, drop-put, put_again}
 use Rattle.block.specs.laws.Headers.{length-header, header_at-drop, header_at-put_other}
-use Rattle.store.specs.State.{State, outcome, refuse, demand, and_then}
-use Rattle.store.specs.Calls.{opening, noted, located, found_at, read_tag, merge_start, merge_end, released, free_checks, released_at, total_fits, totalled, free_release, merged, given_back, freed, free}
+use Rattle.store.specs.State.{State, outcome, refuse}
+use Rattle.store.specs.Calls.{opening, noted, located, merge_start, merge_end, released, free_checks, released_at, total_fits, totalled, free_release, merged, given_back, freed, free}
 use Rattle.store.specs.laws.Refusals.{demand_met, and_then_met}
 use Rattle.store.specs.laws.Opening.{Open, opening_parts, entry_in}
 use Rattle.store.specs.laws.TagReading.{Located, located_parts}
@@ -31,8 +31,6 @@ use Rattle.store.specs.laws.Total.{total-within}
 use Rattle.store.specs.declared.answer.Refusal.{Refusal}
 use Rattle.store.specs.declared.answer.Refusal.TheVariants.{Unsound, NotBase, WrongTotal}
 use Rattle.store.specs.State.{Answer}
-use Rattle.frame.specs.declared.parts.Pointer.{Pointer}
-use Rattle.store.specs.declared.locate.Reading.{Reading}
 use Rattle.store.specs.declared.release.FreedBlock.{FreedBlock}
 
 -- where the merged block starts
@@ -251,15 +249,6 @@ free_parts word x h from to e =
 -- The rows, and what is left by the answer.
 
 module _ (word : ℕ) (x : State) where
-  -- by their answer
-  pub free_unchecked : (r : Refusal) → free_checks word x ≡ Err r → Err r ≡ free_release word x
-  unfolding free_release totalled released_at
-  free_unchecked r e = rw e
-
-  pub free_checked : (h : ℕ) → free_checks word x ≡ Ok h → totalled (released x.image h (walk_to x.image h)) x.image ≡ free_release word x
-  unfolding free_release released_at
-  free_checked h e = rw e
-
   pub free-sound : (h : ℕ) → free_checks word x ≡ Ok h → sound x.image h ≡ true
   unfolding free_checks
   free-sound h e =

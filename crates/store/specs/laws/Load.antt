@@ -4,7 +4,7 @@ use Rattle.std.proofs.Common.{sym, ap, ◌∙◌}
 use Rattle.std.proofs.Math.Path.{refl}
 use Rattle.frame.specs.Pointers.{unpack}
 use Rattle.block.specs.Bytes.{field}
-use Rattle.store.specs.State.{State, demand, and_then}
+use Rattle.store.specs.State.{State, demand}
 use Rattle.store.specs.Calls.{opening, accessed, good_width, load_answer, load}
 use Rattle.store.specs.declared.answer.Refusal.{Refusal}
 use Rattle.store.specs.declared.answer.Refusal.TheVariants.{BadWidth, OutOfBounds}

@@ -5,7 +5,6 @@ use Rattle.frame.specs.Pointers.{unpack, pack, good_tag, reach, moved}
 use Rattle.frame.specs.declared.parts.Pointer.{Pointer}
 use Rattle.store.specs.State.{State}
 use Rattle.store.specs.Calls.{opening, moved_answer, moved_by, move_answer, move}
-use Rattle.store.specs.declared.answer.Refusal.{Refusal}
 use Rattle.store.specs.declared.answer.Refusal.TheVariants.{BadTag, Leaves}
 use Rattle.store.specs.State.{Answer}
 

@@ -1,14 +1,14 @@
 -- Reading a tag: rows 10 and 11.
 -- In order: what is known where they are passed, how they are passed, what a write keeps, that an object's pointers lead to it, each way out. Assumes nothing.
 use Rattle.std.specs.Prelude.{ℕ, ◌+◌, ◌*◌, ◌/◌, ◌^◌, ◌≤◌, ◌<◌, ◌≡◌, Bool, true, false, ◌&&◌, List, ltb, eqb, length, get_or, Err, None, Ok, Some}
-use Rattle.std.proofs.Common.{ap, ap₂, ◌∙◌, subst, inl, div-mul-le_self, arith, ltb-true, eqb-true, lt-ltb, eq-eqb, ne_eqb, le-ltb}
+use Rattle.std.proofs.Common.{ap, ap₂, ◌∙◌, inl, div-mul-le_self, arith, ltb-true, eqb-true, lt-ltb, eq-eqb, ne_eqb, le-ltb}
 use Rattle.std.proofs.Math.Path.{refl, sym}
 use Rattle.std.proofs.Math.Bool.{and_assoc, and-true, and-false}
 use Rattle.frame.specs.Frame.{frame_start, same_frame}
-use Rattle.frame.specs.Pointers.{InRange, unpack, good_tag, reach, at}
+use Rattle.frame.specs.Pointers.{unpack, good_tag, reach, at}
 use Rattle.frame.specs.Tags.{wrapper, pointer_to, entry_of, tag_matches, entry_at}
 use Rattle.frame.specs.laws.Wrappers.{slot_leads, entry_same}
-use Rattle.frame.specs.laws.Pointers.{unpack_range, good_small, reach_small, reach-large}
+use Rattle.frame.specs.laws.Pointers.{good_small, reach_small, reach-large}
 use Rattle.frame.specs.laws.Tags.{slot_holds, frame_holds, slot_near, slot_matches, frame_matches, pointer_small, pointer_large, reach_slot, reach-wrapper, by_frame}
 use Rattle.frame.specs.laws.Objects.{PointerOf, same-reach, object_tag, object_matches}
 use Rattle.frame.specs.declared.parts.Pointer.{Pointer}
@@ -20,9 +20,8 @@ use Rattle.block.specs.laws.Headers.{header_at-put_other}
 use Rattle.block.specs.laws.Soundness.{sound-same, sound_in, sound-end, sound_live, object_at, object_is, object_is_none}
 use Rattle.block.specs.declared.header.Header.{Header}
 use Rattle.store.specs.State.{State, state, refusal_number, demand}
-use Rattle.store.specs.Calls.{opening, header_place, verified, leads_back, located, reading, found_at, read_tag}
+use Rattle.store.specs.Calls.{header_place, verified, leads_back, located, reading, found_at, read_tag}
 use Rattle.store.specs.laws.Refusals.{demand_met}
-use Rattle.store.specs.laws.Opening.{opening_parts}
 use Rattle.store.specs.declared.answer.Refusal.{Refusal}
 use Rattle.store.specs.declared.answer.Refusal.TheVariants.{BadTag, Dangling}
 use Rattle.store.specs.State.{Answer}

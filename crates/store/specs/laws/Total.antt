@@ -1,10 +1,9 @@
 -- The free total: row 22 where bytes are given back, and the call. Assumes nothing.
-use Rattle.std.specs.Prelude.{ℕ, ◌+◌, ◌-◌, ◌≤◌, ◌≡◌, true, List, length, Err, Ok}
+use Rattle.std.specs.Prelude.{ℕ, ◌+◌, ◌-◌, ◌≤◌, ◌≡◌, true, List, length, Ok}
 use Rattle.std.proofs.Common.{leb-true, le-leb}
 use Rattle.block.specs.Layout.{stored_total}
 use Rattle.store.specs.State.{State}
 use Rattle.store.specs.Calls.{opening, total_fits, free_total}
-use Rattle.store.specs.declared.answer.Refusal.{Refusal}
 
 -- row 22, of n bytes given back
 module _ (image : List ℕ) (n : ℕ) where

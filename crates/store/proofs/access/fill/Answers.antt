@@ -1,5 +1,5 @@
 -- `store::fill` meets its contract: refused by its tests, or the bytes are set. Assumes nothing.
-use Rattle.std.proofs.Common.{arith, sym, ap, ◌∙◌}
+use Rattle.std.proofs.Common.{arith}
 use Rattle.std.proofs.lemmas.Grind.{common_steps}
 use Rattle.store.specs.Calls.{fill, fill_checks}
 use Rattle.store.specs.laws.Fill.{fill_parts}

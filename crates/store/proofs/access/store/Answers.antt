@@ -1,5 +1,5 @@
 -- `store::store` meets its contract: refused by its tests, or the value is written. Assumes nothing.
-use Rattle.std.proofs.Common.{arith, sym, ap, ◌∙◌}
+use Rattle.std.proofs.Common.{arith}
 use Rattle.std.proofs.lemmas.Grind.{common_steps}
 use Rattle.store.specs.Calls.{store, store_checks}
 use Rattle.store.specs.laws.Access.{width_range}

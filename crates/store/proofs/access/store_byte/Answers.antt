@@ -1,9 +1,8 @@
 -- `store::store_byte` meets its contract: as `store`, whose 14 and 16 a byte passes. Assumes nothing.
-use Rattle.std.proofs.Common.{arith, sym, ap, ◌∙◌}
+use Rattle.std.proofs.Common.{arith}
 use Rattle.std.proofs.lemmas.Grind.{common_steps}
 use Rattle.store.specs.Calls.{store, store_checks, accessed}
 use Rattle.frame.specs.Pointers.{unpack}
-use Rattle.store.specs.State.{State}
 use Rattle.store.specs.laws.Access.{accessed_parts}
 use Rattle.store.proofs.Lent.{met}
 use Rattle.store.proofs.access.store_byte.Goals as goal

@@ -2,15 +2,13 @@
 use Rattle.std.proofs.lemmas.Grind.{common_steps}
 use Rattle.std.specs.Prelude.{◌≡◌, ℕ, Ok}
 use Rattle.std.proofs.Common.{arith, sym, ap, ◌∙◌}
-use Rattle.std.proofs.lemmas.Result.{err_from_is_err_and}
-use Rattle.frame.specs.laws.Tags.{tagged, tagged_pointer, tagged_pointer_lem, pointer_range}
-use Rattle.frame.specs.declared.tag.Tagged.{Tagged}
-use Rattle.store.specs.State.{State, state}
+use Rattle.frame.specs.laws.Tags.{tagged, tagged_pointer_lem, pointer_range}
+use Rattle.store.specs.State.{State}
 use Rattle.store.specs.Calls.{allocate_checks, allocate_for}
 use Rattle.store.specs.laws.Opening.{Open}
 use Rattle.store.specs.Opened.{seen}
-use Rattle.store.specs.laws.Entries.{noted_for, tagged_in, tagged-noted}
-use Rattle.store.specs.laws.Allocate.{Allocates, site_of, site_declined, site_chosen, allocate_parts, allocate_shut, allocate_declined, allocate_done}
+use Rattle.store.specs.laws.Entries.{tagged_in, tagged-noted}
+use Rattle.store.specs.laws.Allocate.{Allocates, site_of, site_declined, site_chosen, allocate_parts, allocate_shut, allocate_declined}
 use Rattle.store.specs.declared.allocation.Site.{Site}
 use Rattle.store.specs.declared.opening.Opened.{Opened}
 use Rattle.store.proofs.Carving.{fit_needs}

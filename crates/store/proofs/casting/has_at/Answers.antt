@@ -1,8 +1,6 @@
 -- `store::has_at` meets its contract: no before the base; else as the type has it there (`type_has`). Assumes nothing.
 use Rattle.std.proofs.lemmas.Grind.{common_steps}
-use Rattle.std.specs.Prelude.{ℕ, ◌≡◌, false, ℤ, pos, negsuc, nat_abs, T}
-use Rattle.std.proofs.Common.{arith, w64, Fits, SFits}
-use Rattle.std.specs.Int.Signed.{non_neg, lt_z}
+use Rattle.std.proofs.Common.{arith}
 use Rattle.store.specs.laws.Casts.{has_before, has_behind}
 use Rattle.store.proofs.casting.has_at.Goals as goal
 

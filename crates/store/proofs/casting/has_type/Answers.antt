@@ -1,18 +1,9 @@
 -- `store::has_type` meets its contract: 4 and 5, 24, 10 and 11 (`locate`), then 25. Assumes nothing.
-use Rattle.std.specs.Prelude.{◌≡◌, true}
-use Rattle.std.proofs.Common.{arith, sym, ap, ◌∙◌, w64, SFits, to_z, of_z, to_z-of_z, rules}
+use Rattle.std.proofs.Common.{arith, sym}
 use Rattle.std.proofs.lemmas.Grind.{common_steps}
-use Rattle.std.proofs.lemmas.Result.{err_from_is_err_and}
-use Rattle.frame.specs.Pointers.{unpack}
-use Rattle.block.specs.Layout.{type_at}
-use Rattle.block.specs.declared.header.Header.{Header}
-use Rattle.descriptors.specs.Descriptors.{good_list}
-use Rattle.store.specs.State.{State}
 use Rattle.store.specs.Calls.{has_type, read_tag, found_at}
 use Rattle.store.specs.Opened.{seen}
-use Rattle.store.specs.laws.Casts.{has_type_unread, has_type_cast}
-use Rattle.store.specs.laws.TagReading.{FoundAt, read_found, read-refused, located-inside}
-use Rattle.store.specs.declared.locate.Reading.{Reading}
+use Rattle.store.specs.laws.TagReading.{read_found, located-inside}
 use Rattle.store.proofs.casting.has_type.Goals as goal
 
 pub read_header-d-requires : goal.read_header-d-requires

@@ -1,5 +1,5 @@
 -- `store::compare` meets its contract: refused by its tests, or the bytes are compared. Assumes nothing.
-use Rattle.std.proofs.Common.{arith, sym, ap, ◌∙◌}
+use Rattle.std.proofs.Common.{arith}
 use Rattle.std.proofs.lemmas.Grind.{common_steps}
 use Rattle.store.specs.Calls.{compare, compared, copy_checks}
 use Rattle.store.specs.laws.Copy.{copy_parts}

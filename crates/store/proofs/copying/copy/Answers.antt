@@ -1,5 +1,5 @@
 -- `store::copy` meets its contract: refused by its tests, or the bytes are copied. Assumes nothing.
-use Rattle.std.proofs.Common.{arith, sym, ap, ◌∙◌}
+use Rattle.std.proofs.Common.{arith}
 use Rattle.std.proofs.lemmas.Grind.{common_steps}
 use Rattle.store.specs.Calls.{copy, copy_checks}
 use Rattle.store.specs.laws.Copy.{copy_parts}

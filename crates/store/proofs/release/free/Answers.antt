@@ -1,18 +1,14 @@
 -- `store::free` meets its contract: refused by its tests, or the block is given back and the entry is cleared. Assumes nothing.
 use Rattle.std.specs.Prelude.{◌≡◌, ℕ, Ok}
-use Rattle.std.proofs.Common.{arith, sym, ap, ◌∙◌, subst, lt_of_lt_of_le}
+use Rattle.std.proofs.Common.{arith, sym, ap, ◌∙◌}
 use Rattle.std.proofs.lemmas.Grind.{common_steps}
-use Rattle.frame.specs.Pointers.{unpack}
 use Rattle.frame.specs.laws.Pointers.{good_large, reach-large}
 use Rattle.frame.specs.laws.Wrappers.{entry_used}
-use Rattle.frame.specs.declared.parts.Pointer.{Pointer}
-use Rattle.store.specs.State.{State, state}
+use Rattle.store.specs.State.{State}
 use Rattle.store.specs.Calls.{free, free_release, freed}
 use Rattle.store.specs.Opened.{seen}
-use Rattle.store.specs.laws.Opening.{Open}
-use Rattle.store.specs.laws.Entries.{entry_cleared, cleared-noted}
-use Rattle.store.specs.laws.TagReading.{Located}
-use Rattle.store.specs.laws.Free.{Frees, free_parts, free_shut, free_done}
+use Rattle.store.specs.laws.Entries.{cleared-noted}
+use Rattle.store.specs.laws.Free.{Frees, free_parts, free_shut}
 use Rattle.store.specs.declared.opening.Opened.{Opened}
 use Rattle.store.specs.declared.release.FreedBlock.{FreedBlock}
 use Rattle.store.proofs.Lent.{opened}
@@ -22,9 +18,6 @@ use Rattle.store.proofs.release.free.Goals as goal
 
 accepted : (word : ℕ) (o : Opened) (x : State) (b : FreedBlock) → seen o ≡ x → Ok b ≡ free_release word (seen o) → Frees word x b.header b.from b.to
 accepted word o x b e q = free_parts word x _ _ _ (sym (ap (free_release word) e) ∙ sym q)
-
-object : (word : ℕ) (s : ℕ) (x : State) (b : FreedBlock) → Open x s → Frees word x b.header b.from b.to → Located s (unpack word) x b.header
-object word s x b o f = subst (λ (k : ℕ). Located k (unpack word) x b.header) (sym o.exponent) f.object
 
 pub give_back-requires : goal.give_back-requires
 give_back-requires c = grind (arith, common_steps, accepted _ c.in_ok-store.store _ _ c.in_ok-store.ensures c.in_ok-block.ensures)

@@ -1,9 +1,8 @@
 -- `store::release_cue` meets its contract: refused by its tests, or the pass frees the objects. Assumes nothing.
-use Rattle.std.proofs.Common.{arith, sym, ap, ◌∙◌}
+use Rattle.std.proofs.Common.{arith}
 use Rattle.std.proofs.lemmas.Grind.{common_steps}
-use Rattle.store.specs.State.{state}
-use Rattle.store.specs.Calls.{release_cue, release_checks}
-use Rattle.store.specs.laws.Release.{release_shut, release_done}
+use Rattle.store.specs.Calls.{release_cue}
+use Rattle.store.specs.laws.Release.{release_shut}
 use Rattle.store.proofs.sweep.release_cue.Goals as goal
 
 -- row 4 or 5

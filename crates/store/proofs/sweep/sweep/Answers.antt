@@ -1,11 +1,8 @@
+-- `store::sweep::sweep` meets its contract: with the run kept back and the total written, the pass is that of the single frees (`Pass`). Assumes nothing.
+use Rattle.std.specs.Prelude.{refl}
+use Rattle.std.proofs.Common.{sym, arith}
 use Rattle.std.proofs.lemmas.Grind.{common_steps}
-use Rattle.std.specs.Prelude.{◌≡◌, refl, true, ◌<◌, ◌≤◌, ◌+◌, ◌^◌, length}
-use Rattle.std.proofs.Common.{sym, ◌∙◌, arith}
-use Rattle.frame.specs.Tags.{wrapper, entry_of}
-use Rattle.block.specs.Bytes.{Bytes}
-use Rattle.block.specs.Walk.{is_of_cue}
 use Rattle.block.specs.laws.Soundness.{sound_in}
-use Rattle.block.specs.laws.Turns.{Seen}
 use Rattle.store.specs.State.{state}
 use Rattle.store.specs.laws.Opening.{opening_parts}
 use Rattle.store.specs.laws.Entries.{noted_for, tagged_in, tagged-noted}

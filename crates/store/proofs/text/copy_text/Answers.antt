@@ -1,5 +1,5 @@
 -- `store::copy_text` meets its contract: refused by its tests, or the text is copied. Assumes nothing.
-use Rattle.std.proofs.Common.{arith, sym, ap, ◌∙◌}
+use Rattle.std.proofs.Common.{arith}
 use Rattle.std.proofs.lemmas.Grind.{common_steps}
 use Rattle.store.specs.Calls.{copy_text, copy_text_checks}
 use Rattle.store.specs.laws.CopyText.{copy_text_parts}

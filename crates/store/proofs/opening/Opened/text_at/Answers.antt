@@ -1,15 +1,9 @@
 -- `store::Opened::text_at` meets its contract: 10 and 11 (`locate`), 13 (`in_body`) of one byte, then a search of all bytes that remain (`find_text`): 20, or the
 -- length. Assumes nothing.
-use Rattle.std.specs.Prelude.{ℤ, take, drop, nat_abs}
-use Rattle.std.proofs.Common.{arith, sym, ap, ◌∙◌, w64, SFits, to_z-of_z, ap₂, rules}
+use Rattle.std.proofs.Common.{arith, sym}
 use Rattle.std.proofs.lemmas.Grind.{common_steps}
-use Rattle.std.proofs.lemmas.Result.{err_from_is_err_and}
-use Rattle.frame.specs.declared.parts.Pointer.{Pointer}
-use Rattle.block.specs.Text.{text_of}
-use Rattle.store.specs.Calls.{text_answer, text_at, read_tag, found_at}
+use Rattle.store.specs.Calls.{text_at, read_tag, found_at}
 use Rattle.store.specs.Opened.{seen}
-use Rattle.store.specs.laws.TagReading.{read-refused}
-use Rattle.store.specs.laws.CopyText.{text_unread}
 use Rattle.store.proofs.Texts.{text_or, text_out, body_ahead}
 use Rattle.store.proofs.opening.Opened.text_at.Goals as goal
 
