@@ -44,10 +44,6 @@ text_located s p x h e = rw e
 -- each way out
 
 module _ (s : ℕ) (p : Pointer) (x : State) where
-  pub text_unread : (r : Refusal) → located s p x ≡ Err r → Err r ≡ text_at s p x
-  unfolding text_at
-  text_unread r e = rw e
-
   module _ (h : ℕ) (l : located s p x ≡ Ok h) where
     pub text_outside : in_body x.image h p 1 ≡ false → Err OutOfBounds ≡ text_at s p x
     unfolding text_at

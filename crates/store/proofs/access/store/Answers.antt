@@ -8,8 +8,7 @@ use Rattle.store.proofs.Lent.{met}
 use Rattle.store.proofs.access.store.Goals as goal
 
 pub write_field-requires : goal.write_field-requires
-write_field-requires c = let s = store_parts _ _ _ _ _ (met (store_checks _ _ _) c.in_ok-new.ensures c.in_ok-at.ensures) in
-    let w = width_range _ s.good_width_lem in (w.0, w.1, s.bytes.inside)
+write_field-requires c = grind (arith, common_steps, width_range, store_parts _ _ _ _ _ (met (store_checks _ _ _) c.in_ok-new.ensures c.in_ok-at.ensures))
 
 -- row 4 or 5
 pub returns-in_err-new : goal.returns-in_err-new

@@ -7,7 +7,7 @@ use Rattle.store.proofs.Lent.{met}
 use Rattle.store.proofs.comparing.compare.Goals as goal
 
 pub compare_runs-requires : goal.compare_runs-requires
-compare_runs-requires c = let p = copy_parts _ _ _ _ _ (met (copy_checks _ _ _) c.in_ok-new.ensures c.in_ok-b.ensures) in rw c.unpack-a.ensures (p.to.inside, p.from.inside)
+compare_runs-requires c = grind (arith, common_steps, copy_parts _ _ _ _ _ (met (copy_checks _ _ _) c.in_ok-new.ensures c.in_ok-b.ensures))
 
 -- row 4 or 5
 pub returns-in_err-new : goal.returns-in_err-new

@@ -7,7 +7,7 @@ use Rattle.store.proofs.Lent.{met}
 use Rattle.store.proofs.copying.copy.Goals as goal
 
 pub copy_within-requires : goal.copy_within-requires
-copy_within-requires c = let p = copy_parts _ _ _ _ _ (met (copy_checks _ _ _) c.in_ok-new.ensures c.in_ok-from.ensures) in rw c.unpack-to.ensures (p.to.inside, p.from.inside)
+copy_within-requires c = grind (arith, common_steps, copy_parts _ _ _ _ _ (met (copy_checks _ _ _) c.in_ok-new.ensures c.in_ok-from.ensures))
 
 -- row 4 or 5
 pub returns-in_err-new : goal.returns-in_err-new

@@ -7,7 +7,7 @@ use Rattle.store.proofs.Lent.{met}
 use Rattle.store.proofs.text.copy_text.Goals as goal
 
 pub copy_within-requires : goal.copy_within-requires
-copy_within-requires c = let p = copy_text_parts _ _ _ _ (met (copy_text_checks _ _) c.in_ok-new.ensures c.in_ok-n.ensures) in rw (c.unpack-to.ensures, c.unpack-from.ensures) (p.to.inside, p.from)
+copy_within-requires c = grind (arith, common_steps, copy_text_parts _ _ _ _ (met (copy_text_checks _ _) c.in_ok-new.ensures c.in_ok-n.ensures))
 
 -- row 4 or 5
 pub returns-in_err-new : goal.returns-in_err-new

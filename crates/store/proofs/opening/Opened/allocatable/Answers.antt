@@ -10,16 +10,16 @@ use Rattle.store.proofs.Lent.{opens}
 use Rattle.store.proofs.opening.Opened.allocatable.Goals as goal
 
 pub tag_object-tagged-requires : goal.tag_object-tagged-requires
-tag_object-tagged-requires c = let n = fit_needs (seen c.args.self.now) _ _ _ (opens c.args.self.now) (sym c.first_fit.ensures ∙ c.in-At.is) in (n.0, n.1, n.2)
+tag_object-tagged-requires c = grind (arith, common_steps, fit_needs (seen c.args.self.now) _ _ _ (opens c.args.self.now) (sym c.first_fit.ensures ∙ c.in-At.is))
 
 pub entry_holds-requires : goal.entry_holds-requires
-entry_holds-requires c = rw c.tag_object-tagged.ensures (tagged_in _ _ _ _ (fit_needs (seen c.args.self.now) _ _ _ (opens c.args.self.now) (sym c.first_fit.ensures ∙ c.in-At.is)).3)
+entry_holds-requires c = grind (arith, common_steps, tagged_in, fit_needs (seen c.args.self.now) _ _ _ (opens c.args.self.now) (sym c.first_fit.ensures ∙ c.in-At.is))
 
 pub stored_total-requires : goal.stored_total-requires
 stored_total-requires c = omega (arith, (opens c.args.self.now).long)
 
 pub taken_extent-requires : goal.taken_extent-requires
-taken_extent-requires c = let w = first_fit_lowest _ _ _ (sym c.first_fit.ensures ∙ c.in-At.is) in (w.is_sound, w.fits_in)
+taken_extent-requires c = grind (arith, common_steps, first_fit_lowest _ _ _ (sym c.first_fit.ensures ∙ c.in-At.is))
 
 -- row 9
 pub returns-then-not-entry_holds : goal.returns-then-not-entry_holds

@@ -36,7 +36,7 @@ pub loop-d-preserved : goal.loop-d-preserved
 loop-d-preserved c = grind (arith, common_steps, seen_at, gathers_taken, gathers_passed)
 
 pub total_fits-requires : goal.total_fits-requires
-total_fits-requires c = let o = opens c.args.self.now in (omega (arith, o.long), omega (arith, c.loop-d.invariant.small, o.short))
+total_fits-requires c = grind (arith, common_steps, opens c.args.self.now)
 
 -- row 7
 pub returns-then-h-image : goal.returns-then-h-image
