@@ -1,5 +1,6 @@
 -- Set-up: ranges, clearing entries, laying out a fresh image. Assumes nothing.
 use Rattle.std.specs.Prelude.{◌≡◌, refl, true, false, List, [], ◌++◌, ℕ, ◌+◌, ◌-◌, ◌≤◌, ◌<◌, length, replicate}
+use Rattle.std.proofs.lemmas.Grind.{common_steps}
 use Rattle.std.proofs.Common.{sym, ap, ◌∙◌, append-nil, arith, le-leb}
 use Rattle.std.proofs.Math.Bool.{and-false}
 use Rattle.std.proofs.lemmas.List.{length-replicate, replicate-append-replicate}
@@ -15,13 +16,13 @@ use Rattle.store.specs.Calls.{fresh}
 -- ranges
 
 pub within_low : (lo hi x : ℕ) → x < lo → within lo hi x ≡ false
-within_low lo hi x l = simp (lt-leb _ _ l)
+within_low lo hi x l = grind (arith, common_steps)
 
 pub within_high : (lo hi x : ℕ) → hi < x → within lo hi x ≡ false
-within_high lo hi x l = simp (and-false, lt-leb _ _ l)
+within_high lo hi x l = grind (arith, common_steps)
 
 pub within_in : (lo hi x : ℕ) → lo ≤ x → x ≤ hi → within lo hi x ≡ true
-within_in lo hi x l u = and_both _ _ (le-leb _ _ l) (le-leb _ _ u)
+within_in lo hi x l u = grind (arith, common_steps)
 
 -- laying out
 

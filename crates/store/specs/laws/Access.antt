@@ -1,5 +1,6 @@
 -- Bytes through a pointer: rows 10, 11 and 13. Assumes nothing.
 use Rattle.std.specs.Prelude.{ℕ, ◌+◌, ◌≤◌, ◌<◌, ◌≡◌, refl, Bool, true, false, ◌&&◌, cond, List, ◌↔◌, leb, length, Err, Ok}
+use Rattle.std.proofs.lemmas.Grind.{common_steps}
 use Rattle.std.proofs.Common.{sym, ap, ◌∙◌, inl, arith, leb-true, le-leb}
 use Rattle.frame.specs.declared.parts.Pointer.{Pointer}
 use Rattle.block.specs.laws.Booleans.{by_bool, true_false, and_left, and_right}
@@ -26,10 +27,7 @@ pub record Accessed (s : ℕ) (p : Pointer) (n : ℕ) (x : State) (a : ℕ) : Ty
 -- where the bytes of a body lie
 pub body_range : (image : List ℕ) (h : ℕ) (p : Pointer) (n : ℕ) → in_body image h p n ≡ true → (h + 16 ≤ p.address) × (p.address + n ≤ h + 16 + size_at image h)
 unfolding in_body
-body_range image h p n b = (
-  leb-true _ _ (and_left _ (leb (p.address + n) (h + 16 + size_at image h)) b),
-  leb-true _ _ (and_right (leb (h + 16) p.address) _ b),
-)
+body_range image h p n b = (grind (arith, common_steps), grind (arith, common_steps))
 
 -- and the other way
 range_body : (image : List ℕ) (h : ℕ) (p : Pointer) (n : ℕ) → h + 16 ≤ p.address → p.address + n ≤ h + 16 + size_at image h → in_body image h p n ≡ true
@@ -101,4 +99,4 @@ through_iff x v false a bytes = ((λ e. absurd (omega arith)), λ (e : false ≡
 
 -- a good width is 1 to 8
 pub width_range : (w : ℕ) → good_width w ≡ true → (1 ≤ w) × (w ≤ 8)
-width_range w g = (leb-true 1 w (and_left _ _ g), leb-true w 8 (and_right (leb 1 w) _ g))
+width_range w g = (grind (arith, common_steps), grind (arith, common_steps))

@@ -1,6 +1,7 @@
 -- Reading a tag: rows 10 and 11.
 -- In order: what is known where they are passed, how they are passed, what a write keeps, that an object's pointers lead to it, each way out. Assumes nothing.
 use Rattle.std.specs.Prelude.{ℕ, ◌+◌, ◌*◌, ◌/◌, ◌^◌, ◌≤◌, ◌<◌, ◌≡◌, Bool, true, false, ◌&&◌, List, ltb, eqb, length, get_or, Err, None, Ok, Some}
+use Rattle.std.proofs.lemmas.Grind.{common_steps}
 use Rattle.std.proofs.Common.{ap, ap₂, ◌∙◌, inl, div-mul-le_self, arith, ltb-true, eqb-true, lt-ltb, eq-eqb, ne_eqb, le-ltb}
 use Rattle.std.proofs.Math.Path.{refl, sym}
 use Rattle.std.proofs.Math.Bool.{and_assoc, and-true, and-false}
@@ -47,22 +48,17 @@ located_parts s p x h e =
     let a = demand_met (good_tag s p) BadTag _ h e in
     let b = demand_met (leads_back s p x) Dangling _ h a.1 in
     let q : h ≡ header_place s p x.table = cc in
-    let k = header_place s p x.table in
-    let v : verified s p x.image k ≡ true = and_right (ltb (frame_start (reach s p) p.address) (length x.image)) _ b.0 in
-    let w : is_live x.image k && (tag_matches s k (size_at x.image k) p && same_frame (reach s p) k p.address) ≡ true = and_right (sound x.image k) _ v in
-    let u : tag_matches s k (size_at x.image k) p && same_frame (reach s p) k p.address ≡ true = and_right (is_live x.image k) _ w in
     record {
       good = a.0;
-      starts = ltb-true _ _ (and_left _ (verified s p x.image k) b.0);
+      starts = grind (arith, common_steps);
       place = q;
       header =
-          rw q
-          (record {
-            is_sound = and_left _ (is_live x.image k && (tag_matches s k (size_at x.image k) p && same_frame (reach s p) k p.address)) v;
-            is_live_lem = and_left _ (tag_matches s k (size_at x.image k) p && same_frame (reach s p) k p.address) w;
-            matches = and_left _ (same_frame (reach s p) k p.address) u;
-            near = eqb-true _ _ (and_right (tag_matches s k (size_at x.image k) p) _ u);
-          });
+          record {
+            is_sound = grind (arith, common_steps);
+            is_live_lem = grind (arith, common_steps);
+            matches = grind (arith, common_steps);
+            near = grind (arith, common_steps);
+          };
     }
 
 -- the object lies in the image
@@ -250,26 +246,6 @@ module _ (s : ℕ) (p : Pointer) (x : State) where
           ap (λ (b : Bool). demand b Dangling (Ok h)) matches ∙ led size (rw here l) e
 
 -- What the tag reader answers.
-
--- by the answer of its tests
-pub found_by : (s : ℕ) (p : Pointer) (x : State) (a : Answer) → a ≡ located s p x → found_at a x.image p ≡ read_tag s p x
-unfolding read_tag
-found_by s p x a e = rw e
-
-pub found-refused : (r : Refusal) (image : List ℕ) (p : Pointer) → Err r ≡ found_at (Err r) image p
-unfolding found_at
-found-refused r image p = refl
-
--- the header's test decides on 11
-
-pub found-verified : (b : Bool) (image : List ℕ) (h size : ℕ) (p : Pointer) → b ≡ true → size ≡ size_at image h
-    → Ok (reading h size p) ≡ found_at (demand b Dangling (Ok h)) image p
-unfolding found_at
-found-verified b image h size p e n = rw (e, n) refl
-
-pub found_dangling : (b : Bool) (image : List ℕ) (h : ℕ) (p : Pointer) → b ≡ false → Err Dangling ≡ found_at (demand b Dangling (Ok h)) image p
-unfolding found_at
-found_dangling b image h p e = rw e
 
 -- the answers of the tests, by those of the reader
 
