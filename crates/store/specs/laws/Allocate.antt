@@ -217,21 +217,29 @@ module _ (image : List ℕ) (h size type cue extent : ℕ) (e : extent ≡ exten
 -- the block that is carved, where the free one has room
 
 module _ (image : List ℕ) (h size type cue : ℕ) (room : 16 + size ≤ extent_at image h) (inside : h + extent_at image h ≤ length image) where
+  -- the live block, with a rest behind it
+  abbrev live : List ℕ
+  live = put image h (live_header (16 + size) type size cue)
+
+  length-live : length live ≡ length image
+  length-live = length-put image h (live_header (16 + size) type size cue) (omega (arith, length-header (16 + size) 2 type size cue))
+
+  -- and the rest has room for its header
+  rest_fits : 16 ≤ extent_at image h - (16 + size) → h + (16 + size) + length (free_header (extent_at image h - (16 + size))) ≤ length live
+  rest_fits rest = omega (arith, length-live, length-header (extent_at image h - (16 + size)) 1 0 0 0)
+
   -- carving keeps the length
   pub length-carved : length (carved image h size type cue) ≡ length image
   length-carved =
       let extent : ℕ = extent_at image h in
       let n = length-header extent 2 type size cue in
-      let m = length-header (16 + size) 2 type size cue in
-      let k = length-header (extent - (16 + size)) 1 0 0 0 in
       by_bool (ltb (extent - (16 + size)) 16)
       (λ t. ap length (carved-whole image h size type cue extent refl (ltb-true _ _ t)) ∙ length-put image h (live_header extent type size cue) (omega arith))
       (λ t.
       let rest : 16 ≤ extent - (16 + size) = ltb-false _ _ t in
-      let one : length (put image h (live_header (16 + size) type size cue)) ≡ length image = length-put image h (live_header (16 + size) type size cue) (omega arith) in
       ap length (carved_rest image h size type cue extent refl rest)
-      ∙ length-put (put image h (live_header (16 + size) type size cue)) (h + (16 + size)) (free_header (extent - (16 + size))) (omega arith)
-      ∙ one)
+      ∙ length-put live (h + (16 + size)) (free_header (extent - (16 + size))) (rest_fits rest)
+      ∙ length-live)
 
   -- and the slot exponent
   pub carved_exponent : 16 ≤ h → slot_exponent (carved image h size type cue) ≡ slot_exponent image
@@ -239,16 +247,14 @@ module _ (image : List ℕ) (h size type cue : ℕ) (room : 16 + size ≤ extent
       let extent : ℕ = extent_at image h in
       let n = length-header extent 2 type size cue in
       let m = length-header (16 + size) 2 type size cue in
-      let k = length-header (extent - (16 + size)) 1 0 0 0 in
       by_bool (ltb (extent - (16 + size)) 16)
       (λ t.
       ap slot_exponent (carved-whole image h size type cue extent refl (ltb-true _ _ t))
       ∙ (superblock_kept image h (live_header extent type size cue) (omega arith) (omega arith)).1)
       (λ t.
       let rest : 16 ≤ extent - (16 + size) = ltb-false _ _ t in
-      let one : length (put image h (live_header (16 + size) type size cue)) ≡ length image = length-put image h (live_header (16 + size) type size cue) (omega arith) in
       ap slot_exponent (carved_rest image h size type cue extent refl rest)
-      ∙ (superblock_kept (put image h (live_header (16 + size) type size cue)) (h + (16 + size)) (free_header (extent - (16 + size))) (omega arith) (omega arith)).1
+      ∙ (superblock_kept live (h + (16 + size)) (free_header (extent - (16 + size))) (rest_fits rest) (omega arith)).1
       ∙ (superblock_kept image h (live_header (16 + size) type size cue) (omega arith) (omega arith)).1)
 
   -- its header: the extent that is taken, with at most 15 spare bytes, the type, the size and the cue
@@ -263,7 +269,6 @@ module _ (image : List ℕ) (h size type cue : ℕ) (room : 16 + size ≤ extent
   carved-header short fits cue_fits =
       let extent : ℕ = extent_at image h in
       let m = length-header (16 + size) 2 type size cue in
-      let k = length-header (extent - (16 + size)) 1 0 0 0 in
       by_bool (ltb (extent - (16 + size)) 16)
       (λ t.
       let few : extent - (16 + size) < 16 = ltb-true _ _ t in
@@ -281,11 +286,10 @@ module _ (image : List ℕ) (h size type cue : ℕ) (room : 16 + size ≤ extent
       (λ t.
       let rest : 16 ≤ extent - (16 + size) = ltb-false _ _ t in
       let taken : taken_extent image h size ≡ 16 + size = taken_rest image h size extent refl rest in
-      let one : length (put image h (live_header (16 + size) type size cue)) ≡ length image = length-put image h (live_header (16 + size) type size cue) (omega arith) in
       record {
         is_header =
             ap (λ (i : List ℕ). header_at i h) (carved_rest image h size type cue extent refl rest)
-            ∙ header_at-put_other (put image h (live_header (16 + size) type size cue)) (h + (16 + size)) (free_header (extent - (16 + size))) h (omega arith) (inl (omega arith))
+            ∙ header_at-put_other live (h + (16 + size)) (free_header (extent - (16 + size))) h (rest_fits rest) (inl (omega arith))
             ∙ header_at-put image h (16 + size) 2 type size cue (omega arith)
             (record { extent_fits = omega arith; kind_fits = omega arith; type_fits = fits; size_fits = omega arith; cue_fits = cue_fits })
             ∙ ap (λ (e : ℕ). fields e 2 type size cue) (sym taken);

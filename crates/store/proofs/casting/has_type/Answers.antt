@@ -7,7 +7,9 @@ use Rattle.store.specs.laws.TagReading.{read_found, located-inside}
 use Rattle.store.proofs.casting.has_type.Goals as goal
 
 pub read_header-d-requires : goal.read_header-d-requires
-read_header-d-requires c = omega (arith, located-inside _ _ (seen c.in_ok-store.store) _ (read_found _ _ (seen c.in_ok-store.store) _ (sym c.in_ok-object.ensures)).object)
+read_header-d-requires c =
+    let f = read_found _ _ (seen c.in_ok-store.store) _ (sym c.in_ok-object.ensures) in
+    omega (arith, located-inside _ _ (seen c.in_ok-store.store) _ f.object)
 
 -- row 4 or 5
 pub returns-in_err-store : goal.returns-in_err-store

@@ -23,7 +23,9 @@ pub give_back-requires : goal.give_back-requires
 give_back-requires c = grind (arith, common_steps, accepted _ c.in_ok-store.store _ _ c.in_ok-store.ensures c.in_ok-block.ensures)
 
 pub clear_entry-requires : goal.clear_entry-requires
-clear_entry-requires c = grind (arith, common_steps, accepted _ c.in_ok-store.store _ _ c.in_ok-store.ensures c.in_ok-block.ensures, opened c.in_ok-store.store _ c.in_ok-store.ensures, good_large, reach-large, entry_used)
+clear_entry-requires c =
+    grind (arith, common_steps, opened c.in_ok-store.store _ c.in_ok-store.ensures,
+    accepted _ c.in_ok-store.store _ _ c.in_ok-store.ensures c.in_ok-block.ensures, good_large, reach-large, entry_used)
 
 -- row 4 or 5
 pub returns-in_err-store : goal.returns-in_err-store
@@ -38,4 +40,6 @@ returns-in_err-block c = grind (arith, common_steps)
 -- the object is freed
 pub returns : goal.returns
 unfolding free freed
-returns c = grind (arith, common_steps, accepted _ c.in_ok-store.store _ _ c.in_ok-store.ensures c.in_ok-block.ensures, opened c.in_ok-store.store _ c.in_ok-store.ensures, cleared-noted)
+returns c =
+    grind (arith, common_steps, opened c.in_ok-store.store _ c.in_ok-store.ensures,
+    accepted _ c.in_ok-store.store _ _ c.in_ok-store.ensures c.in_ok-block.ensures, cleared-noted)

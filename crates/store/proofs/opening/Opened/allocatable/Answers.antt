@@ -10,10 +10,12 @@ use Rattle.store.proofs.Lent.{opens}
 use Rattle.store.proofs.opening.Opened.allocatable.Goals as goal
 
 pub tag_object-tagged-requires : goal.tag_object-tagged-requires
-tag_object-tagged-requires c = grind (arith, common_steps, fit_needs (seen c.args.self.now) _ _ _ (opens c.args.self.now) (sym c.first_fit.ensures ∙ c.in-At.is))
+tag_object-tagged-requires c =
+    grind (arith, common_steps, fit_needs (seen c.args.self.now) _ _ _ (opens c.args.self.now) (sym c.first_fit.ensures ∙ c.in-At.is))
 
 pub entry_holds-requires : goal.entry_holds-requires
-entry_holds-requires c = grind (arith, common_steps, tagged_in, fit_needs (seen c.args.self.now) _ _ _ (opens c.args.self.now) (sym c.first_fit.ensures ∙ c.in-At.is))
+entry_holds-requires c =
+    grind (arith, common_steps, tagged_in, fit_needs (seen c.args.self.now) _ _ _ (opens c.args.self.now) (sym c.first_fit.ensures ∙ c.in-At.is))
 
 pub stored_total-requires : goal.stored_total-requires
 stored_total-requires c = omega (arith, (opens c.args.self.now).long)

@@ -17,8 +17,10 @@ pub returns-then-not-in_body : goal.returns-then-not-in_body
 returns-then-not-in_body c = grind (arith, common_steps, text_out)
 
 pub find_text-requires : goal.find_text-requires
-find_text-requires c = grind (arith, common_steps, body_ahead _ _ (seen c.args.self.now) _ (sym c.in_ok-object.ensures) c.args.self.now.opens (sym c.if-not-in_body.ensures))
+find_text-requires c =
+    grind (arith, common_steps, body_ahead _ _ (seen c.args.self.now) _ (sym c.in_ok-object.ensures) c.args.self.now.opens (sym c.if-not-in_body.ensures))
 
 -- the length, or row 20
 pub returns : goal.returns
-returns c = grind (arith, common_steps, body_ahead _ _ (seen c.args.self.now) _ (sym c.in_ok-object.ensures) c.args.self.now.opens (sym c.if-not-in_body.ensures), text_or)
+returns c =
+    grind (arith, common_steps, text_or, body_ahead _ _ (seen c.args.self.now) _ (sym c.in_ok-object.ensures) c.args.self.now.opens (sym c.if-not-in_body.ensures))
