@@ -64,10 +64,6 @@ difference_is : (a b : ℕ) → pos a -ℤ pos b ≡ sub_ℕ a b
 difference_is a zero = ap pos (omega arith) ∙ sym (difference_high a zero (omega arith))
 difference_is a (suc b) = refl
 
--- it fits the bits that both fit
-pub difference_fits : (a b n : ℕ) → a < n → b < n → mag (pos a -ℤ pos b) < n
-difference_fits a b n k l = rw (difference_is a b) (by_difference (λ z. mag z < n) a b (λ u. omega arith) (λ u. omega arith))
-
 -- What the two numbers say, of a pointer and an object of `size` bytes at h.
 
 module _ (h : ℕ) (p : Pointer) where
