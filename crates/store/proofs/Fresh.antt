@@ -1,28 +1,13 @@
--- Set-up: ranges, clearing entries, laying out a fresh image. Assumes nothing.
-use Rattle.std.specs.Prelude.{◌≡◌, refl, true, false, List, [], ◌++◌, ℕ, ◌+◌, ◌-◌, ◌≤◌, ◌<◌, length, replicate}
-use Rattle.std.proofs.lemmas.Grind.{common_steps}
-use Rattle.std.proofs.Common.{sym, ap, ◌∙◌, append-nil, arith, le-leb}
-use Rattle.std.proofs.Math.Bool.{and-false}
+-- Set-up: laying out a fresh image. Assumes nothing.
+use Rattle.std.specs.Prelude.{◌≡◌, refl, List, [], ◌++◌, ℕ, ◌+◌, ◌-◌, ◌≤◌, length, replicate}
+use Rattle.std.proofs.Common.{sym, ap, ◌∙◌, append-nil, arith}
 use Rattle.std.proofs.lemmas.List.{length-replicate, replicate-append-replicate}
-use Rattle.std.proofs.lemmas.Bool.{lt-leb}
 use Rattle.block.specs.Bytes.{put}
 use Rattle.block.specs.laws.Writes.{put-at}
-use Rattle.block.specs.Layout.{within, superblock, free_header}
+use Rattle.block.specs.Layout.{superblock, free_header}
 use Rattle.block.specs.laws.Headers.{length-header}
 use Rattle.block.specs.laws.Superblock.{length-superblock}
-use Rattle.block.specs.laws.Booleans.{and_both}
 use Rattle.store.specs.Calls.{fresh}
-
--- ranges
-
-pub within_low : (lo hi x : ℕ) → x < lo → within lo hi x ≡ false
-within_low lo hi x l = grind (arith, common_steps)
-
-pub within_high : (lo hi x : ℕ) → hi < x → within lo hi x ≡ false
-within_high lo hi x l = grind (arith, common_steps)
-
-pub within_in : (lo hi x : ℕ) → lo ≤ x → x ≤ hi → within lo hi x ≡ true
-within_in lo hi x l u = grind (arith, common_steps)
 
 -- laying out
 

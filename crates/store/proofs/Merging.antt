@@ -35,10 +35,6 @@ pub record Meets (image : List ℕ) (h before next : ℕ) : Type 0 where
   pub follows : next ≡ h + extent_at image h
   pub is_sound : sound image h ≡ true
 
--- from the walk, and from what the code has added
-pub meets : (image : List ℕ) (h before e : ℕ) → walk_to image h ≡ Some before → e ≡ extent_at image h → sound image h ≡ true → Meets image h before (h + e)
-meets image h before e w q s = record { met = w; follows = ap (λ (n : ℕ). h + n) q; is_sound = s }
-
 module _ {image : List ℕ} {h before next : ℕ} (m : Meets image h before next) where
   -- the block before h has room for a header
   pub before_in : before + 16 ≤ length image

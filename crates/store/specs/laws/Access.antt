@@ -1,9 +1,9 @@
 -- Bytes through a pointer: rows 10, 11 and 13. Assumes nothing.
 use Rattle.std.specs.Prelude.{ℕ, ◌+◌, ◌≤◌, ◌<◌, ◌≡◌, refl, Bool, true, false, ◌&&◌, cond, List, ◌↔◌, leb, length, Err, Ok}
 use Rattle.std.proofs.lemmas.Grind.{common_steps}
-use Rattle.std.proofs.Common.{sym, ap, ◌∙◌, inl, arith, leb-true, le-leb}
+use Rattle.std.proofs.Common.{sym, ap, ◌∙◌, inl, arith, le-leb}
 use Rattle.frame.specs.declared.parts.Pointer.{Pointer}
-use Rattle.block.specs.laws.Booleans.{by_bool, true_false, and_left, and_right}
+use Rattle.block.specs.laws.Booleans.{by_bool, true_false}
 use Rattle.block.specs.Layout.{size_at}
 use Rattle.block.specs.Bytes.{put}
 use Rattle.block.specs.laws.Headers.{header_at-put_other}

@@ -5,7 +5,7 @@ use Rattle.std.proofs.Common.{◌∙◌, arith, ltb-true, ltb-false, leb-true, l
 use Rattle.std.proofs.Math.Path.{refl, sym, ap}
 use Rattle.std.proofs.Math.Dec.{leb}
 use Rattle.std.proofs.Math.IntN.{sub_ℕ}
-use Rattle.std.specs.Int.Signed.{mag, le_z}
+use Rattle.std.specs.Int.Signed.{le_z}
 use Rattle.std.proofs.lemmas.Bool.{lt-leb}
 use Rattle.frame.specs.Pointers.{unpack}
 use Rattle.frame.specs.declared.parts.Pointer.{Pointer}

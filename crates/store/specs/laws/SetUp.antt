@@ -6,7 +6,6 @@ use Rattle.std.proofs.lemmas.List.{length-replicate}
 use Rattle.std.proofs.lemmas.Bool.{lt-leb}
 use Rattle.std.proofs.Math.Seq.{take_at, drop_at}
 use Rattle.frame.specs.Tags.{used_entries}
-use Rattle.block.specs.laws.Booleans.{and_left, and_right}
 use Rattle.block.specs.Layout.{good_exponent, good_length, superblock, free_header}
 use Rattle.block.specs.laws.Headers.{length-header}
 use Rattle.block.specs.laws.Superblock.{length-superblock}

@@ -2,7 +2,7 @@
 -- In order: what is known where they are passed, how they are passed, what a write keeps, that an object's pointers lead to it, each way out. Assumes nothing.
 use Rattle.std.specs.Prelude.{ℕ, ◌+◌, ◌*◌, ◌/◌, ◌^◌, ◌≤◌, ◌<◌, ◌≡◌, Bool, true, false, ◌&&◌, List, ltb, eqb, length, get_or, Err, None, Ok, Some}
 use Rattle.std.proofs.lemmas.Grind.{common_steps}
-use Rattle.std.proofs.Common.{ap, ap₂, ◌∙◌, inl, div-mul-le_self, arith, ltb-true, eqb-true, lt-ltb, eq-eqb, ne_eqb, le-ltb}
+use Rattle.std.proofs.Common.{ap, ap₂, ◌∙◌, inl, div-mul-le_self, arith, lt-ltb, eq-eqb, ne_eqb, le-ltb}
 use Rattle.std.proofs.Math.Path.{refl, sym}
 use Rattle.std.proofs.Math.Bool.{and_assoc, and-true, and-false}
 use Rattle.frame.specs.Frame.{frame_start, same_frame}
@@ -13,7 +13,7 @@ use Rattle.frame.specs.laws.Pointers.{good_small, reach_small, reach-large}
 use Rattle.frame.specs.laws.Tags.{slot_holds, frame_holds, slot_near, slot_matches, frame_matches, pointer_small, pointer_large, reach_slot, reach-wrapper, by_frame}
 use Rattle.frame.specs.laws.Objects.{PointerOf, same-reach, object_tag, object_matches}
 use Rattle.frame.specs.declared.parts.Pointer.{Pointer}
-use Rattle.block.specs.laws.Booleans.{by_bool, and_left, and_right}
+use Rattle.block.specs.laws.Booleans.{by_bool}
 use Rattle.block.specs.Bytes.{put}
 use Rattle.block.specs.Layout.{header_at, sound, is_live, size_at, kind_at}
 use Rattle.block.specs.laws.Writes.{length-put}

@@ -2,11 +2,11 @@
 use Rattle.std.proofs.Common.{arith, sym}
 use Rattle.std.proofs.lemmas.Grind.{common_steps}
 use Rattle.store.specs.Calls.{load_answer}
-use Rattle.store.specs.laws.Access.{accessed_parts, width_range}
+use Rattle.store.specs.laws.Access.{accessed_parts}
 use Rattle.store.proofs.access.load.Goals as goal
 
 pub read_field-requires : goal.read_field-requires
-read_field-requires c = grind (arith, common_steps, width_range, accessed_parts _ _ _ _ _ (sym c.in_ok-at.ensures))
+read_field-requires c = grind (arith, common_steps, accessed_parts _ _ _ _ _ (sym c.in_ok-at.ensures))
 
 pub returns-in_err-store : goal.returns-in_err-store
 unfolding load_answer

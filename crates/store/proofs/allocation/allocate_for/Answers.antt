@@ -11,7 +11,6 @@ use Rattle.store.specs.laws.Entries.{tagged_in, tagged-noted}
 use Rattle.store.specs.laws.Allocate.{Allocates, site_of, site_declined, site_chosen, allocate_parts, allocate_shut, allocate_declined}
 use Rattle.store.specs.declared.allocation.Site.{Site}
 use Rattle.store.specs.declared.opening.Opened.{Opened}
-use Rattle.store.proofs.Carving.{fit_needs}
 use Rattle.store.proofs.Lent.{opened}
 use Rattle.store.proofs.allocation.allocate_for.Goals as goal
 
@@ -32,7 +31,7 @@ pub allot-requires : goal.allot-requires
 allot-requires c = grind (arith, common_steps, placed _ c.in_ok-new.field-0 _ _ c.in_ok-new.ensures c.in_ok-site.ensures)
 
 pub note-requires : goal.note-requires
-note-requires c = grind (arith, common_steps, placed _ c.in_ok-new.field-0 _ _ c.in_ok-new.ensures c.in_ok-site.ensures, fit_needs, tagged_in)
+note-requires c = grind (arith, common_steps, placed _ c.in_ok-new.field-0 _ _ c.in_ok-new.ensures c.in_ok-site.ensures, tagged_in)
 
 pub pack-requires : goal.pack-requires
 pack-requires c = grind (arith, common_steps, placed _ c.in_ok-new.field-0 _ _ c.in_ok-new.ensures c.in_ok-site.ensures, tagged_pointer_lem, pointer_range)

@@ -24,8 +24,15 @@ give_back-requires c = grind (arith, common_steps, accepted _ c.in_ok-store.stor
 
 pub clear_entry-requires : goal.clear_entry-requires
 clear_entry-requires c =
-    grind (arith, common_steps, opened c.in_ok-store.store _ c.in_ok-store.ensures,
-    accepted _ c.in_ok-store.store _ _ c.in_ok-store.ensures c.in_ok-block.ensures, good_large, reach-large, entry_used)
+    grind (
+      arith,
+      common_steps,
+      opened c.in_ok-store.store _ c.in_ok-store.ensures,
+      accepted _ c.in_ok-store.store _ _ c.in_ok-store.ensures c.in_ok-block.ensures,
+      good_large,
+      reach-large,
+      entry_used,
+    )
 
 -- row 4 or 5
 pub returns-in_err-store : goal.returns-in_err-store
@@ -41,5 +48,10 @@ returns-in_err-block c = grind (arith, common_steps)
 pub returns : goal.returns
 unfolding free freed
 returns c =
-    grind (arith, common_steps, opened c.in_ok-store.store _ c.in_ok-store.ensures,
-    accepted _ c.in_ok-store.store _ _ c.in_ok-store.ensures c.in_ok-block.ensures, cleared-noted)
+    grind (
+      arith,
+      common_steps,
+      opened c.in_ok-store.store _ c.in_ok-store.ensures,
+      accepted _ c.in_ok-store.store _ _ c.in_ok-store.ensures c.in_ok-block.ensures,
+      cleared-noted,
+    )

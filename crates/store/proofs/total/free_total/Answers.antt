@@ -7,7 +7,7 @@ use Rattle.store.proofs.total.free_total.Goals as goal
 
 pub returns : goal.returns
 unfolding free_total
-returns c = grind (arith, common_steps, c.in_ok-store.store.opens)
+returns c = grind (arith, common_steps)
 
 pub returns-in_err-store : goal.returns-in_err-store
 unfolding free_total

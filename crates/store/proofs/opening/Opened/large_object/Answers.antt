@@ -24,7 +24,7 @@ pub frame_holds-requires : goal.frame_holds-requires
 frame_holds-requires c = grind (arith, common_steps, good_large, opens c.args.self.now, object_inside)
 
 pub measure-requires : goal.measure-requires
-measure-requires c = grind (arith, common_steps, opens c.args.self.now, object_inside)
+measure-requires c = grind (arith, common_steps, object_inside)
 
 -- row 10
 pub returns-then-not-frame_tag_good : goal.returns-then-not-frame_tag_good

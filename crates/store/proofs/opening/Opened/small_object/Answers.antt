@@ -19,7 +19,7 @@ pub slot_holds-requires : goal.slot_holds-requires
 slot_holds-requires c = grind (arith, common_steps, opens c.args.self.now, object_inside)
 
 pub measure-requires : goal.measure-requires
-measure-requires c = grind (arith, common_steps, opens c.args.self.now, object_inside)
+measure-requires c = grind (arith, common_steps, object_inside)
 
 -- row 10
 pub returns-then-not-slot_tag_good : goal.returns-then-not-slot_tag_good

@@ -3,14 +3,13 @@ use Rattle.std.proofs.Common.{arith}
 use Rattle.std.proofs.lemmas.Grind.{common_steps}
 use Rattle.store.specs.Calls.{copy_text_checks}
 use Rattle.store.specs.laws.CopyText.{text_inside}
-use Rattle.store.proofs.Lent.{opens}
 use Rattle.store.proofs.opening.Opened.text_copyable.Goals as goal
 
 pub overflow_add-n : goal.overflow_add-n
-overflow_add-n c = grind (arith, common_steps, text_inside, opens)
+overflow_add-n c = grind (arith, common_steps, text_inside)
 
 pub access-requires : goal.access-requires
-access-requires c = grind (arith, common_steps, text_inside, opens)
+access-requires c = grind (arith, common_steps, text_inside)
 
 pub returns-in_err-n : goal.returns-in_err-n
 unfolding copy_text_checks
