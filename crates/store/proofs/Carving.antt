@@ -1,9 +1,6 @@
 -- What an object's tag and table entry ask for. Assumes nothing.
-use Rattle.std.specs.Prelude.{◌≡◌, Bool, true, false, Ok, Err}
-use Rattle.std.proofs.Common.{sym, ap, ◌∙◌}
-use Prim.Native.Nat.{ℕ, ◌+◌, ◌^◌, ◌≤◌, ◌<◌}
-use native.Mathlib.Omega.{arith}
-use lib.ListN.{length}
+use Rattle.std.specs.Prelude.{◌≡◌, Bool, true, false, Ok, Err, ℕ, ◌+◌, ◌^◌, ◌≤◌, ◌<◌, length}
+use Rattle.std.proofs.Common.{sym, ap, ◌∙◌, arith}
 use Rattle.frame.specs.Tags.{wrapper, entry_of}
 use Rattle.block.specs.laws.Soundness.{sound_low, sound-end}
 use Rattle.block.specs.Walk.{first_fit}

@@ -1,13 +1,6 @@
 -- The claim on the type check before a cast. Assumes nothing.
-use Rattle.std.specs.Prelude.{Err, Ok}
-use Prim.Native.Nat.{ℕ, ◌≤◌}
-use mathlib.Core.Path.{◌≡◌, refl, sym, ap, ◌∙◌, subst}
-use mathlib.Core.Bool.{Bool, true, false, cond}
-use mathlib.Core.List.{List}
-use mathlib.Core.Logic.{◌⊎◌, inl, inr, ◌↔◌}
-use native.Mathlib.Omega.{arith}
-use lib.ListN.{length}
-use lib.IntN.{ℤ, pos, negsuc}
+use Rattle.std.specs.Prelude.{Err, Ok, ℕ, ◌≤◌, ◌≡◌, refl, Bool, true, false, cond, List, ◌⊎◌, ◌↔◌, length, ℤ, pos, negsuc}
+use Rattle.std.proofs.Common.{sym, ap, ◌∙◌, subst, inl, inr, arith}
 use Rattle.frame.specs.Pointers.{unpack}
 use Rattle.block.specs.Layout.{type_at, size_at}
 use Rattle.block.specs.laws.Booleans.{refuted}
@@ -50,7 +43,7 @@ module _ (list : List ℕ) (g : good_list list ≡ true) (type size : ℕ) where
       go (unlisted f e) = ((λ t. inl (λ q. missed list (length list) type q (end_reached list g) f)), λ u. refused e)
       go (short q f l e) = ((λ t. inr (q, lookup_describes list g type q f, l)), λ u. refused e)
       go (covering q f l e) = (
-        (λ t. let z : ◌≡◌ {A = ℕ} 0 25 = sym (ap returned (cast_described list wanted type size d q e)) ∙ t in absurd (omega arith)),
+        (λ t. absurd (omega (arith, ap returned (cast_described list wanted type size d q e), t))),
         (λ u. absurd (none u)),
       )
         where
@@ -89,7 +82,7 @@ module _ (list : List ℕ) (p wanted : ℕ) (x : State) (h q : ℕ) (c : Castabl
                 (computed_has list wanted q o (describes_stands list good (type_at x.image h) q c.described)
                 (yes_is (type_has list wanted q o) (sym (has_offset list wanted q o) ∙ t)));
           }
-      go (negsuc n) d t = let z : ◌≡◌ {A = ℕ} 0 1 = sym (has_negative list wanted q n) ∙ t in absurd (omega arith)
+      go (negsuc n) d t = absurd (omega (arith, has_negative list wanted q n, t))
 
   has_says : HasWanted list p wanted x h → has_at list wanted q (from_start h (unpack p)) ≡ 1
   has_says w =
@@ -117,9 +110,7 @@ module _ (list : List ℕ) (p wanted : ℕ) (x : State) (h q : ℕ) (c : Castabl
 
   no : (has_type list p wanted x ≡ Ok 0) ↔ (HasWanted list p wanted x h → ⊥)
   no = (
-    (λ e w.
-        let z : ◌≡◌ {A = ℕ} 1 0 = sym (has_says w) ∙ ap value (sym answer_is ∙ e) in
-        omega arith),
+    (λ e w. omega (arith, has_says w, ap value (sym answer_is ∙ e))),
     λ n. answer_is ∙ ap Ok (says_no (λ e. n (says_has e))),
   )
 

@@ -1,18 +1,9 @@
 -- What holds of single calls on every image and table.
 -- In order: shapes that are kept; how each call ends; the claims. Assumes nothing.
-use Rattle.store.specs.State.{usage_of}
-use Rattle.store.specs.Calls.{merge_of}
 use Rattle.store.specs.State.{measured_as}
-use Rattle.std.specs.Prelude.{Err, Ok, Result}
-use Prim.Native.Nat.{ℕ, ◌+◌, ◌^◌, ◌≤◌, ◌<◌}
-use mathlib.Core.Path.{◌≡◌, refl, sym, ap, ap₂, ◌∙◌, subst}
-use mathlib.Core.List.{List, [], ◌∷◌}
-use mathlib.Core.Logic.{◌↔◌}
-use native.Mathlib.Omega.{arith}
-use lib.IntN.{ℤ, pos, ◌+ℤ◌, ◌-ℤ◌}
-use lib.ListN.{length, take, drop, replicate, length-append, length-drop, length-replicate}
-use lib.Seq.{drop_at, length-take-le}
-use borrow.Author.Tests.{eq-eqb}
+use Rattle.std.specs.Prelude.{Err, Ok, Result, ℕ, ◌+◌, ◌^◌, ◌≤◌, ◌<◌, ◌≡◌, refl, List, [], ◌∷◌, ◌↔◌, ℤ, pos, ◌+ℤ◌, ◌-ℤ◌, length, take, drop, replicate}
+use Rattle.std.proofs.Common.{sym, ap, ap₂, ◌∙◌, subst, arith, length-append, length-drop, drop_at, length-take-le, eq-eqb}
+use Rattle.std.proofs.lemmas.List.{length-replicate}
 use Rattle.frame.specs.Pointers.{unpack, pack}
 use Rattle.frame.specs.Tags.{pointer_to, used_entries}
 use Rattle.frame.specs.declared.parts.Pointer.{Pointer}
@@ -51,12 +42,9 @@ use Rattle.store.specs.laws.Tally.{tally_balanced}
 use Rattle.store.specs.State.{Answer}
 use Rattle.store.specs.declared.release.FreedBlock.{FreedBlock}
 use Rattle.store.specs.declared.locate.Reading.{Reading}
-use Rattle.store.specs.declared.measuring.BodyEnds.{BodyEnds}
-use Rattle.block.specs.declared.walk.Counts.{Counts}
 use Rattle.store.proofs.Sweeping.{sweep_freed}
 use Rattle.store.proofs.Gathering.{sweep_begins}
 use Rattle.store.specs.declared.answer.Refusal.{Refusal}
-use Rattle.std.specs.declared.cmp.Ordering.{Ordering}
 use Rattle.store.specs.State.{Usage, Comparison, Measurement}
 
 -- how a call ends: refused with nothing changed, or accepted with the shape kept

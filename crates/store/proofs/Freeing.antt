@@ -1,14 +1,7 @@
 -- One free where the block before the object is known: what it leaves, found without a walk. Assumes nothing.
 use Rattle.store.specs.Calls.{merge_of}
-use Rattle.std.specs.Prelude.{Ok, Result}
-use Prim.Native.Nat.{ℕ, ◌+◌, ◌-◌, ◌^◌, ◌≤◌}
-use mathlib.Core.Path.{◌≡◌, refl, sym, ap, ◌∙◌, subst}
-use mathlib.Core.Bool.{true, ◌||◌}
-use mathlib.Core.List.{List}
-use native.Mathlib.Omega.{arith}
-use lib.Dec.{leb}
-use lib.ListN.{length}
-use borrow.Author.Tests.{lt-ltb, eq-eqb}
+use Rattle.std.specs.Prelude.{Ok, Result, ℕ, ◌+◌, ◌-◌, ◌^◌, ◌≤◌, ◌≡◌, refl, true, ◌||◌, List, leb, length}
+use Rattle.std.proofs.Common.{sym, ap, ◌∙◌, subst, arith, lt-ltb, eq-eqb}
 use Rattle.frame.specs.Pointers.{unpack, pack}
 use Rattle.frame.specs.Tags.{pointer_to}
 use Rattle.frame.specs.laws.Objects.{unpack_address}

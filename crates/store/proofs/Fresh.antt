@@ -1,39 +1,13 @@
--- Set-up: ranges, clearing entries, laying out a fresh image. Assumes nothing.
-use mathlib.Core.Path.{◌≡◌, refl, sym, ap, ◌∙◌}
-use mathlib.Core.Bool.{true, false, and-false}
-use mathlib.Core.List.{List, [], ◌++◌, append-nil}
-use Prim.Native.Nat.{ℕ, suc, ◌+◌, ◌-◌, ◌≤◌, ◌<◌}
-use native.Mathlib.Numerals.{add-one}
-use native.Mathlib.Omega.{arith}
-use lib.ListN.{length, drop, get_or, set, replicate, length-replicate, replicate-append-replicate}
-use lib.Seq.{drop-cons, set_at, append_snoc}
-use borrow.Author.Tests.{le-leb, lt-leb}
+-- Set-up: laying out a fresh image. Assumes nothing.
+use Rattle.std.specs.Prelude.{◌≡◌, refl, List, [], ◌++◌, ℕ, ◌+◌, ◌-◌, ◌≤◌, length, replicate}
+use Rattle.std.proofs.Common.{sym, ap, ◌∙◌, append-nil, arith}
+use Rattle.std.proofs.lemmas.List.{length-replicate, replicate-append-replicate}
 use Rattle.block.specs.Bytes.{put}
 use Rattle.block.specs.laws.Writes.{put-at}
-use Rattle.block.specs.Layout.{within, superblock, free_header}
+use Rattle.block.specs.Layout.{superblock, free_header}
 use Rattle.block.specs.laws.Headers.{length-header}
 use Rattle.block.specs.laws.Superblock.{length-superblock}
-use Rattle.block.specs.laws.Booleans.{and_both}
 use Rattle.store.specs.Calls.{fresh}
-
--- ranges
-
-pub within_low : (lo hi x : ℕ) → x < lo → within lo hi x ≡ false
-within_low lo hi x l = simp (lt-leb _ _ l)
-
-pub within_high : (lo hi x : ℕ) → hi < x → within lo hi x ≡ false
-within_high lo hi x l = simp (and-false, lt-leb _ _ l)
-
-pub within_in : (lo hi x : ℕ) → lo ≤ x → x ≤ hi → within lo hi x ≡ true
-within_in lo hi x l u = and_both _ _ (le-leb _ _ l) (le-leb _ _ u)
-
--- clearing entries: one entry more
-pub clear_turn : (t : List ℕ) (i : ℕ) → i < length t → set (replicate i 0 ++ drop i t) i 0 ≡ replicate (i + 1) 0 ++ drop (i + 1) t
-clear_turn t i l =
-    ap (λ (x : List ℕ). set (replicate i 0 ++ x) i 0) (drop-cons t i 0 l)
-    ∙ set_at (replicate i 0) (get_or t i 0) (drop (suc i) t) 0 i (length-replicate i 0)
-    ∙ sym (append_snoc (replicate i 0) 0 (drop (suc i) t))
-    ∙ rw (← replicate-append-replicate {A = ℕ} i 1 0, add-one i) refl
 
 -- laying out
 

@@ -1,12 +1,8 @@
 -- The tests of a release: the walk that gathers the objects of the cue, and rows 7, 21 and 22.
 -- In order: the walk, block by block, and its ways out; what tests that are passed say, with which the pass begins. Assumes nothing.
-use Rattle.std.specs.Prelude.{Err, None, Ok}
-use Prim.Native.Nat.{ℕ, ◌+◌, ◌≤◌}
-use mathlib.Core.Path.{◌≡◌, refl, sym, ap, ◌∙◌, subst}
-use mathlib.Core.Bool.{Bool, true, false, cond, ◌&&◌, and-true}
-use mathlib.Core.List.{List, [], ◌∷◌, ◌++◌, append-nil, append_assoc}
-use native.Mathlib.Omega.{arith}
-use lib.ListN.{length, length-append}
+use Rattle.std.specs.Prelude.{Err, None, Ok, ℕ, ◌+◌, ◌≤◌, ◌≡◌, refl, Bool, true, false, cond, ◌&&◌, List, [], ◌∷◌, ◌++◌, length}
+use Rattle.std.proofs.Common.{sym, ap, ◌∙◌, subst, append-nil, append_assoc, arith, length-append}
+use Rattle.std.proofs.Math.Bool.{and-true}
 use Rattle.block.specs.laws.Booleans.{by_bool, and_left, and_right}
 use Rattle.block.specs.Bytes.{Bytes}
 use Rattle.block.specs.Layout.{stored_total, header_at, extent_at, size_at, sound}

@@ -1,6 +1,5 @@
 -- What the proofs of several functions use.
 mod Tags
-mod Bases
 mod Texts
 mod Fresh
 mod Carving

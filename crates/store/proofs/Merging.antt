@@ -1,14 +1,10 @@
 -- Free, way out by way out: where the merged block starts and ends, and the bytes of it. Assumes nothing.
 use Rattle.store.specs.Calls.{merge_of}
-use Rattle.std.specs.Prelude.{Some, Err}
-use mathlib.Core.Path.{◌≡◌, refl, sym, ap, ◌∙◌}
-use mathlib.Core.Bool.{true, false, cond, and-false}
-use mathlib.Core.List.{List, ◌++◌}
-use Prim.Native.Nat.{ℕ, ◌+◌, ◌-◌, ◌≤◌, ◌<◌}
-use native.Mathlib.Omega.{arith}
-use lib.Dec.{ltb, eqb}
-use lib.ListN.{length, replicate, length-replicate, replicate-append-replicate}
-use borrow.Author.Tests.{le-leb, lt-leb, le-ltb, eq-eqb, ne_eqb}
+use Rattle.std.specs.Prelude.{Some, Err, ◌≡◌, refl, true, false, cond, List, ◌++◌, ℕ, ◌+◌, ◌-◌, ◌≤◌, ◌<◌, ltb, eqb, length, replicate}
+use Rattle.std.proofs.Common.{sym, ap, ◌∙◌, arith, le-leb, le-ltb, eq-eqb, ne_eqb}
+use Rattle.std.proofs.Math.Bool.{and-false}
+use Rattle.std.proofs.lemmas.List.{length-replicate, replicate-append-replicate}
+use Rattle.std.proofs.lemmas.Bool.{lt-leb}
 use Rattle.block.specs.Bytes.{put}
 use Rattle.block.specs.Layout.{free_header, sound, extent_at, kind_at, header_at}
 use Rattle.block.specs.Walk.{walk_to}
@@ -38,10 +34,6 @@ pub record Meets (image : List ℕ) (h before next : ℕ) : Type 0 where
   pub met : walk_to image h ≡ Some before
   pub follows : next ≡ h + extent_at image h
   pub is_sound : sound image h ≡ true
-
--- from the walk, and from what the code has added
-pub meets : (image : List ℕ) (h before e : ℕ) → walk_to image h ≡ Some before → e ≡ extent_at image h → sound image h ≡ true → Meets image h before (h + e)
-meets image h before e w q s = record { met = w; follows = ap (λ (n : ℕ). h + n) q; is_sound = s }
 
 module _ {image : List ℕ} {h before next : ℕ} (m : Meets image h before next) where
   -- the block before h has room for a header

@@ -1,12 +1,7 @@
 -- The pass of a release on the image itself: a run of neighbours is kept back, and written where it ends; the total is written at the end. Assumes nothing.
-use Prim.Native.Nat.{ℕ, ◌+◌, ◌^◌, ◌≤◌, ◌<◌}
-use mathlib.Core.Path.{◌≡◌, refl, sym, ap, ◌∙◌, subst}
-use mathlib.Core.Bool.{Bool, true, false, cond, ◌&&◌, ◌||◌}
-use mathlib.Core.List.{List}
-use native.Mathlib.Omega.{arith}
-use lib.Dec.{leb, ltb, eqb}
-use lib.ListN.{length}
-use borrow.Author.Tests.{lt-leb, eq-eqb}
+use Rattle.std.specs.Prelude.{ℕ, ◌+◌, ◌^◌, ◌≤◌, ◌<◌, ◌≡◌, refl, Bool, true, false, cond, ◌&&◌, ◌||◌, List, leb, ltb, eqb, length}
+use Rattle.std.proofs.Common.{sym, ap, ◌∙◌, subst, arith, eq-eqb}
+use Rattle.std.proofs.lemmas.Bool.{lt-leb}
 use Rattle.frame.specs.Tags.{wrapper, entry_of}
 use Rattle.block.specs.Layout.{stored_total, with_total, header_at, extent_at, size_at, sound}
 use Rattle.block.specs.laws.Soundness.{sound-same, sound_in, sound-extent, sound-end}

@@ -1,7 +1,6 @@
 -- Reading a tag by what the code tests of it: in place of the header, the size of the object that its place leads to. Assumes nothing.
-use Rattle.std.specs.Prelude.{◌≡◌, ℕ, ◌+◌, ◌≤◌, ◌<◌, Bool, true, false, ◌&&◌, List, length, get_or, pos, Some, None, Ok, Err, Result}
-use Rattle.std.specs.Int.Signed.{le_z}
-use Rattle.std.proofs.Common.{◌∙◌, ap, arith, sym}
+use Rattle.std.specs.Prelude.{◌≡◌, ℕ, ◌+◌, ◌≤◌, ◌<◌, true, false, List, length, get_or, Some, None, Ok, Err, Result}
+use Rattle.std.proofs.Common.{◌∙◌, ap, sym, arith}
 use Rattle.frame.specs.Frame.{frame_start}
 use Rattle.frame.specs.Pointers.{good_tag}
 use Rattle.frame.specs.Tags.{entry_at}
@@ -9,13 +8,13 @@ use Rattle.frame.specs.laws.Pointers.{reach-large}
 use Rattle.frame.specs.laws.Tags.{slot_holds, frame_holds}
 use Rattle.frame.specs.declared.parts.Pointer.{Pointer}
 use Rattle.block.specs.laws.Soundness.{sound-end, sound_live, object_at, object_is}
-use Rattle.store.specs.State.{State, demand}
-use Rattle.store.specs.Calls.{reading, read_tag, accessed}
-use Rattle.store.specs.laws.TagReading.{place_small, place-large, bad_tag, starts_past, led_nowhere, led_small, led-large, found_by, found-refused, found-verified, found_dangling}
-use Rattle.store.specs.declared.answer.Refusal.TheVariants.{BadTag, Dangling, OutOfBounds}
+use Rattle.store.specs.State.{State}
+use Rattle.store.specs.Calls.{reading, read_tag, accessed, found_at, header_place}
+use Rattle.store.specs.laws.TagReading.{place_small, place-large, bad_tag, starts_past, led_nowhere, led_small, led-large}
+use Rattle.store.specs.laws.Access.{reached_by, reached_by_lem}
 use Rattle.store.specs.declared.answer.Refusal.{Refusal}
 use Rattle.store.specs.declared.locate.Reading.{Reading}
-use Rattle.store.specs.laws.Access.{reached_by, reached_by_lem}
+use Rattle.store.specs.declared.answer.Refusal.TheVariants.{BadTag, Dangling}
 
 -- an object lies in its image
 pub object_inside : (image : List ℕ) (h size : ℕ) → object_at image h ≡ Some size → h + 16 + size ≤ length image
@@ -26,49 +25,57 @@ object_inside image h size e =
 module _ (s : ℕ) (p : Pointer) (x : State) where
   -- row 10
   pub tag_bad : good_tag s p ≡ false → Err BadTag ≡ read_tag s p x
-  tag_bad e = found-refused BadTag x.image p ∙ found_by s p x _ (bad_tag s p x e)
+  unfolding read_tag found_at
+  tag_bad e = rw (← bad_tag s p x e)
 
   module _ (good : good_tag s p ≡ true) where
     module _ (small : p.flag ≡ true) (h : ℕ) (place : h ≡ frame_start s p.address + p.tag) where
+      -- where the tag leads
+      there : h ≡ header_place s p x.table
+      there = place ∙ place_small s p x.table small
+
       -- row 11: no object
       pub slot_empty : object_at x.image h ≡ None → Err Dangling ≡ read_tag s p x
-      slot_empty e = found-refused Dangling x.image p ∙ found_by s p x _ (led_nowhere s p x good h (place ∙ place_small s p x.table small) e)
+      unfolding read_tag found_at
+      slot_empty e = rw (← led_nowhere s p x good h there e)
 
       module _ (size : ℕ) (object : object_at x.image h ≡ Some size) where
         -- row 11: the object is not all in the slot
         pub slot_left : slot_holds s size p ≡ false → Err Dangling ≡ read_tag s p x
-        slot_left e =
-            found_dangling (slot_holds s size p) x.image h p e
-            ∙ found_by s p x _ (led_small s p x good h (place ∙ place_small s p x.table small) size small object)
+        unfolding read_tag found_at
+        slot_left e = rw (← led_small s p x good h there size small object, e)
 
         -- the object
         pub slot_object : slot_holds s size p ≡ true → Ok (reading h size p) ≡ read_tag s p x
-        slot_object e =
-            found-verified (slot_holds s size p) x.image h size p e (object_is x.image h size object).2
-            ∙ found_by s p x _ (led_small s p x good h (place ∙ place_small s p x.table small) size small object)
+        unfolding read_tag found_at
+        slot_object e = rw (← led_small s p x good h there size small object, e, (object_is x.image h size object).2)
 
     module _ (large : p.flag ≡ false) where
       -- row 11: the frame starts past the image
       pub frame_past : length x.image ≤ frame_start p.tag p.address → Err Dangling ≡ read_tag s p x
-      frame_past l = found-refused Dangling x.image p ∙ found_by s p x _ (starts_past s p x good (rw (reach-large s p large) l))
+      unfolding read_tag found_at
+      frame_past l = rw (← starts_past s p x good (rw (reach-large s p large) l))
 
       module _ (h : ℕ) (place : h ≡ get_or x.table (entry_at s p.tag p.address) 0) where
+        -- where the tag leads
+        held : h ≡ header_place s p x.table
+        held = place ∙ place-large s p x.table large
+
         -- row 11: no object
         pub frame_empty : object_at x.image h ≡ None → Err Dangling ≡ read_tag s p x
-        frame_empty e = found-refused Dangling x.image p ∙ found_by s p x _ (led_nowhere s p x good h (place ∙ place-large s p x.table large) e)
+        unfolding read_tag found_at
+        frame_empty e = rw (← led_nowhere s p x good h held e)
 
         module _ (size : ℕ) (starts : frame_start p.tag p.address < length x.image) (object : object_at x.image h ≡ Some size) where
           -- row 11: the object is not in both halves of the frame
           pub frame_left : frame_holds h size p ≡ false → Err Dangling ≡ read_tag s p x
-          frame_left e =
-              found_dangling (frame_holds h size p) x.image h p e
-              ∙ found_by s p x _ (led-large s p x good h (place ∙ place-large s p x.table large) size large starts object)
+          unfolding read_tag found_at
+          frame_left e = rw (← led-large s p x good h held size large starts object, e)
 
           -- the object
           pub frame_object : frame_holds h size p ≡ true → Ok (reading h size p) ≡ read_tag s p x
-          frame_object e =
-              found-verified (frame_holds h size p) x.image h size p e (object_is x.image h size object).2
-              ∙ found_by s p x _ (led-large s p x good h (place ∙ place-large s p x.table large) size large starts object)
+          unfolding read_tag found_at
+          frame_object e = rw (← led-large s p x good h held size large starts object, e, (object_is x.image h size object).2)
 
 -- Bytes through a pointer, by what reading its tag gave.
 

@@ -1,8 +1,7 @@
 -- The text at a pointer, by what reading its tag gave. Assumes nothing.
-use Rattle.std.specs.Prelude.{◌≡◌, ℕ, ◌+◌, ◌-◌, ◌≤◌, ◌^◌, Bool, true, false, ◌&&◌, length, take, drop, pos, Option, Some, None, Ok, Err, refl}
-use Rattle.std.specs.Option.{ok_or}
-use Rattle.std.specs.Int.Signed.{le_z}
+use Rattle.std.specs.Prelude.{◌≡◌, ℕ, ◌+◌, ◌-◌, ◌≤◌, ◌^◌, true, false, ◌&&◌, length, take, drop, pos, Option, Some, None, Ok, Err, refl, ok_or}
 use Rattle.std.proofs.Common.{sym, ◌∙◌, arith}
+use Rattle.std.specs.Int.Signed.{le_z}
 use Rattle.frame.specs.declared.parts.Pointer.{Pointer}
 use Rattle.block.specs.Layout.{size_at}
 use Rattle.block.specs.Text.{text_of}

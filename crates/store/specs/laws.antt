@@ -5,6 +5,7 @@ pub mod Opening
 pub mod Entries
 pub mod TagReading
 pub mod Access
+pub mod Answers
 pub mod Distances
 pub mod Casts
 pub mod Total

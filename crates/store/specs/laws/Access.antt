@@ -1,22 +1,22 @@
 -- Bytes through a pointer: rows 10, 11 and 13. Assumes nothing.
 use Rattle.std.specs.Prelude.{ℕ, ◌+◌, ◌≤◌, ◌<◌, ◌≡◌, refl, Bool, true, false, ◌&&◌, cond, List, ◌↔◌, leb, pos, length, Err, Ok, Result}
-use Rattle.std.proofs.Common.{sym, ap, ◌∙◌, inl, arith, leb-true, le-leb}
+use Rattle.std.proofs.lemmas.Grind.{common_steps}
 use Rattle.std.specs.Int.Signed.{le_z}
+use Rattle.std.proofs.Common.{sym, ap, ◌∙◌, inl, arith, le-leb}
 use Rattle.frame.specs.declared.parts.Pointer.{Pointer}
-use Rattle.block.specs.laws.Booleans.{by_bool, true_false, and_left, and_right}
+use Rattle.block.specs.laws.Booleans.{by_bool, true_false}
 use Rattle.block.specs.Layout.{size_at}
 use Rattle.block.specs.Bytes.{put}
 use Rattle.block.specs.laws.Headers.{header_at-put_other}
 use Rattle.block.specs.declared.header.Header.{Header}
-use Rattle.store.specs.State.{State, state, demand, and_then, Outcome, outcome, IsAccepted, refuse}
+use Rattle.store.specs.State.{State, Answer, state, demand, and_then, Outcome, outcome, IsAccepted, refuse}
 use Rattle.store.specs.Calls.{located, found_at, read_tag, in_body, accessed, good_width}
 use Rattle.store.specs.laws.Distances.{in_body_lem}
+use Rattle.store.specs.declared.locate.Reading.{Reading}
 use Rattle.store.specs.laws.Refusals.{demand_met, and_then_met}
 use Rattle.store.specs.laws.TagReading.{Located, located_parts, located-inside, located-at, located_kept}
 use Rattle.store.specs.declared.answer.Refusal.{Refusal}
 use Rattle.store.specs.declared.answer.Refusal.TheVariants.{OutOfBounds}
-use Rattle.store.specs.State.{Answer}
-use Rattle.store.specs.declared.locate.Reading.{Reading}
 
 -- rows 10, 11 and 13 are passed: n bytes from a on lie in the body of an object
 pub record Accessed (s : ℕ) (p : Pointer) (n : ℕ) (x : State) (a : ℕ) : Type 0 where
@@ -30,10 +30,7 @@ pub record Accessed (s : ℕ) (p : Pointer) (n : ℕ) (x : State) (a : ℕ) : Ty
 -- where the bytes of a body lie
 pub body_range : (image : List ℕ) (h : ℕ) (p : Pointer) (n : ℕ) → in_body image h p n ≡ true → (h + 16 ≤ p.address) × (p.address + n ≤ h + 16 + size_at image h)
 unfolding in_body
-body_range image h p n b = (
-  leb-true _ _ (and_left _ (leb (p.address + n) (h + 16 + size_at image h)) b),
-  leb-true _ _ (and_right (leb (h + 16) p.address) _ b),
-)
+body_range image h p n b = (grind (arith, common_steps), grind (arith, common_steps))
 
 -- and the other way
 range_body : (image : List ℕ) (h : ℕ) (p : Pointer) (n : ℕ) → h + 16 ≤ p.address → p.address + n ≤ h + 16 + size_at image h → in_body image h p n ≡ true
@@ -118,4 +115,4 @@ through_iff x v false a bytes = ((λ e. absurd (omega arith)), λ (e : false ≡
 
 -- a good width is 1 to 8
 pub width_range : (w : ℕ) → good_width w ≡ true → (1 ≤ w) × (w ≤ 8)
-width_range w g = (leb-true 1 w (and_left _ _ g), leb-true w 8 (and_right (leb 1 w) _ g))
+width_range w g = (grind (arith, common_steps), grind (arith, common_steps))

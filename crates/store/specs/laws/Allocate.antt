@@ -2,9 +2,9 @@
 -- In order: the extent that is taken; what is known where its rows are passed; each row, and what is left by the answer; its outcomes; the carved image;
 -- the image that is left. Assumes nothing.
 use Rattle.std.specs.Prelude.{ℕ, ◌+◌, ◌^◌, ◌≤◌, ◌<◌, ◌-◌, ◌≡◌, true, false, List, leb, ltb, length, Err, Ok, Result}
+use Rattle.std.proofs.Common.{sym, ap, ◌∙◌, arith, inl, leb-true, le-leb, ltb-true, lt-ltb, le-ltb, ltb-false}
 use Rattle.std.proofs.Math.Path.{refl}
-use Rattle.std.proofs.Common.{sym, ap, ◌∙◌, arith, inl}
-use borrow.Author.Tests.{leb-true, le-leb, lt-leb, ltb-true, lt-ltb, le-ltb, ltb-false}
+use Rattle.std.proofs.lemmas.Bool.{lt-leb}
 use Rattle.frame.specs.Tags.{pointer_to, entry_of}
 use Rattle.frame.specs.laws.Pointers.{pack_small}
 use Rattle.frame.specs.laws.Tags.{tagged, pointer_range}
@@ -51,8 +51,8 @@ module _ (image : List ℕ) (h size extent : ℕ) (e : extent ≡ extent_at imag
 pub fit_met : (f : Fit) (next : ℕ → Answer) (v : ℕ) → fit_answer f next ≡ Ok v → (h : ℕ) × (f ≡ fit.At h) × (next h ≡ Ok v)
 unfolding fit_answer
 fit_met (fit.At h) next v e = (h, refl, e)
-fit_met (fit.Unsound h) next v e = let z : ◌≡◌ {A = ℕ} 0 1 = cc in absurd (omega arith)
-fit_met fit.End next v e = let z : ◌≡◌ {A = ℕ} 0 1 = cc in absurd (omega arith)
+fit_met (fit.Unsound h) next v e = cc
+fit_met fit.End next v e = cc
 
 -- the rows of allocate are passed: an object of `size` bytes goes into the free block at h
 pub record Allocates (size : ℕ) (x : State) (h : ℕ) : Type 0 where
@@ -172,7 +172,7 @@ site_at s size h t a p e = rw (p, ← e) refl
 -- and back
 pub site_declined : (s size : ℕ) (a : Answer) (r : Refusal) → site_of s size a ≡ Err r → a ≡ Err r
 unfolding site_of
-site_declined s size (Ok h) r e = let z : ◌≡◌ {A = ℕ} 0 1 = cc in absurd (omega arith)
+site_declined s size (Ok h) r e = cc
 site_declined s size (Err t) r e = let w : t ≡ r = cc in ap Err w
 
 pub site_chosen : (s size : ℕ) (a : Answer) (h : ℕ) (t : Tagged) → site_of s size a ≡ site_with h t → (a ≡ Ok h) × (t ≡ tagged s h size)
@@ -183,7 +183,7 @@ site_chosen s size (Ok k) h t e =
     let q : chosen ≡ wanted = cc in
     let p : k ≡ h = ap (λ (x : Site). x.header) q in
     (ap Ok p, sym (ap (λ (x : Site). x.tagged) q) ∙ ap (λ (j : ℕ). tagged s j size) p)
-site_chosen s size (Err r) h t e = let z : ◌≡◌ {A = ℕ} 0 1 = cc in absurd (omega arith)
+site_chosen s size (Err r) h t e = cc
 
 -- What it comes to, where rows 4 and 5 are passed.
 
@@ -217,21 +217,29 @@ module _ (image : List ℕ) (h size type cue extent : ℕ) (e : extent ≡ exten
 -- the block that is carved, where the free one has room
 
 module _ (image : List ℕ) (h size type cue : ℕ) (room : 16 + size ≤ extent_at image h) (inside : h + extent_at image h ≤ length image) where
+  -- the live block, with a rest behind it
+  abbrev live : List ℕ
+  live = put image h (live_header (16 + size) type size cue)
+
+  length-live : length live ≡ length image
+  length-live = length-put image h (live_header (16 + size) type size cue) (omega (arith, length-header (16 + size) 2 type size cue))
+
+  -- and the rest has room for its header
+  rest_fits : 16 ≤ extent_at image h - (16 + size) → h + (16 + size) + length (free_header (extent_at image h - (16 + size))) ≤ length live
+  rest_fits rest = omega (arith, length-live, length-header (extent_at image h - (16 + size)) 1 0 0 0)
+
   -- carving keeps the length
   pub length-carved : length (carved image h size type cue) ≡ length image
   length-carved =
       let extent : ℕ = extent_at image h in
       let n = length-header extent 2 type size cue in
-      let m = length-header (16 + size) 2 type size cue in
-      let k = length-header (extent - (16 + size)) 1 0 0 0 in
       by_bool (ltb (extent - (16 + size)) 16)
       (λ t. ap length (carved-whole image h size type cue extent refl (ltb-true _ _ t)) ∙ length-put image h (live_header extent type size cue) (omega arith))
       (λ t.
       let rest : 16 ≤ extent - (16 + size) = ltb-false _ _ t in
-      let one : length (put image h (live_header (16 + size) type size cue)) ≡ length image = length-put image h (live_header (16 + size) type size cue) (omega arith) in
       ap length (carved_rest image h size type cue extent refl rest)
-      ∙ length-put (put image h (live_header (16 + size) type size cue)) (h + (16 + size)) (free_header (extent - (16 + size))) (omega arith)
-      ∙ one)
+      ∙ length-put live (h + (16 + size)) (free_header (extent - (16 + size))) (rest_fits rest)
+      ∙ length-live)
 
   -- and the slot exponent
   pub carved_exponent : 16 ≤ h → slot_exponent (carved image h size type cue) ≡ slot_exponent image
@@ -239,16 +247,14 @@ module _ (image : List ℕ) (h size type cue : ℕ) (room : 16 + size ≤ extent
       let extent : ℕ = extent_at image h in
       let n = length-header extent 2 type size cue in
       let m = length-header (16 + size) 2 type size cue in
-      let k = length-header (extent - (16 + size)) 1 0 0 0 in
       by_bool (ltb (extent - (16 + size)) 16)
       (λ t.
       ap slot_exponent (carved-whole image h size type cue extent refl (ltb-true _ _ t))
       ∙ (superblock_kept image h (live_header extent type size cue) (omega arith) (omega arith)).1)
       (λ t.
       let rest : 16 ≤ extent - (16 + size) = ltb-false _ _ t in
-      let one : length (put image h (live_header (16 + size) type size cue)) ≡ length image = length-put image h (live_header (16 + size) type size cue) (omega arith) in
       ap slot_exponent (carved_rest image h size type cue extent refl rest)
-      ∙ (superblock_kept (put image h (live_header (16 + size) type size cue)) (h + (16 + size)) (free_header (extent - (16 + size))) (omega arith) (omega arith)).1
+      ∙ (superblock_kept live (h + (16 + size)) (free_header (extent - (16 + size))) (rest_fits rest) (omega arith)).1
       ∙ (superblock_kept image h (live_header (16 + size) type size cue) (omega arith) (omega arith)).1)
 
   -- its header: the extent that is taken, with at most 15 spare bytes, the type, the size and the cue
@@ -263,7 +269,6 @@ module _ (image : List ℕ) (h size type cue : ℕ) (room : 16 + size ≤ extent
   carved-header short fits cue_fits =
       let extent : ℕ = extent_at image h in
       let m = length-header (16 + size) 2 type size cue in
-      let k = length-header (extent - (16 + size)) 1 0 0 0 in
       by_bool (ltb (extent - (16 + size)) 16)
       (λ t.
       let few : extent - (16 + size) < 16 = ltb-true _ _ t in
@@ -281,11 +286,10 @@ module _ (image : List ℕ) (h size type cue : ℕ) (room : 16 + size ≤ extent
       (λ t.
       let rest : 16 ≤ extent - (16 + size) = ltb-false _ _ t in
       let taken : taken_extent image h size ≡ 16 + size = taken_rest image h size extent refl rest in
-      let one : length (put image h (live_header (16 + size) type size cue)) ≡ length image = length-put image h (live_header (16 + size) type size cue) (omega arith) in
       record {
         is_header =
             ap (λ (i : List ℕ). header_at i h) (carved_rest image h size type cue extent refl rest)
-            ∙ header_at-put_other (put image h (live_header (16 + size) type size cue)) (h + (16 + size)) (free_header (extent - (16 + size))) h (omega arith) (inl (omega arith))
+            ∙ header_at-put_other live (h + (16 + size)) (free_header (extent - (16 + size))) h (rest_fits rest) (inl (omega arith))
             ∙ header_at-put image h (16 + size) 2 type size cue (omega arith)
             (record { extent_fits = omega arith; kind_fits = omega arith; type_fits = fits; size_fits = omega arith; cue_fits = cue_fits })
             ∙ ap (λ (e : ℕ). fields e 2 type size cue) (sym taken);

@@ -1,9 +1,9 @@
 -- Type check before a cast: row 25, the answer, and the call's rows. Assumes nothing.
 use Rattle.std.specs.Prelude.{ℕ, ◌≤◌, ◌<◌, ◌≡◌, Bool, true, false, cond, List, ◌⊎◌, length, leb, ℤ, pos, negsuc, nat_abs, Err, None, Ok, Option, Some}
+use Rattle.std.proofs.Common.{sym, ap, ◌∙◌, subst, inl, inr, arith, le-leb, leb-true, leb-false, ltb-true}
 use Rattle.std.proofs.Math.Path.{refl}
-use Rattle.std.proofs.Common.{sym, ap, ◌∙◌, subst, inl, inr, arith}
 use Rattle.std.specs.Int.Signed.{lt_z}
-use borrow.Author.Tests.{le-leb, lt-leb, leb-true, leb-false, ltb-true}
+use Rattle.std.proofs.lemmas.Bool.{lt-leb}
 use Rattle.frame.specs.Pointers.{unpack}
 use Rattle.block.specs.Layout.{type_at, size_at}
 use Rattle.block.specs.laws.Booleans.{by_bool}
@@ -58,7 +58,7 @@ module _ (list : List ℕ) (type size : ℕ) where
   described_parts q e = go describing
     where
       refused : described list type size ≡ Err Undescribed → Covers q
-      refused d = let z : Ok q ≡ Err Undescribed = sym e ∙ d in let y : ◌≡◌ {A = ℕ} 0 1 = cc in absurd (omega arith)
+      refused d = let z : Ok q ≡ Err Undescribed = sym e ∙ d in cc
 
       go : Describing → Covers q
       go (unlisted f d) = refused d
@@ -87,7 +87,7 @@ module _ (list : List ℕ) (wanted q : ℕ) where
   -- at it or behind it
   pub has_behind : (d : ℤ) → lt_z d (pos 0) ≡ false → (b : Bool) → type_has list wanted q (nat_abs d) ≡ b → has_at list wanted q d ≡ cond b 1 0
   has_behind (pos o) t b e = has_offset o ∙ ap (λ (x : Bool). cond x 1 0) e
-  has_behind (negsuc n) t b e = let z : ◌≡◌ {A = ℕ} 0 1 = cc in absurd (omega arith)
+  has_behind (negsuc n) t b e = cc
 
 -- What follows of row 25.
 

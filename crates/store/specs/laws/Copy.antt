@@ -1,7 +1,6 @@
 -- Copy: its rows, what is known where they are passed, and what it leaves. Assumes nothing.
 use Rattle.std.specs.Prelude.{ℕ, ◌≤◌, ◌<◌, ◌≡◌, true, false, ◌&&◌, Bool, ltb, take, drop, Err, Ok}
-use Rattle.std.proofs.Common.{sym, ◌∙◌, subst, arith}
-use borrow.Author.Tests.{lt-ltb, ltb-true, ltb-false}
+use Rattle.std.proofs.Common.{sym, ◌∙◌, subst, arith, lt-ltb, ltb-true, ltb-false}
 use Rattle.frame.specs.Pointers.{unpack}
 use Rattle.block.specs.Bytes.{put}
 use Rattle.store.specs.State.{State, outcome, demand, refuse}
@@ -11,12 +10,6 @@ use Rattle.store.specs.laws.Opening.{Open, opening_parts}
 use Rattle.store.specs.laws.Access.{Accessed, accessed_parts, through}
 use Rattle.store.specs.declared.answer.Refusal.{Refusal}
 use Rattle.store.specs.declared.answer.Refusal.TheVariants.{Empty, OutOfBounds}
-
-module _ (x : State) (r : Refusal) (e : opening x ≡ Err r) where
-  -- row 4 or 5
-  pub copy_shut : (target source n : ℕ) → Err r ≡ copy_checks target source n x
-  unfolding copy_checks
-  copy_shut target source n = rw e
 
 module _ (x : State) (s : ℕ) (e : opening x ≡ Ok s) where
   module _ (target source n : ℕ) where

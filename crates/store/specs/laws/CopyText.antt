@@ -1,7 +1,7 @@
 -- Text copy: its rows, what is known where they are passed, and what it leaves. Assumes nothing.
 use Rattle.std.specs.Prelude.{ℕ, ◌+◌, ◌-◌, ◌≤◌, ◌<◌, ◌≡◌, Bool, true, false, ◌&&◌, leb, length, take, drop, Err, None, Ok, Option, Some}
-use Rattle.std.proofs.Math.Path.{refl}
 use Rattle.std.proofs.Common.{sym, ap, subst, arith, length-take}
+use Rattle.std.proofs.Math.Path.{refl}
 use Rattle.frame.specs.Pointers.{unpack}
 use Rattle.frame.specs.declared.parts.Pointer.{Pointer}
 use Rattle.block.specs.Bytes.{put}
@@ -31,7 +31,7 @@ text_endless = refl
 text_answered : (t : Option ℕ) (n : ℕ) → text_answer t ≡ Ok n → t ≡ Some n
 unfolding text_answer
 text_answered (Some m) n e = let q : m ≡ n = cc in ap Some q
-text_answered None n e = let z : ◌≡◌ {A = ℕ} 0 1 = cc in absurd (omega arith)
+text_answered None n e = cc
 
 -- rows 13 and 20, where rows 10 and 11 are passed
 pub text_located : (s : ℕ) (p : Pointer) (x : State) (h : ℕ) → located s p x ≡ Ok h
@@ -44,10 +44,6 @@ text_located s p x h e = rw e
 -- each way out
 
 module _ (s : ℕ) (p : Pointer) (x : State) where
-  pub text_unread : (r : Refusal) → located s p x ≡ Err r → Err r ≡ text_at s p x
-  unfolding text_at
-  text_unread r e = rw e
-
   module _ (h : ℕ) (l : located s p x ≡ Ok h) where
     pub text_outside : in_body x.image h p 1 ≡ false → Err OutOfBounds ≡ text_at s p x
     unfolding text_at
@@ -69,12 +65,6 @@ text_inside s p x n e =
     omega (arith, located-inside s p x h (located_parts s p x h l))
 
 -- The rows.
-
-module _ (x : State) (r : Refusal) (e : opening x ≡ Err r) where
-  -- row 4 or 5
-  pub copy_text_shut : (target source : ℕ) → Err r ≡ copy_text_checks target source x
-  unfolding copy_text_checks
-  copy_text_shut target source = rw e
 
 module _ (x : State) (s : ℕ) (e : opening x ≡ Ok s) where
   module _ (target source : ℕ) where

@@ -1,8 +1,8 @@
 -- Distances: what the two numbers say, and the call's rows. Assumes nothing.
 use Rattle.store.specs.State.{measured_as}
-use Rattle.std.specs.Prelude.{ℕ, zero, suc, ◌+◌, ◌-◌, ◌≤◌, ◌<◌, ◌≡◌, ◌&&◌, List, ◌↔◌, ltb, ℤ, pos, negsuc, ◌+ℤ◌, ◌-ℤ◌, Err, Ok, Result}
-use Rattle.std.proofs.Math.Path.{refl, sym, ap}
+use Rattle.std.specs.Prelude.{ℕ, zero, suc, ◌+◌, ◌-◌, ◌≤◌, ◌<◌, ◌≡◌, ◌&&◌, List, ◌↔◌, ltb, ℤ, pos, negsuc, ◌+ℤ◌, ◌-ℤ◌, Err, Ok}
 use Rattle.std.proofs.Common.{◌∙◌, arith, ltb-true, ltb-false, leb-true, leb-false, lt-ltb, le-ltb, le-leb}
+use Rattle.std.proofs.Math.Path.{refl, sym, ap}
 use Rattle.std.proofs.Math.Dec.{leb}
 use Rattle.std.proofs.Math.IntN.{sub_ℕ}
 use Rattle.std.specs.Int.Signed.{mag, le_z}
@@ -12,13 +12,10 @@ use Rattle.frame.specs.declared.parts.Pointer.{Pointer}
 use Rattle.block.specs.Layout.{size_at}
 use Rattle.block.specs.laws.Booleans.{by_bool}
 use Rattle.store.specs.State.{State}
-use Rattle.store.specs.Calls.{opening, located, found_at, read_tag, from_start, to_end, in_body, distances_checks, distances_at, distances}
-use Rattle.store.specs.laws.TagReading.{FoundAt}
+use Rattle.store.specs.Calls.{opening, located, read_tag, from_start, to_end, in_body, distances_checks, distances_at, distances}
+use Rattle.store.specs.laws.TagReading.{FoundAt, read-refused}
 use Rattle.store.specs.declared.answer.Refusal.{Refusal}
-use Rattle.store.specs.State.{Answer}
-use Rattle.store.specs.declared.measuring.BodyEnds.{BodyEnds}
 use Rattle.store.specs.declared.locate.Reading.{Reading}
-use Rattle.store.specs.State.{Measurement}
 
 -- The difference of two numbers.
 
@@ -59,7 +56,7 @@ difference_least a b n =
 difference_at : (a b n : ℕ) → (sub_ℕ a b ≡ pos n) ↔ (a ≡ b + n)
 difference_at a b n =
     by_difference (λ z. (z ≡ pos n) ↔ (a ≡ b + n)) a b
-    (λ l. ((λ e. let z : ◌≡◌ {A = ℕ} 0 1 = cc in absurd (omega arith)), λ e. absurd (omega arith)))
+    (λ l. ((λ e. cc), λ e. absurd (omega arith)))
     (λ l. ((λ e. let z : a - b ≡ n = cc in omega arith), λ e. ap pos (omega arith)))
 
 -- as the integers subtract
@@ -130,39 +127,14 @@ module _ (s : ℕ) (p : Pointer) (x : State) (o : Reading) (f : FoundAt s p x o)
 
 -- The call's rows.
 
--- by what reading the tag gave
-unfoldable pub measured_by : Result Reading Refusal → Measurement
-measured_by (Ok o) = measured_as o.offset o.remaining
-measured_by (Err r) = Err r
-
-module _ (x : State) (r : Refusal) (e : opening x ≡ Err r) where
-  -- row 4 or 5
-  pub distances_shut : (word : ℕ) → Err r ≡ distances word x
-  unfolding distances distances_checks distances_at
-  distances_shut word = rw e
-
 module _ (x : State) (s : ℕ) (e : opening x ≡ Ok s) (word : ℕ) where
-  -- rows 10 and 11, or the distances
-  pub distances-read : measured_by (read_tag s (unpack word) x) ≡ distances word x
-  unfolding distances distances_checks read_tag measured_by found_at distances_at
-  distances-read = rw e (go (located s (unpack word) x))
-    where
-      go : (a : Answer) → measured_by (found_at a x.image (unpack word)) ≡ distances_at a x.image (unpack word)
-      go (Ok h) = refl
-      go (Err r) = refl
-
-  pub distances-found : (o : Reading) → read_tag s (unpack word) x ≡ Ok o → distances word x ≡ measured_as o.offset o.remaining
-  unfolding measured_by
-  distances-found o q = sym distances-read ∙ ap measured_by q
-
-  pub distances_refused : (r : Refusal) → read_tag s (unpack word) x ≡ Err r → distances word x ≡ Err r
-  unfolding measured_by
-  distances_refused r q = sym distances-read ∙ ap measured_by q
-
   -- row 10 or 11
   pub distances_unread : (r : Refusal) → located s (unpack word) x ≡ Err r → Err r ≡ distances word x
   unfolding distances distances_checks distances_at
   distances_unread r l = rw (e, l)
+
+  pub distances_refused : (r : Refusal) → read_tag s (unpack word) x ≡ Err r → distances word x ≡ Err r
+  distances_refused r q = sym (distances_unread r (read-refused s (unpack word) x r q))
 
   -- all are passed
   pub distances-given : (h : ℕ) → located s (unpack word) x ≡ Ok h

@@ -1,7 +1,6 @@
 -- Fill: its rows, what is known where they are passed, and what it leaves. Assumes nothing.
 use Rattle.std.specs.Prelude.{ℕ, ◌≤◌, ◌<◌, ◌≡◌, true, false, Bool, ltb, replicate, Err, Ok}
-use Rattle.std.proofs.Common.{sym, ◌∙◌, arith}
-use borrow.Author.Tests.{lt-ltb, ltb-true, ltb-false}
+use Rattle.std.proofs.Common.{sym, ◌∙◌, arith, lt-ltb, ltb-true, ltb-false}
 use Rattle.frame.specs.Pointers.{unpack}
 use Rattle.block.specs.Bytes.{put}
 use Rattle.store.specs.State.{State, outcome, demand, refuse}
@@ -11,12 +10,6 @@ use Rattle.store.specs.laws.Opening.{Open, opening_parts}
 use Rattle.store.specs.laws.Access.{Accessed, accessed_parts, through}
 use Rattle.store.specs.declared.answer.Refusal.{Refusal}
 use Rattle.store.specs.declared.answer.Refusal.TheVariants.{Empty, OutOfBounds}
-
-module _ (x : State) (r : Refusal) (e : opening x ≡ Err r) where
-  -- row 4 or 5
-  pub fill_shut : (word n : ℕ) → Err r ≡ fill_checks word n x
-  unfolding fill_checks
-  fill_shut word n = rw e
 
 module _ (x : State) (s : ℕ) (e : opening x ≡ Ok s) where
   module _ (word n : ℕ) where

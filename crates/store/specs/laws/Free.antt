@@ -3,14 +3,13 @@
 -- image; the image that is left. Assumes nothing.
 use Rattle.store.specs.Calls.{merge_of}
 use Rattle.std.specs.Prelude.{ℕ, ◌+◌, ◌-◌, ◌^◌, ◌≤◌, ◌<◌, Bool, true, false, cond, ◌&&◌, ◌||◌, leb, ltb, eqb, replicate, Err, None, Ok, Option, Result, Some}
+use Rattle.std.specs.Prelude.{List, ◌++◌}
+use Rattle.std.proofs.Common.{sym, ◌∙◌, inl, inr, length-append, append_assoc, arith, le-ltb, lt-ltb, eq-eqb, ne_eqb, ltb-true, eqb-true}
 use Rattle.std.proofs.Math.Path.{◌≡◌, refl, ap}
-use Rattle.std.proofs.Common.{sym, ◌∙◌, inl, inr, length-append}
 use Rattle.std.proofs.Math.Bool.{and-false}
-use mathlib.Core.List.{List, ◌++◌, append_assoc}
-use native.Mathlib.Omega.{arith}
 use Rattle.std.proofs.Math.ListN.{length, take, drop}
 use Rattle.std.proofs.lemmas.List.{length-replicate}
-use borrow.Author.Tests.{lt-leb, le-ltb, lt-ltb, eq-eqb, ne_eqb, ltb-true, eqb-true, eqb-false}
+use Rattle.std.proofs.lemmas.Bool.{lt-leb, eqb-false}
 use Rattle.frame.specs.Pointers.{unpack}
 use Rattle.frame.specs.Tags.{entry_of}
 use Rattle.block.specs.Layout.{superblock_good, slot_exponent, stored_total, with_total, sound, is_free, header_at, extent_at, size_at, fields, free_header}
@@ -23,8 +22,8 @@ use Rattle.block.specs.laws.Total.{length-with_total, with_total_opens, with_tot
 use Rattle.block.specs.laws.WalkTo.{Behind, at_first, at_later, MeetsBlock, walk_to_meets}
 use Rattle.block.specs.laws.Writes.{length-put, put_def, drop-put, put_again}
 use Rattle.block.specs.laws.Headers.{length-header, header_at-drop, header_at-put_other}
-use Rattle.store.specs.State.{State, outcome, refuse, demand, and_then}
-use Rattle.store.specs.Calls.{opening, noted, located, found_at, read_tag, merge_start, merge_end, released, free_checks, released_at, total_fits, totalled, free_release, merged, given_back, freed, free}
+use Rattle.store.specs.State.{State, outcome, refuse}
+use Rattle.store.specs.Calls.{opening, noted, located, merge_start, merge_end, released, free_checks, released_at, total_fits, totalled, free_release, merged, given_back, freed, free}
 use Rattle.store.specs.laws.Refusals.{demand_met, and_then_met}
 use Rattle.store.specs.laws.Opening.{Open, opening_parts, entry_in}
 use Rattle.store.specs.laws.TagReading.{Located, located_parts}
@@ -32,8 +31,6 @@ use Rattle.store.specs.laws.Total.{total-within}
 use Rattle.store.specs.declared.answer.Refusal.{Refusal}
 use Rattle.store.specs.declared.answer.Refusal.TheVariants.{Unsound, NotBase, WrongTotal}
 use Rattle.store.specs.State.{Answer}
-use Rattle.frame.specs.declared.parts.Pointer.{Pointer}
-use Rattle.store.specs.declared.locate.Reading.{Reading}
 use Rattle.store.specs.declared.release.FreedBlock.{FreedBlock}
 
 -- where the merged block starts
@@ -149,8 +146,8 @@ released_parts image k h from to e = go (walk_to image k) refl e
             ends = sym (ap (λ (b : FreedBlock). b.to) w);
           },
         ))
-        (λ t. let z : ◌≡◌ {A = ℕ} 0 1 = cc in absurd (omega arith))
-    go None p e = let z : ◌≡◌ {A = ℕ} 0 1 = cc in absurd (omega arith)
+        (λ t. cc)
+    go None p e = cc
 
 -- the same, with the test that found the object
 released_at_parts : (a : Answer) (image : List ℕ) (h from to : ℕ) → released_at a image ≡ merge_of h from to
@@ -159,11 +156,11 @@ unfolding released_at
 released_at_parts (Ok k) image h from to e =
     let (q, before, r) = released_parts image k h from to e in
     rw q (refl, before, r)
-released_at_parts (Err r) image h from to e = let z : ◌≡◌ {A = ℕ} 0 1 = cc in absurd (omega arith)
+released_at_parts (Err r) image h from to e = cc
 
 -- the place in a release is that of the block that is asked for
-pub released-place : (image : List ℕ) (k h from to : ℕ) → released image k (walk_to image k) ≡ merge_of h from to → h ≡ k
-released-place image k h from to e = (released_parts image k h from to e).0
+pub released-place : (image : List ℕ) (h : ℕ) (b : FreedBlock) → released image h (walk_to image h) ≡ Ok b → b.header ≡ h
+released-place image h b e = (released_parts image h b.header b.from b.to e).0
 
 -- row 22
 
@@ -172,11 +169,6 @@ module _ (image : List ℕ) where
   pub totalled_merges : (h from to : ℕ) → total_fits image (extent_at image h) ≡ true → totalled (merge_of h from to) image ≡ merge_of h from to
   unfolding totalled
   totalled_merges h from to e = rw e refl
-
-  -- it is not
-  pub totalled_wrong : (h from to : ℕ) → total_fits image (extent_at image h) ≡ false → totalled (merge_of h from to) image ≡ Err WrongTotal
-  unfolding totalled
-  totalled_wrong h from to e = rw e refl
 
   -- it is not reached
   pub totalled-refused : (r : Refusal) → totalled (Err r) image ≡ Err r
@@ -195,8 +187,8 @@ module _ (image : List ℕ) where
       let w : m ≡ wanted = cc in
       let is_place : m.header ≡ h = ap (λ (d : FreedBlock). d.header) w in
       (q, ap (λ (j : ℕ). total_fits image (extent_at image j)) (sym is_place) ∙ b))
-      (λ b. let q : Err WrongTotal ≡ merge_of h from to = rw b at e in let z : ◌≡◌ {A = ℕ} 0 1 = cc in absurd (omega arith))
-  totalled_parts (Err r) h from to e = let z : ◌≡◌ {A = ℕ} 0 1 = cc in absurd (omega arith)
+      (λ b. let q : Err WrongTotal ≡ merge_of h from to = rw b at e in cc)
+  totalled_parts (Err r) h from to e = cc
 
 -- the rows of free are passed: the object at h goes, and a free block reaches from `from` to `to`
 pub record Frees (word : ℕ) (x : State) (h from to : ℕ) : Type 0 where
@@ -256,31 +248,7 @@ free_parts word x h from to e =
 
 -- The rows, and what is left by the answer.
 
--- row 15, by what reading the tag gave
-unfoldable pub based_by : Result Reading Refusal → Pointer → Answer
-based_by (Ok o) p = demand (eqb p.address o.base) NotBase (Ok o.header)
-based_by (Err r) p = Err r
-
 module _ (word : ℕ) (x : State) where
-  -- the rows up to 15, where 4 and 5 are passed
-  pub free_based : (s : ℕ) → opening x ≡ Ok s → based_by (read_tag s (unpack word) x) (unpack word) ≡ free_checks word x
-  unfolding free_checks read_tag based_by found_at
-  free_based s o = rw o (go (located s (unpack word) x))
-    where
-      go : (a : Answer) → based_by (found_at a x.image (unpack word)) (unpack word)
-          ≡ and_then a (λ h. demand (eqb (unpack word).address (h + 16)) NotBase (Ok h))
-      go (Ok h) = refl
-      go (Err r) = refl
-
-  -- by their answer
-  pub free_unchecked : (r : Refusal) → free_checks word x ≡ Err r → Err r ≡ free_release word x
-  unfolding free_release totalled released_at
-  free_unchecked r e = rw e
-
-  pub free_checked : (h : ℕ) → free_checks word x ≡ Ok h → totalled (released x.image h (walk_to x.image h)) x.image ≡ free_release word x
-  unfolding free_release released_at
-  free_checked h e = rw e
-
   pub free-sound : (h : ℕ) → free_checks word x ≡ Ok h → sound x.image h ≡ true
   unfolding free_checks
   free-sound h e =

@@ -1,20 +1,14 @@
 -- Load: its rows, and what it gives. Assumes nothing.
 use Rattle.std.specs.Prelude.{ℕ, ◌≡◌, true, false, Bool, Err, Ok}
-use Rattle.std.proofs.Math.Path.{refl}
 use Rattle.std.proofs.Common.{sym, ap, ◌∙◌}
+use Rattle.std.proofs.Math.Path.{refl}
 use Rattle.frame.specs.Pointers.{unpack}
 use Rattle.block.specs.Bytes.{field}
-use Rattle.store.specs.State.{State, demand, and_then}
+use Rattle.store.specs.State.{State, demand}
 use Rattle.store.specs.Calls.{opening, accessed, good_width, load_answer, load}
 use Rattle.store.specs.declared.answer.Refusal.{Refusal}
 use Rattle.store.specs.declared.answer.Refusal.TheVariants.{BadWidth, OutOfBounds}
 use Rattle.store.specs.State.{Answer}
-
-module _ (x : State) (r : Refusal) (e : opening x ≡ Err r) where
-  -- row 4 or 5
-  pub load_shut : (word width : ℕ) → Err r ≡ load_answer word width x
-  unfolding load_answer
-  load_shut word width = rw e
 
 module _ (x : State) (s : ℕ) (e : opening x ≡ Ok s) where
   module _ (word width : ℕ) where
@@ -24,11 +18,6 @@ module _ (x : State) (s : ℕ) (e : opening x ≡ Ok s) where
     load_width w = rw (e, w)
 
     module _ (w : good_width width ≡ true) where
-      -- by the answer of these rows
-      pub load_open : and_then (accessed s (unpack word) width x) (λ a. Ok (field x.image a width)) ≡ load_answer word width x
-      unfolding load_answer
-      load_open = rw (e, w) refl
-
       -- rows 10, 11 and 13
       pub load-refused : (r : Refusal) → accessed s (unpack word) width x ≡ Err r → Err r ≡ load_answer word width x
       unfolding load_answer

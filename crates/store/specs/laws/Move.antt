@@ -5,7 +5,6 @@ use Rattle.frame.specs.Pointers.{unpack, pack, good_tag, reach, moved}
 use Rattle.frame.specs.declared.parts.Pointer.{Pointer}
 use Rattle.store.specs.State.{State}
 use Rattle.store.specs.Calls.{opening, moved_answer, moved_by, move_answer, move}
-use Rattle.store.specs.declared.answer.Refusal.{Refusal}
 use Rattle.store.specs.declared.answer.Refusal.TheVariants.{BadTag, Leaves}
 use Rattle.store.specs.State.{Answer}
 
@@ -23,12 +22,6 @@ module _ (s : ℕ) (p : Pointer) (d : ℤ) where
   pub moved_in : (q : Pointer) → good_tag s p ≡ true → moved p (reach s p) d ≡ Some q → Ok (pack q) ≡ moved_by s p d
   unfolding moved_answer
   moved_in q g e = rw (g, e)
-
-module _ (x : State) (r : Refusal) (e : opening x ≡ Err r) where
-  -- row 4 or 5
-  pub move_shut : (word : ℕ) (d : ℤ) → Err r ≡ move_answer word d x
-  unfolding move_answer
-  move_shut word d = rw e
 
 module _ (x : State) (s : ℕ) (e : opening x ≡ Ok s) where
   -- row 10, then 12

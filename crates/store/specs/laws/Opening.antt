@@ -1,7 +1,7 @@
 -- Rows 4 and 5, with which every call but set-up begins. Assumes nothing.
 use Rattle.std.specs.Prelude.{ℕ, ◌+◌, ◌^◌, ◌≤◌, ◌<◌, ◌≡◌, true, false, List, leb, length, Err, Ok}
-use Rattle.std.proofs.Common.{sym, ap, ◌∙◌, lt_of_lt_of_le, arith}
-use borrow.Author.Tests.{leb-true, le-leb, lt-leb}
+use Rattle.std.proofs.Common.{sym, ap, ◌∙◌, lt_of_lt_of_le, arith, leb-true, le-leb}
+use Rattle.std.proofs.lemmas.Bool.{lt-leb}
 use Rattle.frame.specs.Tags.{used_entries, entry_of}
 use Rattle.frame.specs.laws.Wrappers.{object_entry_used}
 use Rattle.block.specs.Layout.{superblock_good, slot_exponent}

@@ -62,8 +62,8 @@ demand_iff false r v = ((λ e. absurd (refused_some r e)), λ (e : false ≡ tru
 -- a test that came through is met, and what follows it came through too
 pub demand_met : (ok : Bool) (r : Refusal) (next : Answer) (v : ℕ) → demand ok r next ≡ Ok v → (ok ≡ true) × (next ≡ Ok v)
 demand_met true r next v e = (refl, e)
-demand_met false r next v e = let z : ◌≡◌ {A = ℕ} 0 1 = cc in absurd (omega arith)
+demand_met false r next v e = cc
 
 pub and_then_met : (a : Answer) (next : ℕ → Answer) (v : ℕ) → and_then a next ≡ Ok v → (u : ℕ) × (a ≡ Ok u) × (next u ≡ Ok v)
 and_then_met (Ok u) next v e = (u, refl, e)
-and_then_met (Err r) next v e = let z : ◌≡◌ {A = ℕ} 0 1 = cc in absurd (omega arith)
+and_then_met (Err r) next v e = cc

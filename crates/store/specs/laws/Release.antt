@@ -1,13 +1,10 @@
 -- Release, the end of a cue.
 -- In order: its folds over the places of the cue's objects; what is known where its rows are passed; each row, and what is left by the answer; what it
 -- comes to. Assumes nothing.
-use Prim.Native.Nat.{ℕ, suc, ◌+◌, ◌-◌, ◌≤◌}
-use Rattle.std.specs.Prelude.{◌≡◌, true, false, ◌&&◌, length, Err, Ok}
+use Rattle.std.specs.Prelude.{ℕ, suc, ◌+◌, ◌-◌, ◌≤◌, ◌≡◌, true, false, ◌&&◌, length, Err, Ok, List, [], ◌∷◌, ◌++◌}
+use Rattle.std.proofs.Common.{◌∙◌, arith}
 use Rattle.std.proofs.Math.Path.{refl, sym, ap}
-use Rattle.std.proofs.Common.{◌∙◌}
 use Rattle.std.proofs.Math.Bool.{Bool, and_assoc}
-use mathlib.Core.List.{List, [], ◌∷◌, ◌++◌}
-use native.Mathlib.Omega.{arith}
 use Rattle.frame.specs.Pointers.{pack}
 use Rattle.frame.specs.Tags.{pointer_to}
 use Rattle.block.specs.Layout.{slot_exponent, stored_total, extent_at, size_at}
@@ -93,8 +90,8 @@ free_each_one p ps x = refl
 gathered_met : (w : Walked (List ℕ)) (next : List ℕ → Answer) (v : ℕ) → gathered_answer w next ≡ Ok v
     → (places : List ℕ) × (w ≡ ended places) × (next places ≡ Ok v)
 unfolding gathered_answer
-gathered_met (stopped places h) next v e = let z : ◌≡◌ {A = ℕ} 0 1 = cc in absurd (omega arith)
-gathered_met (unsound h) next v e = let z : ◌≡◌ {A = ℕ} 0 1 = cc in absurd (omega arith)
+gathered_met (stopped places h) next v e = cc
+gathered_met (unsound h) next v e = cc
 gathered_met (ended places) next v e = (places, refl, e)
 
 -- the rows of release are passed, for the objects of the cue at these places

@@ -1,11 +1,11 @@
 -- Set-up: its rows, what an accepted one was given and leaves, and the fresh image. Assumes nothing.
 use Rattle.std.specs.Prelude.{ℕ, ◌^◌, ◌≤◌, ◌<◌, ◌-◌, ◌≡◌, refl, true, false, leb, length, take, drop, replicate, ◌++◌, Err, Ok}
-use Rattle.std.proofs.Common.{sym, ap, ◌∙◌, arith, length-append}
+use Rattle.std.proofs.lemmas.Grind.{common_steps}
+use Rattle.std.proofs.Common.{sym, ap, ◌∙◌, arith, length-append, leb-true, le-leb}
 use Rattle.std.proofs.lemmas.List.{length-replicate}
-use borrow.Author.Tests.{leb-true, le-leb, lt-leb}
+use Rattle.std.proofs.lemmas.Bool.{lt-leb}
 use Rattle.std.proofs.Math.Seq.{take_at, drop_at}
 use Rattle.frame.specs.Tags.{used_entries}
-use Rattle.block.specs.laws.Booleans.{and_left, and_right}
 use Rattle.block.specs.Layout.{good_exponent, good_length, superblock, free_header}
 use Rattle.block.specs.laws.Headers.{length-header}
 use Rattle.block.specs.laws.Superblock.{length-superblock}
@@ -32,10 +32,10 @@ settable_parts s x v e =
     let b = demand_met (good_length (length x.image)) BadLength _ v a.1 in
     let c = demand_met (leb (used_entries s (length x.image)) (length x.table)) TooFewEntries _ v b.1 in
     record {
-      exponent_low = leb-true _ _ (and_left _ (leb s 15) a.0);
-      exponent_high = leb-true _ _ (and_right (leb 6 s) _ a.0);
-      length_low = leb-true _ _ (and_left _ (leb (length x.image) (2 ^ 30)) b.0);
-      length_high = leb-true _ _ (and_right (leb 64 (length x.image)) _ b.0);
+      exponent_low = grind (arith, common_steps, a.0);
+      exponent_high = grind (arith, common_steps, a.0);
+      length_low = grind (arith, common_steps, b.0);
+      length_high = grind (arith, common_steps, b.0);
       entries = leb-true _ _ c.0;
     }
 

@@ -11,12 +11,6 @@ use Rattle.store.specs.laws.Access.{Accessed, accessed_parts, through}
 use Rattle.store.specs.declared.answer.Refusal.{Refusal}
 use Rattle.store.specs.declared.answer.Refusal.TheVariants.{BadWidth, TooLarge, OutOfBounds}
 
-module _ (x : State) (r : Refusal) (e : opening x ≡ Err r) where
-  -- row 4 or 5
-  pub store_shut : (word width v : ℕ) → Err r ≡ store_checks word width v x
-  unfolding store_checks
-  store_shut word width v = rw e
-
 module _ (x : State) (s : ℕ) (e : opening x ≡ Ok s) where
   module _ (word width v : ℕ) where
     -- row 14

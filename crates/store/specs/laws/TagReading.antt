@@ -1,19 +1,19 @@
 -- Reading a tag: rows 10 and 11.
 -- In order: what is known where they are passed, how they are passed, what a write keeps, that an object's pointers lead to it, each way out. Assumes nothing.
 use Rattle.std.specs.Prelude.{ℕ, ◌+◌, ◌*◌, ◌/◌, ◌^◌, ◌≤◌, ◌<◌, ◌≡◌, Bool, true, false, ◌&&◌, List, ltb, eqb, length, get_or, Err, None, Ok, Some}
+use Rattle.std.proofs.lemmas.Grind.{common_steps}
+use Rattle.std.proofs.Common.{ap, ap₂, ◌∙◌, inl, div-mul-le_self, arith, lt-ltb, eq-eqb, ne_eqb, le-ltb}
 use Rattle.std.proofs.Math.Path.{refl, sym}
-use Rattle.std.proofs.Common.{ap, ap₂, ◌∙◌, subst, inl, div-mul-le_self, arith}
 use Rattle.std.proofs.Math.Bool.{and_assoc, and-true, and-false}
-use borrow.Author.Tests.{ltb-true, eqb-true, lt-ltb, eq-eqb, ne_eqb, le-ltb}
 use Rattle.frame.specs.Frame.{frame_start, same_frame}
-use Rattle.frame.specs.Pointers.{InRange, unpack, good_tag, reach, at}
+use Rattle.frame.specs.Pointers.{unpack, good_tag, reach, at}
 use Rattle.frame.specs.Tags.{wrapper, pointer_to, entry_of, tag_matches, entry_at}
 use Rattle.frame.specs.laws.Wrappers.{slot_leads, entry_same}
-use Rattle.frame.specs.laws.Pointers.{unpack_range, good_small, reach_small, reach-large}
+use Rattle.frame.specs.laws.Pointers.{good_small, reach_small, reach-large}
 use Rattle.frame.specs.laws.Tags.{slot_holds, frame_holds, slot_near, slot_matches, frame_matches, pointer_small, pointer_large, reach_slot, reach-wrapper, by_frame}
 use Rattle.frame.specs.laws.Objects.{PointerOf, same-reach, object_tag, object_matches}
 use Rattle.frame.specs.declared.parts.Pointer.{Pointer}
-use Rattle.block.specs.laws.Booleans.{by_bool, and_left, and_right}
+use Rattle.block.specs.laws.Booleans.{by_bool}
 use Rattle.block.specs.Bytes.{put}
 use Rattle.block.specs.Layout.{header_at, sound, is_live, size_at, kind_at}
 use Rattle.block.specs.laws.Writes.{length-put}
@@ -21,9 +21,8 @@ use Rattle.block.specs.laws.Headers.{header_at-put_other}
 use Rattle.block.specs.laws.Soundness.{sound-same, sound_in, sound-end, sound_live, object_at, object_is, object_is_none}
 use Rattle.block.specs.declared.header.Header.{Header}
 use Rattle.store.specs.State.{State, state, refusal_number, demand}
-use Rattle.store.specs.Calls.{opening, header_place, verified, leads_back, located, reading, found_at, read_tag}
+use Rattle.store.specs.Calls.{header_place, verified, leads_back, located, reading, found_at, read_tag}
 use Rattle.store.specs.laws.Refusals.{demand_met}
-use Rattle.store.specs.laws.Opening.{opening_parts}
 use Rattle.store.specs.declared.answer.Refusal.{Refusal}
 use Rattle.store.specs.declared.answer.Refusal.TheVariants.{BadTag, Dangling}
 use Rattle.store.specs.State.{Answer}
@@ -49,22 +48,17 @@ located_parts s p x h e =
     let a = demand_met (good_tag s p) BadTag _ h e in
     let b = demand_met (leads_back s p x) Dangling _ h a.1 in
     let q : h ≡ header_place s p x.table = cc in
-    let k = header_place s p x.table in
-    let v : verified s p x.image k ≡ true = and_right (ltb (frame_start (reach s p) p.address) (length x.image)) _ b.0 in
-    let w : is_live x.image k && (tag_matches s k (size_at x.image k) p && same_frame (reach s p) k p.address) ≡ true = and_right (sound x.image k) _ v in
-    let u : tag_matches s k (size_at x.image k) p && same_frame (reach s p) k p.address ≡ true = and_right (is_live x.image k) _ w in
     record {
       good = a.0;
-      starts = ltb-true _ _ (and_left _ (verified s p x.image k) b.0);
+      starts = grind (arith, common_steps);
       place = q;
       header =
-          rw q
-          (record {
-            is_sound = and_left _ (is_live x.image k && (tag_matches s k (size_at x.image k) p && same_frame (reach s p) k p.address)) v;
-            is_live_lem = and_left _ (tag_matches s k (size_at x.image k) p && same_frame (reach s p) k p.address) w;
-            matches = and_left _ (same_frame (reach s p) k p.address) u;
-            near = eqb-true _ _ (and_right (tag_matches s k (size_at x.image k) p) _ u);
-          });
+          record {
+            is_sound = grind (arith, common_steps);
+            is_live_lem = grind (arith, common_steps);
+            matches = grind (arith, common_steps);
+            near = grind (arith, common_steps);
+          };
     }
 
 -- the object lies in the image
@@ -93,7 +87,7 @@ located_refusal s p x r e =
     by_bool (good_tag s p)
     (λ g.
     by_bool (leads_back s p x)
-    (λ l. let q : Ok (header_place s p x.table) ≡ Err r = rw (g, l) at e in let z : ◌≡◌ {A = ℕ} 0 1 = cc in absurd (omega arith))
+    (λ l. let q : Ok (header_place s p x.table) ≡ Err r = rw (g, l) at e in cc)
     (λ l. let q : Err Dangling ≡ Err r = rw (g, l) at e in let w : Dangling ≡ r = cc in rw (← w) (omega arith, omega arith)))
     (λ g. let q : Err BadTag ≡ Err r = rw g at e in let w : BadTag ≡ r = cc in rw (← w) (omega arith, omega arith))
 
@@ -154,20 +148,6 @@ located_object s x h size word o g =
         near = sym near;
       };
     }
-
--- What reading a tag asks for of a pointer's parts, where rows 4 and 5 are passed.
-
-module _ (x : State) (s word : ℕ) (p : Pointer) (o : opening x ≡ Ok s) (e : p ≡ unpack word) where
-  in_range_lem : InRange p
-  in_range_lem = subst InRange (sym e) (unpack_range word)
-
-  -- small-framed
-  pub asks_small : p.flag ≡ true → (s < 16) × InRange p × (p.flag ≡ true) × (64 ≤ length x.image) × (length x.image ≤ 2 ^ 30)
-  asks_small f = let b = opening_parts x s o in (omega (arith, b.high), in_range_lem, f, b.long, b.short)
-
-  -- large-framed
-  pub asks_large : p.flag ≡ false → (opening x ≡ Ok s) × InRange p × (p.flag ≡ false)
-  asks_large f = (o, in_range_lem, f)
 
 -- The ways out.
 
@@ -267,26 +247,6 @@ module _ (s : ℕ) (p : Pointer) (x : State) where
 
 -- What the tag reader answers.
 
--- by the answer of its tests
-pub found_by : (s : ℕ) (p : Pointer) (x : State) (a : Answer) → a ≡ located s p x → found_at a x.image p ≡ read_tag s p x
-unfolding read_tag
-found_by s p x a e = rw e
-
-pub found-refused : (r : Refusal) (image : List ℕ) (p : Pointer) → Err r ≡ found_at (Err r) image p
-unfolding found_at
-found-refused r image p = refl
-
--- the header's test decides on 11
-
-pub found-verified : (b : Bool) (image : List ℕ) (h size : ℕ) (p : Pointer) → b ≡ true → size ≡ size_at image h
-    → Ok (reading h size p) ≡ found_at (demand b Dangling (Ok h)) image p
-unfolding found_at
-found-verified b image h size p e n = rw (e, n) refl
-
-pub found_dangling : (b : Bool) (image : List ℕ) (h : ℕ) (p : Pointer) → b ≡ false → Err Dangling ≡ found_at (demand b Dangling (Ok h)) image p
-unfolding found_at
-found_dangling b image h p e = rw e
-
 -- the answers of the tests, by those of the reader
 
 -- what it found
@@ -303,7 +263,7 @@ read_found s p x o e = go (located s p x) refl
     go (Ok h) q =
         let w : reading h (size_at x.image h) p ≡ o = cc in
         rw (← w) (record { tested = q; read = refl; object = located_parts s p x h q })
-    go (Err r) q = let z : ◌≡◌ {A = ℕ} 0 1 = cc in absurd (omega arith)
+    go (Err r) q = cc
 
 -- why it found nothing
 pub read-refused : (s : ℕ) (p : Pointer) (x : State) (r : Refusal) → read_tag s p x ≡ Err r → located s p x ≡ Err r
@@ -311,5 +271,5 @@ unfolding read_tag found_at
 read-refused s p x r e = go (located s p x) refl
   where
     go : (a : Answer) → located s p x ≡ a → located s p x ≡ Err r
-    go (Ok h) q = let z : ◌≡◌ {A = ℕ} 0 1 = cc in absurd (omega arith)
+    go (Ok h) q = cc
     go (Err t) q = let w : t ≡ r = cc in q ∙ ap Err w

@@ -1,10 +1,9 @@
 -- The free total: row 22 where bytes are given back, and the call. Assumes nothing.
-use Rattle.std.specs.Prelude.{ℕ, ◌+◌, ◌-◌, ◌≤◌, ◌≡◌, true, List, length, Err, Ok}
-use borrow.Author.Tests.{leb-true, le-leb}
+use Rattle.std.specs.Prelude.{ℕ, ◌+◌, ◌-◌, ◌≤◌, ◌≡◌, true, List, length, Ok}
+use Rattle.std.proofs.Common.{leb-true, le-leb}
 use Rattle.block.specs.Layout.{stored_total}
 use Rattle.store.specs.State.{State}
 use Rattle.store.specs.Calls.{opening, total_fits, free_total}
-use Rattle.store.specs.declared.answer.Refusal.{Refusal}
 
 -- row 22, of n bytes given back
 module _ (image : List ℕ) (n : ℕ) where
@@ -20,11 +19,6 @@ module _ (image : List ℕ) (n : ℕ) where
 
 -- the call
 module _ (x : State) where
-  -- row 4 or 5
-  pub free_total_shut : (r : Refusal) → opening x ≡ Err r → Err r ≡ free_total x
-  unfolding free_total
-  free_total_shut r e = rw e
-
   -- otherwise the stored number
   pub free_total-given : (s : ℕ) → opening x ≡ Ok s → Ok (stored_total x.image) ≡ free_total x
   unfolding free_total

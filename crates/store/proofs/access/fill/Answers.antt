@@ -1,13 +1,13 @@
 -- `store::fill` meets its contract: refused by its tests, or the bytes are set. Assumes nothing.
-use Rattle.std.proofs.Common.{arith, sym, ap, ◌∙◌}
+use Rattle.std.proofs.Common.{arith}
 use Rattle.std.proofs.lemmas.Grind.{common_steps}
-use Rattle.std.proofs.lemmas.Result.{err_from_is_err_and}
 use Rattle.store.specs.Calls.{fill, fill_checks}
 use Rattle.store.specs.laws.Fill.{fill_parts}
+use Rattle.store.proofs.Lent.{met}
 use Rattle.store.proofs.access.fill.Goals as goal
 
 pub fill-requires : goal.fill-requires
-fill-requires c = (fill_parts _ _ _ _ (sym (ap (fill_checks c.args.pointer c.args.length) c.in_ok-new.ensures) ∙ sym c.in_ok-at.ensures)).bytes.inside
+fill-requires c = (fill_parts _ _ _ _ (met (fill_checks _ _) c.in_ok-new.ensures c.in_ok-at.ensures)).bytes.inside
 
 -- row 4 or 5
 pub returns-in_err-new : goal.returns-in_err-new

@@ -1,16 +1,12 @@
 -- `store::load` meets its contract: 4 and 5, 14, then `access`; or the number is read. Assumes nothing.
-use Rattle.std.proofs.Common.{arith, sym, ap, ◌∙◌}
+use Rattle.std.proofs.Common.{arith, sym}
 use Rattle.std.proofs.lemmas.Grind.{common_steps}
-use Rattle.std.proofs.lemmas.Result.{err_from_is_err_and}
 use Rattle.store.specs.Calls.{load_answer}
-use Rattle.store.specs.laws.Access.{accessed_parts, width_range}
+use Rattle.store.specs.laws.Access.{accessed_parts}
 use Rattle.store.proofs.access.load.Goals as goal
 
-pub access-requires : goal.access-requires
-access-requires c = grind (arith, common_steps, width_range)
-
 pub read_field-requires : goal.read_field-requires
-read_field-requires c = let a = accessed_parts _ _ _ _ _ (sym c.in_ok-at.ensures) in let w = width_range _ (sym c.good_width.ensures ∙ c.if-not-good_width.false) in (w.0, w.1, a.inside)
+read_field-requires c = grind (arith, common_steps, accessed_parts _ _ _ _ _ (sym c.in_ok-at.ensures))
 
 pub returns-in_err-store : goal.returns-in_err-store
 unfolding load_answer

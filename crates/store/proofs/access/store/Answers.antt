@@ -1,14 +1,13 @@
 -- `store::store` meets its contract: refused by its tests, or the value is written. Assumes nothing.
-use Rattle.std.proofs.Common.{arith, sym, ap, ◌∙◌}
+use Rattle.std.proofs.Common.{arith}
 use Rattle.std.proofs.lemmas.Grind.{common_steps}
-use Rattle.std.proofs.lemmas.Result.{err_from_is_err_and}
 use Rattle.store.specs.Calls.{store, store_checks}
-use Rattle.store.specs.laws.Access.{width_range}
 use Rattle.store.specs.laws.Store.{store_parts}
+use Rattle.store.proofs.Lent.{met}
 use Rattle.store.proofs.access.store.Goals as goal
 
 pub write_field-requires : goal.write_field-requires
-write_field-requires c = let a = c.args in let s = store_parts _ _ _ _ _ (sym (ap (store_checks a.pointer a.width a.value) c.in_ok-new.ensures) ∙ sym c.in_ok-at.ensures) in let w = width_range _ s.good_width_lem in (w.0, w.1, s.bytes.inside)
+write_field-requires c = grind (arith, common_steps, store_parts _ _ _ _ _ (met (store_checks _ _ _) c.in_ok-new.ensures c.in_ok-at.ensures))
 
 -- row 4 or 5
 pub returns-in_err-new : goal.returns-in_err-new

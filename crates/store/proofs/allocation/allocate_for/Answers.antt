@@ -1,54 +1,51 @@
 -- `store::allocate_for` meets its contract: refused by its tests, or the block is taken and noted. Assumes nothing.
-use Rattle.std.proofs.Common.{arith, sym, ap, ◌∙◌}
 use Rattle.std.proofs.lemmas.Grind.{common_steps}
-use Rattle.std.proofs.lemmas.Result.{err_from_is_err_and}
 use Rattle.std.specs.Prelude.{◌≡◌, ℕ, Ok}
+use Rattle.std.proofs.Common.{arith, sym, ap, ◌∙◌}
 use Rattle.frame.specs.laws.Tags.{tagged, tagged_pointer_lem, pointer_range}
-use Rattle.frame.specs.declared.tag.Tagged.{Tagged}
-use Rattle.store.specs.State.{State, state}
-use Rattle.store.specs.Calls.{allocate_checks}
+use Rattle.store.specs.State.{State}
+use Rattle.store.specs.Calls.{allocate_checks, allocate_for}
+use Rattle.store.specs.laws.Opening.{Open}
 use Rattle.store.specs.Opened.{seen}
-use Rattle.store.specs.laws.Entries.{noted_for, tagged_in, tagged-noted}
-use Rattle.store.specs.laws.Allocate.{Allocates, site_of, site_declined, site_chosen, allocate_parts, allocate_shut, allocate_declined, allocate_done}
+use Rattle.store.specs.laws.Entries.{tagged_in, tagged-noted}
+use Rattle.store.specs.laws.Allocate.{Allocates, site_of, site_declined, site_chosen, allocate_parts, allocate_shut, allocate_declined}
 use Rattle.store.specs.declared.allocation.Site.{Site}
 use Rattle.store.specs.declared.opening.Opened.{Opened}
-use Rattle.store.proofs.Carving.{fit_needs}
-use Rattle.store.proofs.Lent.{opens, opened}
+use Rattle.store.proofs.Lent.{opened}
 use Rattle.store.proofs.allocation.allocate_for.Goals as goal
 
--- where its rows are passed, the tests found the block, and its tag is the object's
-chosen : (size : ℕ) (o : Opened) (x : State) (site : Site) → seen o ≡ x → Ok site ≡ site_of o.s size (allocate_checks size (seen o))
-    → (allocate_checks size x ≡ Ok site.header) × (site.tagged ≡ tagged o.s site.header size)
-chosen size o x site e q =
+-- where its rows are passed: the block that the tests found, and the object's tag
+record Placed (size : ℕ) (o : Opened) (x : State) (site : Site) : Type 0 where
+  pub found : allocate_checks size x ≡ Ok site.header
+  pub tag : site.tagged ≡ tagged o.s site.header size
+  pub allocates : Allocates size x site.header
+  pub opens : Open x o.s
+
+placed : (size : ℕ) (o : Opened) (x : State) (site : Site) → seen o ≡ x → Ok site ≡ site_of o.s size (allocate_checks size (seen o)) → Placed size o x site
+placed size o x site e q =
     let (found, t) = site_chosen o.s size _ site.header site.tagged (sym q) in
-    (sym (ap (allocate_checks size) e) ∙ found, t)
+    let f : allocate_checks size x ≡ Ok site.header = sym (ap (allocate_checks size) e) ∙ found in
+    record { found = f; tag = t; allocates = allocate_parts size x site.header f; opens = opened o x e }
 
 pub allot-requires : goal.allot-requires
-allot-requires c = let a = allocate_parts _ _ _ (chosen _ c.in_ok-new.field-0 _ _ c.in_ok-new.ensures c.in_ok-site.ensures).0 in (a.lowest.is_sound, a.lowest.fits_in, a.total_holds)
+allot-requires c = grind (arith, common_steps, placed _ c.in_ok-new.field-0 _ _ c.in_ok-new.ensures c.in_ok-site.ensures)
 
 pub note-requires : goal.note-requires
-note-requires c =
-    let (found, t) = chosen _ c.in_ok-new.field-0 _ _ c.in_ok-new.ensures c.in_ok-site.ensures in
-    rw t (tagged_in _ _ _ _ (fit_needs (state _ _) _ _ _ (opened c.in_ok-new.field-0 _ c.in_ok-new.ensures) (allocate_parts _ _ _ found).found).3)
+note-requires c = grind (arith, common_steps, placed _ c.in_ok-new.field-0 _ _ c.in_ok-new.ensures c.in_ok-site.ensures, tagged_in)
 
 pub pack-requires : goal.pack-requires
-pack-requires c =
-    let (found, t) = chosen _ c.in_ok-new.field-0 _ _ c.in_ok-new.ensures c.in_ok-site.ensures in
-    let o = opened c.in_ok-new.field-0 _ c.in_ok-new.ensures in
-    rw (ap (λ (u : Tagged). u.pointer) t ∙ tagged_pointer_lem _ _ _) (pointer_range _ _ _ o.high (omega (arith, (allocate_parts _ _ _ found).inside, o.short)))
+pack-requires c = grind (arith, common_steps, placed _ c.in_ok-new.field-0 _ _ c.in_ok-new.ensures c.in_ok-site.ensures, tagged_pointer_lem, pointer_range)
 
 -- row 4 or 5
 pub returns-in_err-new : goal.returns-in_err-new
-returns-in_err-new c = let p = err_from_is_err_and c.from_residual.result c.from_residual.ensures.1 in rw (p.1, p.2) (allocate_declined _ (state _ _) _ _ _ (sym (allocate_shut _ (state _ _) _ (sym c.in_err-new.ensures))))
+unfolding allocate_for
+returns-in_err-new c = grind (arith, common_steps, allocate_shut)
 
 -- row 7, 8, 9 or 22
 pub returns-in_err-site : goal.returns-in_err-site
-returns-in_err-site c = let p = err_from_is_err_and c.from_residual-in_err-site.result c.from_residual-in_err-site.ensures.1 in rw (p.1, p.2) (allocate_declined _ (state _ _) _ _ _ (sym (ap (allocate_checks c.args.size) c.in_ok-new.ensures) ∙ site_declined _ _ _ _ (sym c.in_err-site.ensures)))
+returns-in_err-site c = grind (arith, common_steps, site_declined, allocate_declined)
 
 -- the object
 pub returns : goal.returns
-returns c =
-    let (found, t) = chosen _ c.in_ok-new.field-0 _ _ c.in_ok-new.ensures c.in_ok-site.ensures in
-    allocate_done _ (state _ _) _ _ _ _ _ _ _ _ found (opened c.in_ok-new.field-0 _ c.in_ok-new.ensures).exponent c.allot.ensures (ap (λ (u : Tagged). u.pointer) t ∙ tagged_pointer_lem _ _ _)
-    (c.note.ensures ∙ ap (λ (u : Tagged). noted_for u c.in_ok-site.site.header c.args.table.now) t ∙ tagged-noted _ _ _ _ _)
-    c.pack.ensures
+unfolding allocate_for
+returns c = grind (arith, common_steps, placed _ c.in_ok-new.field-0 _ _ c.in_ok-new.ensures c.in_ok-site.ensures, tagged_pointer_lem, tagged-noted)

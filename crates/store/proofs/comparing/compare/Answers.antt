@@ -1,13 +1,13 @@
 -- `store::compare` meets its contract: refused by its tests, or the bytes are compared. Assumes nothing.
-use Rattle.std.proofs.Common.{arith, sym, ap, ◌∙◌}
+use Rattle.std.proofs.Common.{arith}
 use Rattle.std.proofs.lemmas.Grind.{common_steps}
-use Rattle.std.proofs.lemmas.Result.{err_from_is_err_and}
 use Rattle.store.specs.Calls.{compare, compared, copy_checks}
 use Rattle.store.specs.laws.Copy.{copy_parts}
+use Rattle.store.proofs.Lent.{met}
 use Rattle.store.proofs.comparing.compare.Goals as goal
 
 pub compare_runs-requires : goal.compare_runs-requires
-compare_runs-requires c = let p = copy_parts _ _ _ _ _ (sym (ap (copy_checks c.args.left c.args.right c.args.length) c.in_ok-new.ensures) ∙ sym c.in_ok-b.ensures) in rw c.unpack-a.ensures (p.to.inside, p.from.inside)
+compare_runs-requires c = grind (arith, common_steps, copy_parts _ _ _ _ _ (met (copy_checks _ _ _) c.in_ok-new.ensures c.in_ok-b.ensures))
 
 -- row 4 or 5
 pub returns-in_err-new : goal.returns-in_err-new

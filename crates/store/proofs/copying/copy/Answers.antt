@@ -1,13 +1,13 @@
 -- `store::copy` meets its contract: refused by its tests, or the bytes are copied. Assumes nothing.
-use Rattle.std.proofs.Common.{arith, sym, ap, ◌∙◌}
+use Rattle.std.proofs.Common.{arith}
 use Rattle.std.proofs.lemmas.Grind.{common_steps}
-use Rattle.std.proofs.lemmas.Result.{err_from_is_err_and}
 use Rattle.store.specs.Calls.{copy, copy_checks}
 use Rattle.store.specs.laws.Copy.{copy_parts}
+use Rattle.store.proofs.Lent.{met}
 use Rattle.store.proofs.copying.copy.Goals as goal
 
 pub copy_within-requires : goal.copy_within-requires
-copy_within-requires c = let p = copy_parts _ _ _ _ _ (sym (ap (copy_checks c.args.target c.args.source c.args.length) c.in_ok-new.ensures) ∙ sym c.in_ok-from.ensures) in rw c.unpack-to.ensures (p.to.inside, p.from.inside)
+copy_within-requires c = grind (arith, common_steps, copy_parts _ _ _ _ _ (met (copy_checks _ _ _) c.in_ok-new.ensures c.in_ok-from.ensures))
 
 -- row 4 or 5
 pub returns-in_err-new : goal.returns-in_err-new

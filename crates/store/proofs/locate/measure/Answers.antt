@@ -1,43 +1,8 @@
 -- `store::locate::measure` meets its contract: no number has more than 63 bits, so the machine's differences are those of the integers. Assumes nothing.
-use Prim.Native.Nat.{ℕ, ◌+◌, ◌^◌, ◌<◌}
-use mathlib.Core.Path.{◌≡◌, ap₂, ◌∙◌}
-use native.Mathlib.Omega.{arith}
-use lib.IntN.{ℤ, pos, ◌-ℤ◌}
-use mir.Syntax.{w64}
-use mir.Val.{SFits, to_z, of_z}
-use mir.Facts.{to_z-of_z, to_z_pos}
-use Rattle.store.specs.laws.Distances.{difference_fits, start_is, end_is}
+use Rattle.std.proofs.lemmas.Grind.{common_steps}
+use Rattle.std.proofs.Common.{arith}
+use Rattle.store.specs.laws.Distances.{start_is, end_is}
 use Rattle.store.proofs.locate.measure.Goals as goal
 
--- a difference in the machine
-module _ (a b : ℕ) (k : a < 2 ^ 63) (l : b < 2 ^ 63) where
-  plain : to_z w64 a -ℤ to_z w64 b ≡ pos a -ℤ pos b
-  plain = ap₂ ◌-ℤ◌ (to_z_pos w64 k) (to_z_pos w64 l)
-
-  fits : SFits w64 (to_z w64 a -ℤ to_z w64 b)
-  fits = rw plain (record { sfits = difference_fits a b (2 ^ 63) k l })
-
-  exact : to_z w64 (of_z w64 (to_z w64 a -ℤ to_z w64 b)) ≡ pos a -ℤ pos b
-  exact = to_z-of_z fits ∙ plain
-
-pub overflow_sub-offset : goal.overflow_sub-offset
-overflow_sub-offset c =
-    let address-low : c.args.p.address < 2 ^ 63 = omega (arith, c.requires.0.address) in
-    let base-low : c.args.h + 16 < 2 ^ 63 = omega (arith, c.requires.1) in
-    fits _ _ address-low base-low
-
-pub overflow_sub-remaining : goal.overflow_sub-remaining
-overflow_sub-remaining c =
-    let address-low : c.args.p.address < 2 ^ 63 = omega (arith, c.requires.0.address) in
-    let end_low : c.args.h + 16 + c.args.size < 2 ^ 63 = omega (arith, c.requires.1) in
-    fits _ _ end_low address-low
-
 pub returns : goal.returns
-returns c =
-    let address-low : c.args.p.address < 2 ^ 63 = omega (arith, c.requires.0.address) in
-    let base-low : c.args.h + 16 < 2 ^ 63 = omega (arith, c.requires.1) in
-    let end_low : c.args.h + 16 + c.args.size < 2 ^ 63 = omega (arith, c.requires.1) in
-    let a = c.args in
-    ap₂ (λ (x y : ℤ). record { header = a.h; base = a.h + 16; size = a.size; offset = x; remaining = y })
-    (exact _ _ address-low base-low ∙ start_is a.h a.p)
-    (exact _ _ end_low address-low ∙ end_is a.h a.p a.size)
+returns c = grind (arith, common_steps, start_is, end_is)

@@ -1,12 +1,7 @@
 -- `store::offset` meets its contract: 4 and 5, then 10 and 12 (`offset_in`). Assumes nothing.
-use Rattle.std.proofs.Common.{arith, sym, ap, ◌∙◌}
+use Rattle.std.proofs.Common.{arith, to_z-of_z}
 use Rattle.std.proofs.lemmas.Grind.{common_steps}
-use Rattle.std.proofs.lemmas.Result.{err_from_is_err_and}
-use Rattle.std.specs.Prelude.{ℤ}
-use mir.Facts.{to_z-of_z}
 use Rattle.store.specs.Calls.{move_answer}
-use Rattle.store.specs.Opened.{seen}
-use Rattle.store.specs.laws.Move.{move_answer_lem}
 use Rattle.store.proofs.Lent.{opens}
 use Rattle.store.proofs.moving.offset.Goals as goal
 
@@ -20,4 +15,5 @@ returns-in_err-store c = grind (arith, common_steps)
 
 -- row 10 or 12, or the pointer
 pub returns : goal.returns
-returns c = rw (← c.in_ok-store.ensures) (c.offset_in.ensures ∙ move_answer_lem (seen c.in_ok-store.store) _ c.in_ok-store.store.opens _ _ ∙ ap (λ (d : ℤ). move_answer c.args.pointer d (seen c.in_ok-store.store)) (to_z-of_z c.ranges.distance))
+unfolding move_answer
+returns c = grind (arith, common_steps, to_z-of_z)

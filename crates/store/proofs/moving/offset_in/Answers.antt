@@ -2,17 +2,17 @@
 use Rattle.std.proofs.Common.{arith}
 use Rattle.std.proofs.lemmas.Grind.{common_steps}
 use Rattle.frame.specs.laws.Pointers.{unpack_range, reach-within, reach_bad, moved_range}
-use Rattle.store.specs.laws.Move.{moved_bad, moved_out, moved_in}
+use Rattle.store.specs.laws.Move.{moved_out, moved_in}
 use Rattle.store.proofs.moving.offset_in.Goals as goal
 
 pub moved-requires : goal.moved-requires
 moved-requires c = grind (arith, common_steps, unpack_range, reach-within)
 
 pub pack-requires : goal.pack-requires
-pack-requires c = grind (arith, common_steps, unpack_range, reach-within, moved_range)
+pack-requires c = grind (arith, common_steps, unpack_range, moved_range)
 
 pub returns-in_err-n : goal.returns-in_err-n
-returns-in_err-n c = grind (arith, common_steps, reach_bad, moved_bad)
+returns-in_err-n c = grind (arith, common_steps, reach_bad)
 
 pub returns-in_err-q : goal.returns-in_err-q
 returns-in_err-q c = grind (arith, common_steps, reach-within, moved_out)

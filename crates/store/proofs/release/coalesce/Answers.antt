@@ -1,49 +1,36 @@
 -- `store::coalesce` meets its contract. It ends in one of four ways: the walk does not meet h; the block at h is the last of the image; the header that follows is
 -- unsound; or it is sound. Assumes nothing.
-use Rattle.std.proofs.Common.{arith, sym, ap, ◌∙◌}
 use Rattle.std.proofs.lemmas.Grind.{common_steps}
-use Rattle.std.proofs.lemmas.Result.{err_from_is_err_and}
-use Rattle.std.specs.Prelude.{◌≡◌, ◌+◌, ◌<◌, Err, length}
+use Rattle.std.proofs.Common.{arith}
 use Rattle.block.specs.laws.Soundness.{sound_in, sound-end, examined_is_sound, examined_is_unsound}
-use Rattle.block.specs.declared.header.Header.{Header}
-use Rattle.store.specs.Calls.{released}
 use Rattle.store.specs.laws.Free.{released_lost}
-use Rattle.store.proofs.Lent.{ok_or_some, ok_or_none}
-use Rattle.store.proofs.Merging.{meets, before_in, released_last, released_bad, released-next}
+use Rattle.store.proofs.Merging.{before_in, released_last, released_bad, released-next}
 use Rattle.store.proofs.release.coalesce.Goals as goal
 
 pub extent_at-requires : goal.extent_at-requires
 extent_at-requires c = sound_in _ _ c.requires
 
 pub overflow_add-next : goal.overflow_add-next
-overflow_add-next c = omega (arith, c.extent_at.ensures, sound-end _ _ c.requires)
+overflow_add-next c = grind (arith, common_steps, sound-end)
 
 pub merge_start-from-requires : goal.merge_start-from-requires
-merge_start-from-requires c = before_in (meets _ _ _ _ (sym c.walk_to.ensures ∙ ok_or_some _ _ _ c.in_ok-before.ensures.value) c.extent_at.ensures c.requires)
+merge_start-from-requires c = grind (arith, common_steps, before_in)
 
 pub merge_end-requires : goal.merge_end-requires
-merge_end-requires c = let (so, is) = examined_is_sound _ _ _ (sym c.examine.ensures ∙ ok_or_some _ _ _ c.in_ok-d.ensures.value) in omega (arith, sound-end _ _ so, ap (λ (d : Header). d.extent) is)
+merge_end-requires c = grind (arith, common_steps, sound-end, examined_is_sound)
 
 -- row 7: h is not met
 pub returns-in_err-before : goal.returns-in_err-before
-returns-in_err-before c =
-    let (lost, why) = ok_or_none _ _ _ c.in_err-before.ensures.value in
-    let p = err_from_is_err_and c.from_residual.result c.from_residual.ensures.1 in rw (p.1, p.2) (ap Err why ∙ sym (ap (released c.args.image.now c.args.h) (sym c.walk_to.ensures ∙ lost) ∙ released_lost _ _))
+returns-in_err-before c = grind (arith, common_steps, released_lost)
 
 -- nothing follows
 pub returns-then-next-image : goal.returns-then-next-image
-returns-then-next-image c = rw c.merge_start-from.ensures (sym (released_last (meets _ _ _ _ (sym c.walk_to.ensures ∙ ok_or_some _ _ _ c.in_ok-before.ensures.value) c.extent_at.ensures c.requires) (omega arith)))
+returns-then-next-image c = grind (arith, common_steps, released_last)
 
 -- row 7: the next header is unsound
 pub returns-in_err-d : goal.returns-in_err-d
-returns-in_err-d c =
-    let inside : c.args.h + c.extent_at.result < length c.args.image.now = omega (arith, c.extent_at.ensures, sound-end _ _ c.requires) in
-    let (bad, why) = ok_or_none _ _ _ c.in_err-d.ensures.value in
-    let p = err_from_is_err_and c.from_residual-in_err-d.result c.from_residual-in_err-d.ensures.1 in rw (p.1, p.2) (ap Err why ∙ sym (released_bad (meets _ _ _ _ (sym c.walk_to.ensures ∙ ok_or_some _ _ _ c.in_ok-before.ensures.value) c.extent_at.ensures c.requires) inside (examined_is_unsound _ _ (sym c.examine.ensures ∙ bad))))
+returns-in_err-d c = grind (arith, common_steps, sound-end, examined_is_unsound c.args.image.now, released_bad)
 
 -- it is sound
 pub returns : goal.returns
-returns c =
-    let inside : c.args.h + c.extent_at.result < length c.args.image.now = omega (arith, c.extent_at.ensures, sound-end _ _ c.requires) in
-    let (so, is) = examined_is_sound _ _ _ (sym c.examine.ensures ∙ ok_or_some _ _ _ c.in_ok-d.ensures.value) in
-    rw (c.merge_start-from.ensures, c.merge_end.ensures) (sym (released-next (meets _ _ _ _ (sym c.walk_to.ensures ∙ ok_or_some _ _ _ c.in_ok-before.ensures.value) c.extent_at.ensures c.requires) inside _ is so))
+returns c = grind (arith, common_steps, sound-end, examined_is_sound, released-next)

@@ -1,20 +1,14 @@
 -- `store::free` meets its contract: refused by its tests, or the block is given back and the entry is cleared. Assumes nothing.
+use Rattle.std.specs.Prelude.{◌≡◌, ℕ, Ok}
 use Rattle.std.proofs.Common.{arith, sym, ap, ◌∙◌}
 use Rattle.std.proofs.lemmas.Grind.{common_steps}
-use Rattle.std.proofs.lemmas.Result.{err_from_is_err_and}
-use Rattle.std.specs.Prelude.{◌≡◌, ℕ, Ok}
-use Rattle.std.proofs.Common.{subst, lt_of_lt_of_le}
-use Rattle.frame.specs.Pointers.{unpack}
 use Rattle.frame.specs.laws.Pointers.{good_large, reach-large}
 use Rattle.frame.specs.laws.Wrappers.{entry_used}
-use Rattle.frame.specs.declared.parts.Pointer.{Pointer}
-use Rattle.store.specs.State.{State, state}
+use Rattle.store.specs.State.{State}
 use Rattle.store.specs.Calls.{free, free_release, freed}
 use Rattle.store.specs.Opened.{seen}
-use Rattle.store.specs.laws.Opening.{Open}
-use Rattle.store.specs.laws.Entries.{entry_cleared, cleared-noted}
-use Rattle.store.specs.laws.TagReading.{Located}
-use Rattle.store.specs.laws.Free.{Frees, free_parts, free_shut, free_done}
+use Rattle.store.specs.laws.Entries.{cleared-noted}
+use Rattle.store.specs.laws.Free.{Frees, free_parts, free_shut}
 use Rattle.store.specs.declared.opening.Opened.{Opened}
 use Rattle.store.specs.declared.release.FreedBlock.{FreedBlock}
 use Rattle.store.proofs.Lent.{opened}
@@ -25,24 +19,19 @@ use Rattle.store.proofs.release.free.Goals as goal
 accepted : (word : ℕ) (o : Opened) (x : State) (b : FreedBlock) → seen o ≡ x → Ok b ≡ free_release word (seen o) → Frees word x b.header b.from b.to
 accepted word o x b e q = free_parts word x _ _ _ (sym (ap (free_release word) e) ∙ sym q)
 
-object : (word : ℕ) (s : ℕ) (x : State) (b : FreedBlock) → Open x s → Frees word x b.header b.from b.to → Located s (unpack word) x b.header
-object word s x b o f = subst (λ (k : ℕ). Located k (unpack word) x b.header) (sym o.exponent) f.object
-
 pub give_back-requires : goal.give_back-requires
-give_back-requires c = let f = accepted _ c.in_ok-store.store _ _ c.in_ok-store.ensures c.in_ok-block.ensures in (omega (arith, f.inside), f.room, f.high, omega (arith, f.total, f.opens.short))
+give_back-requires c = grind (arith, common_steps, accepted _ c.in_ok-store.store _ _ c.in_ok-store.ensures c.in_ok-block.ensures)
 
 pub clear_entry-requires : goal.clear_entry-requires
 clear_entry-requires c =
-    let f = accepted _ c.in_ok-store.store _ _ c.in_ok-store.ensures c.in_ok-block.ensures in
-    let o = opened c.in_ok-store.store _ c.in_ok-store.ensures in
-    let l = object _ _ _ c.in_ok-block.block o f in
-    let s = c.in_ok-store.store.s in
-    let p = unpack c.args.pointer in
-    rw c.unpack.ensures (
-      omega (arith, o.high),
-      l.good,
-      omega (arith, l.starts, o.short),
-      λ e. lt_of_lt_of_le (entry_used s p.tag _ p.address (good_large s p e l.good).1 (rw (reach-large s p e) at l.starts)) o.entries,
+    grind (
+      arith,
+      common_steps,
+      opened c.in_ok-store.store _ c.in_ok-store.ensures,
+      accepted _ c.in_ok-store.store _ _ c.in_ok-store.ensures c.in_ok-block.ensures,
+      good_large,
+      reach-large,
+      entry_used,
     )
 
 -- row 4 or 5
@@ -57,10 +46,12 @@ returns-in_err-block c = grind (arith, common_steps)
 
 -- the object is freed
 pub returns : goal.returns
+unfolding free freed
 returns c =
-    let f = accepted _ c.in_ok-store.store _ _ c.in_ok-store.ensures c.in_ok-block.ensures in
-    let o = opened c.in_ok-store.store _ c.in_ok-store.ensures in
-    let t = c.args.table.now in
-    let h = (object _ _ _ c.in_ok-block.block o f).header in
-    free_done _ (state _ _) _ _ _ _ _ _ (sym (ap (free_release c.args.pointer) c.in_ok-store.ensures) ∙ sym c.in_ok-block.ensures) o.exponent c.give_back.ensures
-    (c.clear_entry.ensures ∙ ap (λ (p : Pointer). entry_cleared c.in_ok-store.store.s p t) c.unpack.ensures ∙ cleared-noted _ _ _ _ t h.matches h.near)
+    grind (
+      arith,
+      common_steps,
+      opened c.in_ok-store.store _ c.in_ok-store.ensures,
+      accepted _ c.in_ok-store.store _ _ c.in_ok-store.ensures c.in_ok-block.ensures,
+      cleared-noted,
+    )

@@ -1,12 +1,9 @@
 -- `store::setup::lay_out` meets its contract: the image is filled with zeros, then the superblock and one free header are put. Assumes nothing.
-use mathlib.Core.Path.{refl}
-use native.Mathlib.Omega.{arith}
-use lib.ListN.{length}
+use Rattle.std.proofs.lemmas.Grind.{common_steps}
+use Rattle.std.proofs.Common.{arith}
 use Rattle.store.proofs.Fresh.{laid_out}
 use Rattle.store.proofs.setup.lay_out.Goals as goal
 
 -- a fresh image
 pub returns : goal.returns
-returns c =
-    let a = c.args in
-    cc (laid_out a.image.now a.s (length a.image.now) refl (omega arith))
+returns c = grind (arith, common_steps, laid_out)

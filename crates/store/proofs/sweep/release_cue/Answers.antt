@@ -1,15 +1,9 @@
 -- `store::release_cue` meets its contract: refused by its tests, or the pass frees the objects. Assumes nothing.
-use Rattle.std.proofs.Common.{arith, sym, ap, ◌∙◌}
+use Rattle.std.proofs.Common.{arith}
 use Rattle.std.proofs.lemmas.Grind.{common_steps}
-use Rattle.std.proofs.lemmas.Result.{err_from_is_err_and}
-use Rattle.std.specs.Prelude.{Ok}
-use Rattle.store.specs.State.{State, state, returned}
-use Rattle.store.specs.Calls.{opening, release_cue, release_checks}
-use Rattle.store.specs.laws.Release.{release_shut, release_done}
+use Rattle.store.specs.Calls.{release_cue}
+use Rattle.store.specs.laws.Release.{release_shut}
 use Rattle.store.proofs.sweep.release_cue.Goals as goal
-
-pub sweep-requires : goal.sweep-requires
-sweep-requires c = (ap opening (sym c.in_ok-store.ensures) ∙ c.in_ok-store.store.opens, ap returned (sym (ap (release_checks c.args.cue) c.in_ok-store.ensures) ∙ sym c.in_ok-n.ensures))
 
 -- row 4 or 5
 pub returns-in_err-store : goal.returns-in_err-store
@@ -23,4 +17,5 @@ returns-in_err-n c = grind (arith, common_steps)
 
 -- the objects are freed
 pub returns : goal.returns
-returns c = release_done _ (state _ _) _ _ _ (sym (ap (release_checks c.args.cue) c.in_ok-store.ensures) ∙ sym c.in_ok-n.ensures) c.sweep.ensures
+unfolding release_cue
+returns c = grind (arith, common_steps)

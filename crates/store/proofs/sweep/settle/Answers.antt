@@ -2,9 +2,6 @@
 use Rattle.store.specs.laws.Sweep.{settled}
 use Rattle.store.proofs.sweep.settle.Goals as goal
 
-pub merge-requires : goal.merge-requires
-merge-requires c = (c.requires.0 c.if-run.true, c.requires.1)
-
 -- a run
 pub returns-then-run : goal.returns-then-run
 unfolding settled

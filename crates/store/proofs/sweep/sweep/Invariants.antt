@@ -1,8 +1,6 @@
 -- `store::sweep::sweep`. Invariant: with the run that is kept back and the total written, image and table are what freeing singly the objects before h
 -- leaves, and freeing those from h on leaves the goal (`Pass`). Measure: the bytes from h to the image's end. Assumes nothing.
-use mathlib.Core.Path.{◌≡◌}
-use Prim.Native.Nat.{◌-◌}
-use lib.ListN.{length}
+use Rattle.std.specs.Prelude.{◌≡◌, ◌-◌, length}
 use Rattle.store.specs.State.{state}
 use Rattle.store.specs.Calls.{free_each, cue_pointers}
 use Rattle.store.proofs.Runs.{Pass}

@@ -2,12 +2,12 @@
 use Rattle.std.proofs.Common.{arith}
 use Rattle.std.proofs.lemmas.Grind.{common_steps}
 use Rattle.store.specs.Calls.{free_total}
-use Rattle.store.proofs.Lent.{opens, is_open}
+use Rattle.store.proofs.Lent.{opens}
 use Rattle.store.proofs.total.free_total.Goals as goal
 
 pub returns : goal.returns
 unfolding free_total
-returns c = grind (arith, common_steps, is_open)
+returns c = grind (arith, common_steps)
 
 pub returns-in_err-store : goal.returns-in_err-store
 unfolding free_total

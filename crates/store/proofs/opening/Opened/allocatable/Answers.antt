@@ -1,7 +1,6 @@
 -- `store::Opened::allocatable` meets its contract: 7 or 8 as first fit ends, then 9 (`entry_holds`), then 22. Assumes nothing.
-use Rattle.std.proofs.Common.{arith, sym, ap, ◌∙◌}
+use Rattle.std.proofs.Common.{arith, sym, ◌∙◌}
 use Rattle.std.proofs.lemmas.Grind.{common_steps}
-use Rattle.std.proofs.lemmas.Result.{err_from_is_err_and}
 use Rattle.block.specs.laws.FirstFit.{first_fit_lowest}
 use Rattle.store.specs.Opened.{seen}
 use Rattle.store.specs.laws.Entries.{tagged_in}
@@ -11,16 +10,18 @@ use Rattle.store.proofs.Lent.{opens}
 use Rattle.store.proofs.opening.Opened.allocatable.Goals as goal
 
 pub tag_object-tagged-requires : goal.tag_object-tagged-requires
-tag_object-tagged-requires c = let n = fit_needs (seen c.args.self.now) _ _ _ (opens c.args.self.now) (sym c.first_fit.ensures ∙ c.in-At.is) in (n.0, n.1, n.2)
+tag_object-tagged-requires c =
+    grind (arith, common_steps, fit_needs (seen c.args.self.now) _ _ _ (opens c.args.self.now) (sym c.first_fit.ensures ∙ c.in-At.is))
 
 pub entry_holds-requires : goal.entry_holds-requires
-entry_holds-requires c = rw c.tag_object-tagged.ensures (tagged_in _ _ _ _ (fit_needs (seen c.args.self.now) _ _ _ (opens c.args.self.now) (sym c.first_fit.ensures ∙ c.in-At.is)).3)
+entry_holds-requires c =
+    grind (arith, common_steps, tagged_in, fit_needs (seen c.args.self.now) _ _ _ (opens c.args.self.now) (sym c.first_fit.ensures ∙ c.in-At.is))
 
 pub stored_total-requires : goal.stored_total-requires
 stored_total-requires c = omega (arith, (opens c.args.self.now).long)
 
 pub taken_extent-requires : goal.taken_extent-requires
-taken_extent-requires c = let w = first_fit_lowest _ _ _ (sym c.first_fit.ensures ∙ c.in-At.is) in (w.is_sound, w.fits_in)
+taken_extent-requires c = grind (arith, common_steps, first_fit_lowest _ _ _ (sym c.first_fit.ensures ∙ c.in-At.is))
 
 -- row 9
 pub returns-then-not-entry_holds : goal.returns-then-not-entry_holds
@@ -32,11 +33,11 @@ returns-then-stored_total-taken_extent c = grind (arith, common_steps, site_wron
 
 -- row 7
 pub returns-in-Unsound : goal.returns-in-Unsound
-returns-in-Unsound c = site_refused _ _ _ _ (allocate_unsound _ (seen c.args.self.now) _ c.args.self.now.opens _ (sym c.first_fit.ensures ∙ c.in-Unsound.is))
+returns-in-Unsound c = grind (arith, common_steps, site_refused, allocate_unsound)
 
 -- row 8
 pub returns-in-End : goal.returns-in-End
-returns-in-End c = site_refused _ _ _ _ (allocate_full _ (seen c.args.self.now) _ c.args.self.now.opens (sym c.first_fit.ensures ∙ c.in-End.is))
+returns-in-End c = grind (arith, common_steps, site_refused, allocate_full)
 
 -- the block at h is taken
 pub returns-else-stored_total-taken_extent : goal.returns-else-stored_total-taken_extent

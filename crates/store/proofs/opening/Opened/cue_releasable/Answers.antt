@@ -1,7 +1,6 @@
 -- `store::Opened::cue_releasable` meets its contract: row 7 as the walk ends, then 21 and 22 of what it has gathered. Assumes nothing.
-use Rattle.std.proofs.Common.{arith, sym, ap, ◌∙◌}
 use Rattle.std.proofs.lemmas.Grind.{common_steps}
-use Rattle.std.proofs.lemmas.Result.{err_from_is_err_and}
+use Rattle.std.proofs.Common.{arith, sym}
 use Rattle.block.specs.laws.Gathering.{cue_live}
 use Rattle.block.specs.laws.Soundness.{sound_low}
 use Rattle.block.specs.laws.Turns.{seen_at, live_holds}
@@ -16,10 +15,10 @@ pub loop-d-init : goal.loop-d-init
 loop-d-init c = gathers_none _ _ _
 
 pub overflow_add-count : goal.overflow_add-count
-overflow_add-count c = omega (arith, c.loop-d.invariant.few, (seen_at _ _ _ (sym c.in-Some.ensures)).inside)
+overflow_add-count c = grind (arith, common_steps, seen_at)
 
 pub overflow_add-given : goal.overflow_add-given
-overflow_add-given c = omega (arith, c.loop-d.invariant.small, (seen_at _ _ _ (sym c.in-Some.ensures)).inside)
+overflow_add-given c = grind (arith, common_steps, seen_at)
 
 pub still_held-held-requires : goal.still_held-held-requires
 still_held-held-requires c =
@@ -28,22 +27,16 @@ still_held-held-requires c =
     entry_needs (seen c.args.self.now) _ _ _ (opens c.args.self.now) (sound_low _ _ at.is_sound) (omega (arith, live_holds at live, at.inside))
 
 pub overflow_add-h : goal.overflow_add-h
-overflow_add-h c = omega (arith, (seen_at _ _ _ (sym c.in-Some.ensures)).inside)
+overflow_add-h c = grind (arith, common_steps, seen_at)
 
 pub loop-d-smaller : goal.loop-d-smaller
-loop-d-smaller c = let at = seen_at _ _ _ (sym c.in-Some.ensures) in omega (arith, at.inside, at.long)
+loop-d-smaller c = grind (arith, common_steps, seen_at)
 
 pub loop-d-preserved : goal.loop-d-preserved
-loop-d-preserved c =
-    let at = seen_at _ _ _ (sym c.in-Some.ensures) in
-    let g = c.loop-d.invariant in
-    elim c.if-is_of_cue.branch [
-      | then-is_of_cue w ↦ rw (w.held-is, w.still_held-held.ensures, w.count-is, w.given-is) (gathers_taken g at (sym c.is_of_cue.ensures ∙ w.if-is_of_cue.true))
-      | else-is_of_cue w ↦ rw (w.held-is, w.count-is, w.given-is) (gathers_passed g at (sym c.is_of_cue.ensures ∙ w.if-is_of_cue.false))
-    ]
+loop-d-preserved c = grind (arith, common_steps, seen_at, gathers_taken, gathers_passed)
 
 pub total_fits-requires : goal.total_fits-requires
-total_fits-requires c = let o = opens c.args.self.now in (omega (arith, o.long), omega (arith, c.loop-d.invariant.small, o.short))
+total_fits-requires c = grind (arith, common_steps, opens c.args.self.now)
 
 -- row 7
 pub returns-then-h-image : goal.returns-then-h-image

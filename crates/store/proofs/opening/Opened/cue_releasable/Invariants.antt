@@ -1,7 +1,6 @@
 -- `store::Opened::cue_releasable`. Invariant: the objects of the cue up to h are gathered, row 21 of them is `held`, and their extents sum up to `given`
 -- (`Gathers`). Measure: the bytes from h to the image's end. Assumes nothing.
-use Prim.Native.Nat.{◌-◌}
-use lib.ListN.{length}
+use Rattle.std.specs.Prelude.{◌-◌, length}
 use Rattle.store.specs.Opened.{seen}
 use Rattle.store.proofs.Gathering.{Gathers}
 use Rattle.store.proofs.opening.Opened.cue_releasable.Given as goal

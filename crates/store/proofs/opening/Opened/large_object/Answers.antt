@@ -1,6 +1,6 @@
 -- `store::Opened::large_object` meets its contract: 10 by the tag number; 11 where its frame starts past the image, where no live header stands at the place that
 -- its entry holds, or the object does not reach from half to half of the frame. Assumes nothing.
-use Rattle.std.proofs.Common.{arith, lt_of_lt_of_le}
+use Rattle.std.proofs.Common.{arith}
 use Rattle.std.proofs.lemmas.Grind.{common_steps}
 use Rattle.frame.specs.laws.Pointers.{good_large}
 use Rattle.frame.specs.laws.Wrappers.{entry_used}
@@ -10,9 +10,6 @@ use Rattle.store.proofs.opening.Opened.large_object.Goals as goal
 
 pub frame_tag_good-requires : goal.frame_tag_good-requires
 frame_tag_good-requires c = grind (arith, common_steps, opens c.args.self.now)
-
-pub overflow_cast-n : goal.overflow_cast-n
-overflow_cast-n c = grind (arith, common_steps, good_large)
 
 pub frame_start-requires : goal.frame_start-requires
 frame_start-requires c = grind (arith, common_steps, good_large)
@@ -27,7 +24,7 @@ pub frame_holds-requires : goal.frame_holds-requires
 frame_holds-requires c = grind (arith, common_steps, good_large, opens c.args.self.now, object_inside)
 
 pub measure-requires : goal.measure-requires
-measure-requires c = grind (arith, common_steps, opens c.args.self.now, object_inside)
+measure-requires c = grind (arith, common_steps, object_inside)
 
 -- row 10
 pub returns-then-not-frame_tag_good : goal.returns-then-not-frame_tag_good

@@ -9,9 +9,3 @@ small_object-requires c = grind (arith, common_steps, unpack_range)
 
 pub large_object-requires : goal.large_object-requires
 large_object-requires c = grind (arith, common_steps, unpack_range)
-
-pub returns-then-p : goal.returns-then-p
-returns-then-p c = grind (arith, common_steps)
-
-pub returns-else-p : goal.returns-else-p
-returns-else-p c = grind (arith, common_steps)

@@ -1,13 +1,10 @@
 -- `store::Opened::small_object` meets its contract: 10 by the tag number; 11 where no live header stands at its place of the slot, or the slot does not hold its
 -- object. Assumes nothing.
-use Rattle.std.proofs.Common.{◌^◌, arith, div-mul-le_self}
+use Rattle.std.proofs.Common.{arith}
 use Rattle.std.proofs.lemmas.Grind.{common_steps}
 use Rattle.store.proofs.Lent.{opens}
 use Rattle.store.proofs.Tags.{object_inside, tag_bad, slot_empty, slot_left, slot_object}
 use Rattle.store.proofs.opening.Opened.small_object.Goals as goal
-
-pub overflow_add-h : goal.overflow_add-h
-overflow_add-h c = omega (arith, c.frame_start.ensures, c.requires.0.tag, c.requires.0.address, div-mul-le_self c.args.p.address (2 ^ c.args.self.now.s))
 
 pub slot_tag_good-requires : goal.slot_tag_good-requires
 slot_tag_good-requires c = grind (arith, common_steps, opens c.args.self.now)
@@ -22,7 +19,7 @@ pub slot_holds-requires : goal.slot_holds-requires
 slot_holds-requires c = grind (arith, common_steps, opens c.args.self.now, object_inside)
 
 pub measure-requires : goal.measure-requires
-measure-requires c = grind (arith, common_steps, opens c.args.self.now, object_inside)
+measure-requires c = grind (arith, common_steps, object_inside)
 
 -- row 10
 pub returns-then-not-slot_tag_good : goal.returns-then-not-slot_tag_good

@@ -2,11 +2,7 @@
 use Rattle.std.proofs.Common.{arith}
 use Rattle.std.proofs.lemmas.Grind.{common_steps}
 use Rattle.store.specs.Calls.{store_checks}
-use Rattle.store.specs.laws.Access.{width_range}
 use Rattle.store.proofs.opening.Opened.storable.Goals as goal
-
-pub access-requires : goal.access-requires
-access-requires c = grind (arith, common_steps, width_range)
 
 pub returns-then-not-good_width : goal.returns-then-not-good_width
 unfolding store_checks

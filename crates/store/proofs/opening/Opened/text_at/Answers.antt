@@ -1,49 +1,26 @@
 -- `store::Opened::text_at` meets its contract: 10 and 11 (`locate`), 13 (`in_body`) of one byte, then a search of all bytes that remain (`find_text`): 20, or the
 -- length. Assumes nothing.
-use Rattle.std.proofs.Common.{arith, sym, ap, ◌∙◌}
+use Rattle.std.proofs.Common.{arith, sym}
 use Rattle.std.proofs.lemmas.Grind.{common_steps}
-use Rattle.std.proofs.lemmas.Result.{err_from_is_err_and}
-use Rattle.std.specs.Prelude.{◌≡◌, ℤ, pos, take, drop}
-use lib.IntN.{nat_abs}
-use mir.Syntax.{w64}
-use mir.Val.{SFits, to_z, of_z}
-use mir.Facts.{to_z-of_z}
-use Rattle.std.proofs.Common.{ap₂, rules}
-use Rattle.frame.specs.declared.parts.Pointer.{Pointer}
-use Rattle.block.specs.Text.{text_of}
-use Rattle.store.specs.Calls.{text_answer}
+use Rattle.store.specs.Calls.{text_at, read_tag, found_at}
 use Rattle.store.specs.Opened.{seen}
-use Rattle.store.specs.laws.TagReading.{read-refused}
-use Rattle.store.specs.laws.CopyText.{text_unread}
 use Rattle.store.proofs.Texts.{text_or, text_out, body_ahead}
 use Rattle.store.proofs.opening.Opened.text_at.Goals as goal
 
 -- row 10 or 11
 pub returns-in_err-object : goal.returns-in_err-object
-returns-in_err-object c = let p = err_from_is_err_and c.from_residual.result c.from_residual.ensures.1 in rw (p.1, p.2) (text_unread _ _ (seen c.args.self.now) _ (read-refused _ _ _ _ (sym c.in_err-object.ensures)))
+unfolding text_at read_tag found_at
+returns-in_err-object c = grind (arith, common_steps)
 
 -- row 13
 pub returns-then-not-in_body : goal.returns-then-not-in_body
 returns-then-not-in_body c = grind (arith, common_steps, text_out)
 
-pub overflow_cast-object : goal.overflow_cast-object
-overflow_cast-object c =
-    let ahead = body_ahead _ _ (seen c.args.self.now) _ (sym c.in_ok-object.ensures) c.args.self.now.opens (sym c.if-not-in_body.ensures) in
-    let fits : SFits w64 c.in_ok-object.object.remaining = search rules in
-    rw (to_z-of_z fits ∙ ahead.remaining) (tt, record { fits = omega (arith, ahead.inside, ahead.short) })
-
 pub find_text-requires : goal.find_text-requires
 find_text-requires c =
-    let ahead = body_ahead _ _ (seen c.args.self.now) _ (sym c.in_ok-object.ensures) c.args.self.now.opens (sym c.if-not-in_body.ensures) in
-    let fits : SFits w64 c.in_ok-object.object.remaining = search rules in
-    rw (to_z-of_z fits ∙ ahead.remaining) (omega (arith, ap (λ (p : Pointer). p.address) c.unpack-at.ensures, ahead.inside))
+    grind (arith, common_steps, body_ahead _ _ (seen c.args.self.now) _ (sym c.in_ok-object.ensures) c.args.self.now.opens (sym c.if-not-in_body.ensures))
 
 -- the length, or row 20
 pub returns : goal.returns
 returns c =
-    let ahead = body_ahead _ _ (seen c.args.self.now) _ (sym c.in_ok-object.ensures) c.args.self.now.opens (sym c.if-not-in_body.ensures) in
-    let fits : SFits w64 c.in_ok-object.object.remaining = search rules in
-    c.ok_or.ensures.value
-    ∙ text_or _
-    ∙ ap text_answer (c.find_text.ensures ∙ ap₂ (λ (n : ℤ) (p : Pointer). text_of (take (nat_abs n) (drop p.address c.args.self.now.image.now))) (to_z-of_z fits ∙ ahead.remaining) c.unpack-at.ensures)
-    ∙ ahead.searched
+    grind (arith, common_steps, text_or, body_ahead _ _ (seen c.args.self.now) _ (sym c.in_ok-object.ensures) c.args.self.now.opens (sym c.if-not-in_body.ensures))

@@ -1,18 +1,15 @@
 -- `store::Opened::text_copyable` meets its contract: the source is read (`text_at`), then `access` of the target, for the length of the text plus one bytes. Assumes nothing.
-use Rattle.std.proofs.Common.{arith, sym, ap, ◌∙◌}
+use Rattle.std.proofs.Common.{arith}
 use Rattle.std.proofs.lemmas.Grind.{common_steps}
-use Rattle.std.proofs.lemmas.Result.{err_from_is_err_and}
-use Rattle.store.specs.Opened.{seen}
 use Rattle.store.specs.Calls.{copy_text_checks}
 use Rattle.store.specs.laws.CopyText.{text_inside}
-use Rattle.store.proofs.Lent.{opens}
 use Rattle.store.proofs.opening.Opened.text_copyable.Goals as goal
 
 pub overflow_add-n : goal.overflow_add-n
-overflow_add-n c = omega (arith, text_inside _ _ (seen c.args.self.now) _ (sym c.in_ok-n.ensures), (opens c.args.self.now).short)
+overflow_add-n c = grind (arith, common_steps, text_inside)
 
 pub access-requires : goal.access-requires
-access-requires c = omega (arith, text_inside _ _ (seen c.args.self.now) _ (sym c.in_ok-n.ensures), (opens c.args.self.now).short)
+access-requires c = grind (arith, common_steps, text_inside)
 
 pub returns-in_err-n : goal.returns-in_err-n
 unfolding copy_text_checks

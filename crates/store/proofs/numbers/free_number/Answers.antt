@@ -1,7 +1,0 @@
--- `store::free_number` meets its contract: the parts of what `free` answers and leaves. Assumes nothing.
-use Rattle.std.proofs.Common.{arith}
-use Rattle.std.proofs.lemmas.Grind.{common_steps}
-use Rattle.store.proofs.numbers.free_number.Goals as goal
-
-pub returns : goal.returns
-returns c = grind (arith, common_steps)
