@@ -49,19 +49,14 @@ pub fn walk_to(image: &[u8], target: u64) -> Option<u64>
 {
     let mut before: u64 = 0;
     let mut h: u64 = 16;
-    loop {
-        let Some(d) = examine(image, h) else {
-            break None;
-        };
-        if h == target {
-            break Some(before);
-        }
-        if target < h {
-            break None;
+    while let Some(d) = examine(image, h) {
+        if target <= h {
+            return if h == target { Some(before) } else { None };
         }
         before = h;
         h += d.extent;
     }
+    None
 }
 
 // Counts the blocks; none where a header is unsound. Free ones have size 0; and what is neither live nor free behind the superblock is overhead, so that no sum is kept of it.
@@ -74,18 +69,7 @@ pub fn count_blocks(image: &[u8]) -> Option<Counts>
     let mut live: u64 = 0;
     let mut free: u64 = 0;
     let mut h: u64 = 16;
-    loop {
-        let Some(d) = examine(image, h) else {
-            if h == len {
-                break Some(Counts {
-                    objects,
-                    live,
-                    free,
-                    overhead: len - 16 - live - free,
-                });
-            }
-            break None;
-        };
+    while let Some(d) = examine(image, h) {
         if d.kind == LIVE {
             objects += 1;
         } else {
@@ -94,4 +78,13 @@ pub fn count_blocks(image: &[u8]) -> Option<Counts>
         live += d.size;
         h += d.extent;
     }
+    if h != len {
+        return None;
+    }
+    Some(Counts {
+        objects,
+        live,
+        free,
+        overhead: len - 16 - live - free,
+    })
 }

@@ -39,10 +39,16 @@ impl Dump {
         ensures { MatchOption result (names_file word.now ≡ false) (λ file. (names_file word.now ≡ true) × (file.name.now ≡ file_name word.now) × (file.bytes.now ≡ file_bytes self.now.image self.now.entries word.now)) }
     {
         if let Some(name) = word.strip_prefix(IMAGE) {
-            return Some(Named { name, bytes: &self.image });
+            return Some(Named {
+                name,
+                bytes: &self.image,
+            });
         }
         let name = word.strip_prefix(TABLE)?;
-        Some(Named { name, bytes: &self.entries })
+        Some(Named {
+            name,
+            bytes: &self.entries,
+        })
     }
 
     // Writes the file that argument i names, if it names one. A failure is told on standard error, and the exit status stays 0.

@@ -1,6 +1,5 @@
 -- What each call answers and leaves: document 01, "Calls" and "Why a call was declined", and document 02. The order of the rows is the order of the
 -- tests. Assumes nothing.
-use Rattle.store.specs.State.{usage_of}
 use Rattle.store.specs.State.{measured_as}
 use Rattle.std.specs.Prelude.{ℕ, ◌+◌, ◌-◌, ◌^◌, Bool, true, cond, ◌&&◌, ◌||◌, List, [], ◌∷◌, ◌++◌, length, take, drop, get_or, set, replicate, leb, ltb, eqb, ℤ, pos, negsuc, Err, None, Ok, Option, Result, Some}
 use Rattle.std.proofs.Math.IntN.{sub_ℕ}
@@ -23,10 +22,8 @@ use Rattle.store.specs.State.{State, Outcome, outcome, demand, and_then, refuse,
 use Rattle.store.specs.declared.answer.Refusal.TheVariants.{BadExponent, BadLength, TooFewEntries, BadSuperblock, ShortTable, Empty, Unsound, NoSpace, EntryTaken, BadTag, Dangling, Leaves, OutOfBounds, BadWidth, NotBase, TooLarge, Unterminated, EntryLost, WrongTotal, BadDescriptor, Undescribed}
 use Rattle.store.specs.State.{Answer}
 use Rattle.store.specs.declared.locate.Reading.{Reading}
-use Rattle.store.specs.declared.measuring.BodyEnds.{BodyEnds}
 use Rattle.store.specs.declared.release.FreedBlock.{FreedBlock}
 use Rattle.store.specs.declared.answer.Refusal.{Refusal}
-use Rattle.std.specs.declared.cmp.Ordering.{Ordering}
 use Rattle.store.specs.State.{Usage, Comparison, Measurement}
 
 -- Set-up: 1, 2, 3.

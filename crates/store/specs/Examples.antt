@@ -22,10 +22,7 @@ use Rattle.store.specs.Step as call
 use Rattle.store.specs.declared.answer.Refusal.TheVariants.{BadSuperblock, BadTag, Undescribed}
 use Rattle.store.specs.State.{Answer}
 use Rattle.store.specs.declared.locate.Reading.{Reading}
-use Rattle.store.specs.declared.measuring.BodyEnds.{BodyEnds}
-use Rattle.block.specs.declared.walk.Counts.{Counts}
 use Rattle.store.specs.declared.answer.Refusal.{Refusal}
-use Rattle.std.specs.declared.cmp.Ordering.{Ordering}
 use Rattle.store.specs.State.{Usage, Comparison, Measurement}
 
 -- A case: what it starts from, and what the documents say of it. An image of L bytes is set up, and the sizes `before` are allocated.

@@ -44,7 +44,11 @@ fn merge_end(next: u64, d: Header) -> u64
     requires { next + d.extent < 2 ^ 64 }
     ensures { result ≡ cond (eqb d.kind 1) (next + d.extent) next }
 {
-    if d.kind == FREE { next + d.extent } else { next }
+    if d.kind == FREE {
+        next + d.extent
+    } else {
+        next
+    }
 }
 
 // Row 7 of free, and what is merged with the sound block at h.

@@ -1,6 +1,6 @@
 -- Row 26 test by test, the ways out of the search, and its order as bytes. Assumes nothing.
 use Rattle.std.specs.Prelude.{ℕ, zero, suc, ◌-◌, ◌≤◌, ◌<◌, min, ◌≡◌, true, false, ◌&&◌, List, [], ◌∷◌, ◌++◌, length, get_or, take, replicate, leb, ltb}
-use Rattle.std.proofs.Common.{sym, ap, ◌∙◌, subst, arith, length-take, get_or-take, ltb-true, ltb-false, leb-true, lt-ltb, le-ltb, le-leb, leb-false}
+use Rattle.std.proofs.Common.{sym, ◌∙◌, subst, arith, length-take, get_or-take, ltb-true, ltb-false, leb-true, lt-ltb, le-ltb, leb-false}
 use Rattle.block.specs.Bytes.{Bytes}
 use Rattle.block.specs.Layout.{within, good_exponent}
 use Rattle.block.specs.laws.Booleans.{by_bool, and_left, and_right}

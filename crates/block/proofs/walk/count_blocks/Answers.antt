@@ -27,11 +27,11 @@ loop-d-preserved c =
       | else-d-eq-LIVE j ↦ rw (j.objects-is, j.free-is) (counts-free w s j.if-d-eq-LIVE.false)
     ]
 
--- the image's end
-pub returns-then-h-len : goal.returns-then-h-len
-returns-then-h-len c = counts_all c.loop-d.invariant c.if-h-len.true
-
 -- an unsound header
-pub returns-else-h-len : goal.returns-else-h-len
+pub returns-then-h-len : goal.returns-then-h-len
 unfolding count_blocks count_of
-returns-else-h-len c = ap count_of (at_unsound c.loop-d.invariant.rest c.if-h-len.false (sym c.examine.ensures ∙ c.in_default.is))
+returns-then-h-len c = ap count_of (at_unsound c.loop-d.invariant.rest c.if-h-len.true (sym c.examine.ensures ∙ c.in_default.is))
+
+-- the image's end
+pub returns : goal.returns
+returns c = counts_all c.loop-d.invariant c.if-h-len.false

@@ -13,10 +13,6 @@ loop-d-preserved c =
     let s = seen c.examine.ensures c.in-Some.is in
     goes_on c.loop-d.invariant s (lt-leb c.args.target c.loop-d.h (omega arith))
 
--- no sound header
-pub returns-in_default : goal.returns-in_default
-returns-in_default c = walk_to_lost _ c.loop-d.invariant (sym c.examine.ensures ∙ c.in_default.is)
-
 -- the block at the target
 pub returns-then-h-target : goal.returns-then-h-target
 unfolding walk_to met_of
@@ -25,8 +21,12 @@ returns-then-h-target c =
     rw (← at_stop c.loop-d.invariant s (le-leb c.args.target c.loop-d.h (omega arith)), eq-eqb _ _ c.if-h-target.true)
 
 -- the first block above the target
-pub returns-then-target-h : goal.returns-then-target-h
+pub returns-else-h-target : goal.returns-else-h-target
 unfolding walk_to met_of
-returns-then-target-h c =
+returns-else-h-target c =
     let s = seen c.examine.ensures c.in-Some.is in
     rw (← at_stop c.loop-d.invariant s (le-leb c.args.target c.loop-d.h (omega arith)), ne_eqb _ _ c.if-h-target.false)
+
+-- no sound header
+pub returns : goal.returns
+returns c = walk_to_lost _ c.loop-d.invariant (sym c.examine.ensures ∙ c.in_default.is)
