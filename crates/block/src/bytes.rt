@@ -93,11 +93,8 @@ fn copy_down(image: &mut [u8], to: usize, from: usize, n: usize)
     requires { (to ≤ from) × (from + n ≤ length image.old) }
     ensures { image.new ≡ put image.old to (take n (drop from image.old)) }
 {
-    let mut i = 0;
-    while i < n {
-        let k = PART.min(n - i);
-        copy_part(image, to + i, from + i, k);
-        i += k;
+    for i in (0..n).step_by(PART) {
+        copy_part(image, to + i, from + i, PART.min(n - i));
     }
 }
 
