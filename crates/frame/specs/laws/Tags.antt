@@ -232,24 +232,25 @@ pub tagged_pointer_lem : (s h size : ℕ) → (tagged s h size).pointer ≡ poin
 unfolding tagged
 tagged_pointer_lem s h size = refl
 
-pub tagged_small : (s h size : ℕ) → wrapper h size ≤ s → (tagged s h size).entry ≡ None
+pub tagged_small : (s h size : ℕ) → wrapper h size ≤ s → tagged s h size ≡ record { pointer = pointer_to s h size; entry = None }
 unfolding tagged
 tagged_small s h size l = rw (le-leb (wrapper h size) s l)
 
-pub tagged-large : (s h size : ℕ) → s < wrapper h size → (tagged s h size).entry ≡ Some (entry_of s h size)
+pub tagged-large : (s h size : ℕ) → s < wrapper h size → tagged s h size ≡ record { pointer = pointer_to s h size; entry = Some (entry_of s h size) }
 unfolding tagged
 tagged-large s h size l = rw (lt-leb (wrapper h size) s l)
 
 -- and what a tag says
 
-pub tagged-is_small : (s h size : ℕ) → (tagged s h size).entry ≡ None → wrapper h size ≤ s
+pub tagged-is_small : (s h size : ℕ) → (tagged s h size).entry ≡ None → (wrapper h size ≤ s) × ((tagged s h size).pointer ≡ pointer_to s h size)
 tagged-is_small s h size e =
     by_frame s h size
-    (λ l. l)
-    (λ l. absurd (none-some _ (sym e ∙ tagged-large s h size l)))
+    (λ l. (l, tagged_pointer_lem s h size))
+    (λ l. absurd (none-some _ (sym e ∙ ap (λ (t : Tagged). t.entry) (tagged-large s h size l))))
 
-pub tagged_is_large : (s h size i : ℕ) → (tagged s h size).entry ≡ Some i → (s < wrapper h size) × (i ≡ entry_of s h size)
+pub tagged_is_large : (s h size i : ℕ) → (tagged s h size).entry ≡ Some i
+    → (s < wrapper h size) × ((tagged s h size).pointer ≡ pointer_to s h size) × (i ≡ entry_of s h size)
 tagged_is_large s h size i e =
     by_frame s h size
-    (λ l. absurd (none-some _ (sym (tagged_small s h size l) ∙ e)))
-    (λ l. (l, same_Some _ _ (sym e ∙ tagged-large s h size l)))
+    (λ l. absurd (none-some _ (sym (ap (λ (t : Tagged). t.entry) (tagged_small s h size l)) ∙ e)))
+    (λ l. (l, tagged_pointer_lem s h size, same_Some _ _ (sym e ∙ ap (λ (t : Tagged). t.entry) (tagged-large s h size l))))
