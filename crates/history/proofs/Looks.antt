@@ -37,6 +37,10 @@ pub regap-size : (n : ℕ) (l : Layout) → size (regap n l) + gap l ≡ size l 
 regap-size n (last g) = omega arith
 regap-size n (item g b l) = omega arith
 
+pub regap-gaps : (n : ℕ) (l : Layout) → gaps (regap n l) + gap l ≡ gaps l + n
+regap-gaps n (last g) = omega arith
+regap-gaps n (item g b l) = omega arith
+
 pub gaps_le : (l : Layout) → gaps l ≤ size l
 gaps_le (last g) = omega arith
 gaps_le (item g b l) = omega (arith, gaps_le l)
