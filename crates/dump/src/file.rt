@@ -18,7 +18,7 @@ const TABLE: &[u8] = b"TABLE=";
 pub const LONGEST_WORD: usize = 4102;
 
 // A file, and what it is to hold.
-#[derive(Drop)]
+#[derive(Clone, Copy)]
 pub struct Named<'a> {
     pub name: &'a [u8],
     pub bytes: &'a [u8],

@@ -10,7 +10,7 @@ use block::bytes::write;
 pub use file::{LONGEST_WORD, Named, names_file};
 
 // The image and the table's entries, 8 bytes for each.
-#[derive(Drop)]
+#[derive(Clone, Copy)]
 pub struct Dump {
     pub image: [u8; 8192],
     pub entries: [u8; 6144],

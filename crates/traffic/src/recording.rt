@@ -9,7 +9,7 @@ use store::Refusal;
 use workload::Traffic;
 
 // A workload's answer, its whole log, and the dump of what it leaves.
-#[derive(Drop)]
+#[derive(Clone, Copy)]
 pub struct Recording<'a> {
     pub answer: Result<Traffic, Refusal>,
     pub log: &'a [u8],
