@@ -152,7 +152,9 @@ fn has_room(len: u64, h: u64) -> bool
     wrapping_sub_u64(h, 16) <= len - 32
 }
 
-// The raw size of the object whose header is at h, where a sound header of a live block stands there. h may be any number.
+// The raw size of the object whose header is at h, where a sound header of a live block stands there. h may be any number. Over a call of it copy and compare
+// would keep their numbers on the stack.
+#[inline(always)]
 pub fn live_size(image: &[u8], h: u64) -> Option<u64>
     requires { 32 ≤ length image.now }
     ensures { result ≡ object_at image.now h }

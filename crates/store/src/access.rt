@@ -7,6 +7,7 @@ ghost use Rattle.store.specs.Opened.{seen};
 use crate::answer::Refusal;
 use crate::opening::Opened;
 use block::bytes::{read_field, write, write_field};
+use frame::Pointer;
 
 // The widths that a load or store may have.
 fn good_width(width: u64) -> bool
@@ -37,8 +38,14 @@ pub fn load(image: &[u8], table: &[u64], pointer: u64, width: u64) -> Result<u64
     if !good_width(width) {
         return Err(Refusal::BadWidth);
     }
-    let at = store.access(pointer, width)?;
-    Ok(read_field(store.image, at as usize, width))
+    // the same for either flag: so the compiler ends the way of each kind of pointer with the read
+    if Pointer::unpack(pointer).flag {
+        let at = store.access(pointer, width)?;
+        Ok(read_field(store.image, at as usize, width))
+    } else {
+        let at = store.access(pointer, width)?;
+        Ok(read_field(store.image, at as usize, width))
+    }
 }
 
 impl Opened<'_> {

@@ -116,8 +116,10 @@ fn sweep(image: &mut [u8], table: &mut [u64], s: u32, cue: u64)
             run = true;
             h = merge_end_at(image, next);
         } else {
+            // before the write: so fewer numbers are kept over it, and less stack is taken
+            let start = merge_start_behind(h, next, d);
             settle(image, run, from, h);
-            from = merge_start_behind(h, next, d);
+            from = start;
             run = false;
             h = next;
         }

@@ -13,9 +13,9 @@ pub loop-i-preserved : goal.loop-i-preserved
 loop-i-preserved c =
     let s = c.args in
     let l = c.loop-i in
-    let e : s.at + l.i + 8 - (s.at + l.i) ≡ 8 = omega arith in
-    let none : list_any is_zero (take 8 (drop (s.at + l.i) s.image.now)) ≡ false = sym (rw e at c.contains.ensures.value) ∙ c.if-not-contains.true in
-    (omega arith, l.invariant.1 ∙ text_passed s.image.now s.at s.n c.requires 8 l.i (omega arith) none)
+    let e : s.at + l.i + 16 - (s.at + l.i) ≡ 16 = omega arith in
+    let none : list_any is_zero (take 16 (drop (s.at + l.i) s.image.now)) ≡ false = sym (rw e at c.contains.ensures.value) ∙ c.if-not-contains.true in
+    (omega arith, l.invariant.1 ∙ text_passed s.image.now s.at s.n c.requires 16 l.i (omega arith) none)
 
 pub returns : goal.returns
 returns c =

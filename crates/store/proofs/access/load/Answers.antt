@@ -20,6 +20,17 @@ pub returns-in_err-at : goal.returns-in_err-at
 unfolding load_answer
 returns-in_err-at c = grind (arith, common_steps)
 
-pub returns : goal.returns
+pub returns-in_ok-at : goal.returns-in_ok-at
 unfolding load_answer
-returns c = grind (arith, common_steps)
+returns-in_ok-at c = grind (arith, common_steps)
+
+pub read_field-requires-else-unpack : goal.read_field-requires-else-unpack
+read_field-requires-else-unpack c = grind (arith, common_steps, accessed_parts _ _ _ _ _ (sym c.in_ok-at-2.ensures))
+
+pub returns-in_err-at-2 : goal.returns-in_err-at-2
+unfolding load_answer
+returns-in_err-at-2 c = grind (arith, common_steps)
+
+pub returns-in_ok-at-2 : goal.returns-in_ok-at-2
+unfolding load_answer
+returns-in_ok-at-2 c = grind (arith, common_steps)
