@@ -17,10 +17,21 @@ loop-i-preserved c =
     let none : list_any is_zero (take 16 (drop (s.at + l.i) s.image.now)) ≡ false = sym (rw e at c.contains.ensures.value) ∙ c.if-not-contains.true in
     (omega arith, l.invariant.1 ∙ text_passed s.image.now s.at s.n c.requires 16 l.i (omega arith) none)
 
+pub loop-i-2-init : goal.loop-i-2-init
+loop-i-2-init c = c.loop-i.invariant
+
+pub loop-i-2-preserved : goal.loop-i-2-preserved
+loop-i-2-preserved c =
+    let s = c.args in
+    let l = c.loop-i-2 in
+    let e : s.at + l.i + 8 - (s.at + l.i) ≡ 8 = omega arith in
+    let none : list_any is_zero (take 8 (drop (s.at + l.i) s.image.now)) ≡ false = sym (rw e at c.contains-in-loop-i-2.ensures.value) ∙ c.if-not-contains-2.true in
+    (omega arith, l.invariant.1 ∙ text_passed s.image.now s.at s.n c.requires 8 l.i (omega arith) none)
+
 pub returns : goal.returns
 returns c =
     let s = c.args in
-    let l = c.loop-i in
+    let l = c.loop-i-2 in
     let left = take (s.n - l.i) (drop (s.at + l.i) s.image.now) in
     let e : s.at + s.n - (s.at + l.i) ≡ s.n - l.i = omega arith in
     let found : c.position.result ≡ position_from is_zero 0 left = position_from_yields_List is_zero _ _ c.position.result c.position.ensures.ran (YieldsList-from_slice left (rw e at c.iter.ensures.rest)) (λ x b q k. search (rules, tests)) ∙ position_from-zero is_zero left in
@@ -30,7 +41,7 @@ returns c =
 pub returns-in_err-k : goal.returns-in_err-k
 returns-in_err-k c =
     let s = c.args in
-    let l = c.loop-i in
+    let l = c.loop-i-2 in
     let left = take (s.n - l.i) (drop (s.at + l.i) s.image.now) in
     let e : s.at + s.n - (s.at + l.i) ≡ s.n - l.i = omega arith in
     let found : c.position.result ≡ position_from is_zero 0 left = position_from_yields_List is_zero _ _ c.position.result c.position.ensures.ran (YieldsList-from_slice left (rw e at c.iter.ensures.rest)) (λ x b q k. search (rules, tests)) ∙ position_from-zero is_zero left in
