@@ -26,12 +26,12 @@
  *   0.3 microseconds, 1,000 take 2 ms, and 65,536 take 10 s. Order grows with the orders that it tries and with the sizes: all
  *   40,320 orders of eight take 1.2 ms on a PC. Overhead grows with the number of sizes: 65,536 take 0.2 ms.
  * - Stack, in bytes at most: the return address and all below it, without memmove and memset.
- *     cue_setup         64    cue_load      64    cue_copy         88
- *     cue_allocate     104    cue_store     64    cue_compare      88
+ *     cue_setup         64    cue_load      48    cue_copy         80
+ *     cue_allocate     104    cue_store     56    cue_compare      80
  *     cue_allocate_for  80    cue_free     120    cue_copy_text    64
- *     cue_move          16    cue_release  128    cue_tally        56
- *     cue_distances     56    cue_fill      64    cue_free_total    8
- *     cue_traffic      768    cue_has_type     112    cue_order    104
+ *     cue_move          16    cue_release  112    cue_tally        56
+ *     cue_distances     56    cue_fill      48    cue_free_total    8
+ *     cue_traffic      768    cue_has_type      96    cue_order    104
  *     cue_overhead      64
  *   None takes more for a longer list: cue_has_type follows types that are fields of one another by a loop.
  *
