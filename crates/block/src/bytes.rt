@@ -12,8 +12,8 @@ pub fn read<const WIDTH: usize>(image: &[u8], at: usize) -> u64
     u64::from_le_bytes(bytes)
 }
 
-// The number in the 1 to 8 bytes at `at`. The compiler makes comparisons of two matches of four, and of one of eight a jump through a table, with which a load or
-// a store takes 1 to 2 ns more. The last arm of each, which is found last, is no power of two.
+// The number in the 1 to 8 bytes at `at`. The compiler makes comparisons of two matches, and of one of eight a jump through a table, with which a load or a store
+// takes 1 to 2 ns more. Which width it tests for last is the last arm's, and no power of two.
 pub fn read_field(image: &[u8], at: usize, width: u64) -> u64
     requires { (1 ≤ width) × (width ≤ 8) × (at + width ≤ length image.now) }
     ensures { result ≡ field image.now at width }
@@ -25,9 +25,10 @@ pub fn read_field(image: &[u8], at: usize, width: u64) -> u64
             4 => read::<4>(image, at),
             _ => read::<3>(image, at),
         }
+    } else if width > 7 {
+        read::<8>(image, at)
     } else {
         match width {
-            8 => read::<8>(image, at),
             5 => read::<5>(image, at),
             6 => read::<6>(image, at),
             _ => read::<7>(image, at),
